@@ -1,0 +1,18 @@
+-- Document 01: the limits that do not depend on the modulus.
+use Prim.Native.Nat.{ℕ}
+use mathlib.Core.List.{List, [], _∷_}
+
+-- "count L, 1 to 32,768"
+abbrev pub maxItems : ℕ
+maxItems = 32768
+
+-- "n is the least number with 2^n >= L, 0 to 15"
+abbrev pub maxRounds : ℕ
+maxRounds = 15
+
+-- "weight (unsigned 16-bit, minutes, 0 to 1,440)"
+abbrev pub maxWeight : ℕ
+maxWeight = 1440
+
+abbrev pub limits : List ℕ
+limits = maxItems ∷ maxRounds ∷ maxWeight ∷ []
