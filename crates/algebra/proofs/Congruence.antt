@@ -1,6 +1,6 @@
 -- Congruence modulo p of numbers that need not be reduced, and what the operations are up to it.
 use mathlib.Core.Path.{_≡_, refl, sym, ap, ap₂, _∙_}
-use Prim.Native.Nat.{ℕ, _+_, _-_, _*_, _/_, _%_, _≤_, _<_, max}
+use Prim.Native.Nat.{ℕ, zero, suc, _+_, _-_, _*_, _/_, _%_, _≤_, _<_, max}
 use native.Mathlib.Nat.{add-assoc, add-mod, add-mod-mod, add-mod-right, add-mul, add-sub-of-le, div-add-mod, le-of-lt, mod-add-mod, mod-eq-of-lt, mod-lt, mod-mod, mod-self, mul-add-mod-self-left, mul-assoc, mul-comm, mul-zero, zero-mod}
 use native.Mathlib.Omega.{arith}
 use Rattle.algebra.specs.Mod.{base, residue, addMod, negMod, subMod, mulMod}
@@ -79,11 +79,6 @@ module _ {p : ℕ} where
             ∙ mod-mul q b d;
       }
 
-  -- the modulus is congruent to 0
-  pub cong-modulus : 0 < p → Cong p p 0
-  unfolding residue
-  cong-modulus h = record { residues = ap (λ q. p % q) (base-of p h) ∙ mod-self p ∙ sym (zero-mod (base p)) }
-
   -- two reduced numbers that are congruent are equal
   pub cong-reduced : {a b : ℕ} → a < base p → b < base p → Cong p a b → a ≡ b
   cong-reduced {a} {b} ha hb e = sym (residue-small p a ha) ∙ e .residues ∙ residue-small p b hb
@@ -121,3 +116,11 @@ module _ {p : ℕ} where
   sub-cong a b =
       cong-trans (cong-residue (a + (base p - residue p b)))
       (cong-add (cong-refl a) (cong-sym (cong-residue (base p - residue p b))))
+
+-- the modulus is congruent to 0
+pub cong-modulus : (p : ℕ) → Cong p p 0
+unfolding residue
+cong-modulus zero = cong-refl 0
+cong-modulus (suc q) =
+    let p = suc q in
+    record { residues = ap (λ b. p % b) (base-of p (omega arith)) ∙ mod-self p ∙ sym (zero-mod (base p)) }

@@ -6,32 +6,82 @@ use mathlib.Core.Logic.{_⊎_, inl, inr}
 use Prim.Native.Nat.{ℕ, zero, suc, _+_, _*_, _/_, _%_, _≤_, _<_}
 use native.Mathlib.Nat.{le-refl, mod-add-div', mod-lt, pos-of-ne-zero}
 use native.Mathlib.Omega.{arith}
-use native.Mathlib.Decide.{ℕ-discrete}
+use native.Mathlib.Decide.{decLe, ℕ-discrete}
 use lib.Dec.{leb}
-use borrow.Author.Tests.{leb-true, leb-false}
+use borrow.Author.Tests.{le-leb, lt-leb, leb-true, leb-false}
 use Rattle.algebra.specs.Mod.{base, residue, addMod, negMod, subMod, mulMod, inverseIn, inverseMod, divMod}
 use Rattle.algebra.specs.Prime.{Prime}
-use Rattle.algebra.proofs.Congruence.{Cong, base-of, cong-add, cong-cancel, cong-eq, cong-modulus, cong-reduced, cong-refl, cong-sym, cong-trans, mul-cong, neg-cong, residue-lt, residue-of, residue-small, residue-twice, residue-zero}
-use Rattle.algebra.proofs.Laws.{mul-lt, mul-residue, one-product, zero-product, mul-commutes}
+use Rattle.algebra.proofs.Congruence.{Cong, base-pos, cong-add, cong-cancel, cong-eq, cong-modulus, cong-reduced, cong-refl, cong-sym, cong-trans, mul-cong, neg-cong, residue-lt, residue-small, residue-twice, residue-zero}
+use Rattle.algebra.proofs.Laws.{mul-associates, mul-lt, mul-residue, one-product, zero-product}
 use Rattle.algebra.proofs.Primes.{by-dec}
 use Rattle.algebra.proofs.Ring.{var, mul, neg, sub, num, solve, solve-from, vars, none, given}
 
 -- p % a is -(p / a) a
-remainder : (p : ℕ) → 0 < p → (a : ℕ) → Cong p (p % a) (negMod p (mulMod p (p / a) a))
-remainder p h a =
+remainder : (p a : ℕ) → Cong p (p % a) (negMod p (mulMod p (p / a) a))
+remainder p a =
     cong-cancel (p / a * a)
     (cong-trans (cong-eq (mod-add-div' p a))
-    (cong-trans (cong-modulus h)
+    (cong-trans (cong-modulus p)
     (cong-sym
     (cong-trans (cong-add (cong-refl (negMod p (mulMod p (p / a) a))) (cong-sym (mul-cong (p / a) a)))
     (neg-cong (mulMod p (p / a) a))))))
 
 -- one call of the recursion
-step : (p : ℕ) → 0 < p → (a v : ℕ) → Cong p (mulMod p (p % a) v) 1 → Cong p (mulMod p a (mulMod p (negMod p (p / a)) v)) 1
-step p h a v e =
+step : (p a v : ℕ) → Cong p (mulMod p (p % a) v) 1 → Cong p (mulMod p a (mulMod p (negMod p (p / a)) v)) 1
+step p a v e =
     solve-from p (vars (a ∷ v ∷ p / a ∷ p % a ∷ [])) (mul (var 0) (mul (neg (var 2)) (var 1))) (num 1)
-    (given (neg (var 1)) (var 3) (neg (mul (var 2) (var 0))) (remainder p h a) (given (num 1) (mul (var 3) (var 1)) (num 1) e none))
+    (given (neg (var 1)) (var 3) (neg (mul (var 2) (var 0))) (remainder p a) (given (num 1) (mul (var 3) (var 1)) (num 1) e none))
     tt
+
+module _ (p : ℕ) where
+  inverse-in-lt : (k a : ℕ) → a < base p → inverseIn k p a < base p
+  unfolding inverseIn
+  inverse-in-lt zero a h = base-pos p
+  inverse-in-lt (suc k) a h = by (leb a 1)
+    where
+      by : (b : Bool) → elim b as (λ x. ℕ) [ true ↦ a | false ↦ mulMod p (negMod p (p / a)) (inverseIn k p (p % a)) ] < base p
+      by true = h
+      by false = mul-lt p (negMod p (p / a)) (inverseIn k p (p % a))
+
+  pub inverse-lt : (a : ℕ) → inverseMod p a < base p
+  unfolding inverseMod
+  inverse-lt a = inverse-in-lt (residue p a) (residue p a) (residue-lt p a)
+
+  -- the clauses of the recursion, by whether the number is over 1
+  pub inverse-in-small : (k a : ℕ) → a ≤ k → a ≤ 1 → inverseIn k p a ≡ a
+  unfolding inverseIn
+  inverse-in-small zero a l h = omega arith
+  inverse-in-small (suc k) a l h =
+      ap (λ b. elim b as (λ x. ℕ) [ true ↦ a | false ↦ mulMod p (negMod p (p / a)) (inverseIn k p (p % a)) ]) (le-leb a 1 h)
+
+  pub inverse-in-large : (k a : ℕ) → 1 < a → inverseIn (suc k) p a ≡ mulMod p (negMod p (p / a)) (inverseIn k p (p % a))
+  unfolding inverseIn
+  inverse-in-large k a h =
+      ap (λ b. elim b as (λ x. ℕ) [ true ↦ a | false ↦ mulMod p (negMod p (p / a)) (inverseIn k p (p % a)) ]) (lt-leb a 1 h)
+
+  -- any bound from the number on serves
+  pub inverse-in-bound : (k j a : ℕ) → a ≤ k → a ≤ j → inverseIn k p a ≡ inverseIn j p a
+  inverse-in-bound zero j a hk hj = inverse-in-small zero a hk (omega arith) ∙ sym (inverse-in-small j a hj (omega arith))
+  inverse-in-bound (suc k) zero a hk hj = inverse-in-small (suc k) a hk (omega arith) ∙ sym (inverse-in-small zero a hj (omega arith))
+  inverse-in-bound (suc k) (suc j) a hk hj =
+      by-dec (decLe a 1) (λ h. inverse-in-small (suc k) a hk h ∙ sym (inverse-in-small (suc j) a hj h))
+      (λ n.
+      let h : 1 < a = omega arith in
+      let r = mod-lt p {m = a} (omega arith) in
+      inverse-in-large k a h
+      ∙ ap (mulMod p (negMod p (p / a))) (inverse-in-bound k j (p % a) (omega arith) (omega arith))
+      ∙ sym (inverse-in-large j a h))
+
+  -- one turn of a loop that keeps t times the inverse of a
+  pub inverse-turn : (t a : ℕ) → 1 < a
+      → mulMod p (mulMod p t (negMod p (p / a))) (inverseIn (p % a) p (p % a)) ≡ mulMod p t (inverseIn a p a)
+  inverse-turn t zero h = absurd (omega arith)
+  inverse-turn t (suc k) h =
+      let a = suc k in
+      let r = mod-lt p {m = a} (omega arith) in
+      mul-associates p t (negMod p (p / a)) (inverseIn (p % a) p (p % a))
+      ∙ ap (mulMod p t)
+      (ap (mulMod p (negMod p (p / a))) (inverse-in-bound (p % a) k (p % a) (le-refl (p % a)) (omega arith)) ∙ sym (inverse-in-large k a h))
 
 module _ {p : ℕ} (prime : Prime p) where
   pub prime-pos : 0 < p
@@ -51,7 +101,7 @@ module _ {p : ℕ} (prime : Prime p) where
       by rec false e =
           let m = mod-lt p lo in
           let n = leb-false a 1 e in
-          step p prime-pos a _ (rec (omega arith) (pos-of-ne-zero (λ z. prime .only a (omega arith) hi z)) (omega arith))
+          step p a _ (rec (omega arith) (pos-of-ne-zero (λ z. prime .only a (omega arith) hi z)) (omega arith))
 
   one-residue : residue p 1 ≡ 1
   one-residue = residue-small p 1 (omega (arith, prime .big))
@@ -98,22 +148,9 @@ module _ {p : ℕ} (prime : Prime p) where
       (given (sub (var 2) (var 1)) (mul (var 0) (var 3)) (num 1) (cong-eq (inverse-of a n)) none))
       tt
 
-  inverse-in-lt : (k a : ℕ) → a < p → inverseIn k p a < p
-  unfolding inverseIn
-  inverse-in-lt zero a h = prime-pos
-  inverse-in-lt (suc k) a h = by (leb a 1)
-    where
-      by : (b : Bool) → elim b as (λ x. ℕ) [ true ↦ a | false ↦ mulMod p (negMod p (p / a)) (inverseIn k p (p % a)) ] < p
-      by true = h
-      by false = omega (arith, mul-lt p (negMod p (p / a)) (inverseIn k p (p % a)), prime-pos)
-
-  pub inverse-lt : (a : ℕ) → inverseMod p a < p
-  unfolding inverseMod
-  inverse-lt a = inverse-in-lt (residue p a) (residue p a) (omega (arith, residue-lt p a, prime-pos))
-
   -- the inverse is the only such number
   pub inverse-only : (a b : ℕ) → b < p → mulMod p a b ≡ 1 → b ≡ inverseMod p a
   inverse-only a b h e =
       let n = unit-residue a b e in
-      cong-reduced (omega arith) (omega (arith, inverse-lt a))
+      cong-reduced (omega arith) (inverse-lt p a)
       (cancel-factor a b (inverseMod p a) n (cong-eq (e ∙ sym (inverse-of a n))))

@@ -79,7 +79,7 @@ module _ (p : ℕ) where
 pub half-one : (p : ℕ) → p % 2 ≡ 1 → Cong p (halfOne p + halfOne p) 1
 unfolding halfOne
 half-one p odd =
-    cong-trans (cong-eq (omega arith)) (cong-trans (cong-add (cong-modulus (omega arith)) (cong-refl 1)) (cong-eq (zero-add 1)))
+    cong-trans (cong-eq (omega arith)) (cong-trans (cong-add (cong-modulus p) (cong-refl 1)) (cong-eq (zero-add 1)))
 
 pub half-twice : (p : ℕ) → p % 2 ≡ 1 → (a : ℕ) → Cong p (addMod p (halfMod p a) (halfMod p a)) a
 unfolding halfMod

@@ -3,6 +3,7 @@
 --   solve p env a b tt       : the values of a and b are equal, both being operations
 --   solve-cong p env a b tt  : they are congruent
 --   solve-from p env a b u tt: they are congruent by a linear combination u of congruences
+--   solve-by p env a b u tt: they are equal by it, both being operations
 use mathlib.Core.Path.{_≡_, refl, sym, ap, ap₂, _∙_}
 use mathlib.Core.Bool.{Bool, true, false, _&&_}
 use mathlib.Core.List.{List}
@@ -179,3 +180,9 @@ module _ (p : ℕ) (env : ℕ → ℕ) where
       (cong-trans (solve-cong p env (sub a b) s t)
       (cong-trans (uses-zero u)
       (cong-sym (cong-trans (cong-eq (add-comm y (negMod p y))) (neg-cong y))))))
+
+  pub solve-by : (a b : Expr) {s : Expr} → Uses p env s → T (compound a && compound b && agree (sub a b) s) → eval p env a ≡ eval p env b
+  solve-by a b {s} u t =
+      let t1 = both (compound a && compound b) (agree (sub a b) s) t in
+      let t2 = both (compound a) (compound b) (t1 .0) in
+      sym (reduced p env a (t2 .0)) ∙ solve-from a b u (t1 .1) .residues ∙ reduced p env b (t2 .1)
