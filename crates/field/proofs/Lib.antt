@@ -1,0 +1,4 @@
+pub mod Reduction
+pub mod Signed
+pub mod Integers
+pub mod Totals

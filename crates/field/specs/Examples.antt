@@ -1,0 +1,44 @@
+-- Document 01's starred cases about numbers.
+use Prim.Native.Nat.{ℕ, _-_}
+use mathlib.Core.Path.{_≡_, refl}
+use mathlib.Core.Bool.{true, false}
+use lib.IntN.{pos, negsuc}
+use Rattle.algebra.specs.Mod.{residue, negMod, mulMod, halfOne, halfMod}
+use Rattle.field.specs.Integer.{image}
+use Rattle.field.specs.Total.{inLimits}
+
+abbrev P : ℕ
+P = 2147483647
+
+pub lowest-reading : image P (negsuc 32767) ≡ 2147450879
+unfolding image negMod residue
+lowest-reading = refl
+
+pub reading-minus-one : image P (negsuc 0) ≡ P - 1
+unfolding image negMod residue
+reading-minus-one = refl
+
+pub half-of-one : halfMod P 1 ≡ 1073741824
+unfolding halfMod halfOne mulMod residue
+half-of-one = refl
+
+-- the frozen reading of -18.0 degrees
+pub reading-minus-180 : image P (negsuc 179) ≡ 2147483467
+unfolding image negMod residue
+reading-minus-180 = refl
+
+pub largest-total : inLimits P (pos 1073741823) ≡ true
+unfolding inLimits
+largest-total = refl
+
+pub past-largest-total : inLimits P (pos 1073741824) ≡ false
+unfolding inLimits
+past-largest-total = refl
+
+pub smallest-total : inLimits P (negsuc 1073741822) ≡ true
+unfolding inLimits
+smallest-total = refl
+
+pub past-smallest-total : inLimits P (negsuc 1073741823) ≡ false
+unfolding inLimits
+past-smallest-total = refl

@@ -1,0 +1,4 @@
+pub mod Integer
+pub mod Total
+pub mod Number
+pub mod Examples
