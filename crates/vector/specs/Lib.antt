@@ -1,0 +1,14 @@
+pub mod Rounds
+pub mod Vector
+pub mod Fold
+pub mod Message
+pub mod Opening
+pub mod Stack
+pub mod Kernel
+pub mod KernelView
+pub mod Item
+pub mod Power
+pub mod Slice
+pub mod Twist
+pub mod SliceExample
+pub mod Example
