@@ -1,0 +1,11 @@
+pub mod Numbers
+pub mod Marks
+pub mod LogSays
+pub mod Below
+pub mod Writes
+pub mod ProofSays
+pub mod WriteRows
+pub mod MatrixSays
+pub mod Codes
+pub mod Parts
+pub mod RoundTrip

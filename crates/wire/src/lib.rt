@@ -1,0 +1,6 @@
+// The three files of document 01: the log, the proof and the R1CS matrix, little-endian.
+mod header;
+pub mod log;
+pub mod matrix;
+mod number;
+pub mod proof;
