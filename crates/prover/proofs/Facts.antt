@@ -1,0 +1,92 @@
+-- What a well-formed record tells, and bounds of levels and sizes.
+use mathlib.Core.Path.{_≡_, refl, sym, ap, _∙_, subst}
+use mathlib.Core.Bool.{Bool, true, false, cond, true≢false}
+use Prim.Native.Nat.{ℕ, _+_, _-_, _/_, _^_, _≤_, _<_}
+use native.Mathlib.Nat.{le-refl}
+use native.Mathlib.Omega.{arith}
+use lib.Dec.{eqb, ltb}
+use lib.Pow.{pow-mono}
+use borrow.Author.Tests.{eqb-true, ltb-true, ltb-false, lt-ltb}
+use Rattle.vector.specs.Rounds.{roundsOf, size}
+use Rattle.vector.specs.Power.{sizeIn32}
+use Rattle.vector.proofs.Rounds.{rounds-at-most, size-all}
+use Rattle.prover.specs.declared.Next.{Next}
+use Rattle.prover.specs.declared.Next.the-variants.{Total, Message, Challenge, Ends, Openings}
+use Rattle.prover.specs.declared.Kind.{Kind}
+use Rattle.prover.specs.declared.Kind.the-variants.{Shut, Asked, Change}
+use Rattle.prover.specs.declared.Run.{Run}
+use Rattle.prover.specs.declared.Pass.{Pass}
+use Rattle.prover.specs.Order.{levelAt, levelOf, padding}
+use Rattle.prover.specs.WellFormed.{roundFits, kindFits, runFormed, passFormed, wellFormed}
+
+-- a test that must hold, and one that must not
+pub holds : (b x : Bool) → cond b x false ≡ true → (b ≡ true) × (x ≡ true)
+holds true x e = (refl, e)
+holds false x e = absurd (true≢false (sym e))
+
+pub fails : (b x : Bool) → cond b false x ≡ true → (b ≡ false) × (x ≡ true)
+fails true x e = absurd (true≢false (sym e))
+fails false x e = (refl, e)
+
+round-at-most : (next : Next) (round rounds : ℕ) → roundFits next round rounds ≡ true → round ≤ rounds
+round-at-most Total round rounds e = omega (arith, eqb-true round 0 e)
+round-at-most Message round rounds e = omega (arith, ltb-true round rounds e)
+round-at-most Challenge round rounds e = omega (arith, ltb-true round rounds e)
+round-at-most Ends round rounds e = omega (arith, eqb-true round rounds e)
+round-at-most Openings round rounds e = omega (arith, eqb-true round rounds e)
+
+pub level-at-most : (n i : ℕ) (next : Next) (kind : Kind) → i ≤ n → levelAt n i next kind ≤ n
+level-at-most n i Total kind h = omega arith
+level-at-most n i Message kind h = h
+level-at-most n i Challenge kind h = h
+level-at-most n i Ends kind h = le-refl n
+level-at-most n i Openings Shut h = omega arith
+level-at-most n i Openings Asked h = le-refl n
+level-at-most n i Openings Change h = omega arith
+
+-- what safety needs of a record that a call returned
+pub record Formed (r : Run) (s : Pass) : Type 0 where
+  pub some : 1 ≤ r .items
+  pub most : r .items ≤ 32768
+  pub rounds : r .rounds ≡ roundsOf (r .items)
+  pub few : r .rounds ≤ 15
+  pub fits : roundFits (r .next) (r .round) (r .rounds) ≡ true
+  pub round : r .round ≤ r .rounds
+  pub taken : s .taken ≤ r .items
+  pub counts : s .fcount ≡ s .gcount
+  pub room : s .fcount ≤ 15
+
+pub formed : (p : ℕ) (r : Run) (s : Pass) → wellFormed p r s ≡ true → Formed r s
+unfolding wellFormed runFormed passFormed
+formed p r s e =
+    let a = holds (runFormed p r) (passFormed r s) e in
+    let b = fails (ltb (r .items) 1) _ (a .0) in
+    let c = fails (ltb 32768 (r .items)) _ (b .1) in
+    let d = holds (eqb (r .rounds) (roundsOf (r .items))) _ (c .1) in
+    let f = holds (roundFits (r .next) (r .round) (r .rounds)) _ (d .1) in
+    let k = holds (kindFits (s .kind) (r .mode) (r .next)) _ (a .1) in
+    let t = fails (ltb (r .items) (s .taken)) _ (k .1) in
+    let q = holds (eqb (s .fcount) (s .gcount)) _ (t .1) in
+    let w = fails (ltb 15 (s .fcount)) _ (q .1) in
+    let n = eqb-true _ _ (d .0) in
+    record {
+      some = ltb-false _ _ (b .0);
+      most = ltb-false _ _ (c .0);
+      rounds = n;
+      few = omega (arith, n, rounds-at-most (r .items) (ltb-false _ _ (c .0)));
+      fits = f .0;
+      round = round-at-most (r .next) (r .round) (r .rounds) (f .0);
+      taken = ltb-false _ _ (t .0);
+      counts = eqb-true _ _ (q .0);
+      room = ltb-false _ _ (w .0);
+    }
+
+-- sizes as the code has them
+pub size-32 : (n j : ℕ) → n ≤ 15 → sizeIn32 n j ≡ size n j
+unfolding sizeIn32
+size-32 n j h = ap (λ b. cond b (size n j) 0) (lt-ltb n 32 (omega arith))
+
+pub padding-small : (r : Run) → r .rounds ≤ 15 → padding r ≤ 32768
+padding-small r h =
+    let m : 2 ^ (r .rounds) ≤ 2 ^ 15 = pow-mono h in
+    omega (arith, size-32 (r .rounds) 0 h, size-all (r .rounds), m)

@@ -1,0 +1,205 @@
+-- The tests of a well-formed record one by one, and what is next after a full-mode call or a challenge.
+use mathlib.Core.Path.{_≡_, refl, sym, ap, subst, _∙_}
+use mathlib.Core.List.{List}
+use mathlib.Core.Bool.{true, false, cond, true≢false}
+use Prim.Native.Nat.{ℕ, suc, _*_, _/_, _≤_, _<_}
+use native.Mathlib.Omega.{arith}
+use lib.Dec.{eqb, leb, ltb}
+use lib.IntN.{natAbs}
+use lib.ListN.{length}
+use borrow.Author.Tests.{eqb-true, leb-true, ltb-true}
+use Rattle.field.specs.Total.{inLimits}
+use Rattle.vector.specs.Rounds.{roundsOf, size}
+use Rattle.vector.proofs.Rounds.{size-halves, size-last}
+use Rattle.prover.specs.declared.Mode.{Mode}
+use Rattle.prover.specs.declared.Mode.the-variants.{Small, Full}
+use Rattle.prover.specs.declared.Next.{Next}
+use Rattle.prover.specs.declared.Next.the-variants.{Total, Message, Challenge, Ends, Openings}
+use Rattle.prover.specs.declared.Kind.{Kind}
+use Rattle.prover.specs.declared.Kind.the-variants.{Shut, Asked, Change}
+use Rattle.prover.specs.declared.Run.{Run}
+use Rattle.prover.specs.declared.Pass.{Pass}
+use Rattle.prover.specs.Records.{isFull}
+use Rattle.prover.specs.Order.{levelOf, foldSize}
+use Rattle.prover.specs.WellFormed.{roundFits, kindFits, runFormed, passFormed, wellFormed}
+use Rattle.prover.specs.Calls.{bothLong}
+use Rattle.prover.specs.Full.{isMessage, isEnds, isOpenings, fullFormed, messageTurn, endsTurn, openingTurn}
+use Rattle.prover.specs.Challenge.{isChallenge, challengeTurn}
+use Rattle.prover.proofs.Facts.{holds, fails, Formed, formed, size-32}
+
+-- the tests, but those of the counts and sums of the pass
+pub record Tests (p : ℕ) (r : Run) (s : Pass) : Type 0 where
+  pub some : ltb (r .items) 1 ≡ false
+  pub most : ltb 32768 (r .items) ≡ false
+  pub rounds : eqb (r .rounds) (roundsOf (r .items)) ≡ true
+  pub fits : roundFits (r .next) (r .round) (r .rounds) ≡ true
+  pub total : inLimits p (r .total) ≡ true
+  pub kind : kindFits (s .kind) (r .mode) (r .next) ≡ true
+  pub rest : cond (ltb (r .items) (s .taken)) false (cond (eqb (s .fcount) (s .gcount)) (cond (ltb 15 (s .fcount)) false (leb (natAbs (s .total)) (s .taken * 47185920))) false) ≡ true
+
+pub tests : (p : ℕ) (r : Run) (s : Pass) → wellFormed p r s ≡ true → Tests p r s
+unfolding wellFormed runFormed passFormed
+tests p r s e =
+    let a = holds (runFormed p r) (passFormed r s) e in
+    let b = fails (ltb (r .items) 1) _ (a .0) in
+    let c = fails (ltb 32768 (r .items)) _ (b .1) in
+    let d = holds (eqb (r .rounds) (roundsOf (r .items))) _ (c .1) in
+    let f = holds (roundFits (r .next) (r .round) (r .rounds)) _ (d .1) in
+    let k = holds (kindFits (s .kind) (r .mode) (r .next)) _ (a .1) in
+    record { some = b .0; most = c .0; rounds = d .0; fits = f .0; total = f .1; kind = k .0; rest = k .1 }
+
+pub tested : (p : ℕ) (r : Run) (s : Pass) → Tests p r s → wellFormed p r s ≡ true
+unfolding wellFormed runFormed passFormed
+tested p r s t = rw (t .some, t .most, t .rounds, t .fits, t .total, t .kind) (t .rest)
+
+-- in full mode no pass is open, whatever is next
+pub full-kind : (kind : Kind) (mode : Mode) (a b : Next) → isFull mode ≡ true → kindFits kind mode a ≡ true → kindFits kind mode b ≡ true
+full-kind Shut mode a b h e = refl
+full-kind Asked Small a b h e = absurd (true≢false (sym h))
+full-kind Asked Full a b h e = absurd (true≢false (sym e))
+full-kind Change Small a b h e = absurd (true≢false (sym h))
+full-kind Change Full a b h e = absurd (true≢false (sym e))
+
+is-message : (a : Next) → isMessage a ≡ true → a ≡ Message
+is-message Total h = absurd (true≢false (sym h))
+is-message Message h = refl
+is-message Challenge h = absurd (true≢false (sym h))
+is-message Ends h = absurd (true≢false (sym h))
+is-message Openings h = absurd (true≢false (sym h))
+
+is-challenge : (a : Next) → isChallenge a ≡ true → a ≡ Challenge
+is-challenge Total h = absurd (true≢false (sym h))
+is-challenge Message h = absurd (true≢false (sym h))
+is-challenge Challenge h = refl
+is-challenge Ends h = absurd (true≢false (sym h))
+is-challenge Openings h = absurd (true≢false (sym h))
+
+is-ends : (a : Next) → isEnds a ≡ true → a ≡ Ends
+is-ends Total h = absurd (true≢false (sym h))
+is-ends Message h = absurd (true≢false (sym h))
+is-ends Challenge h = absurd (true≢false (sym h))
+is-ends Ends h = refl
+is-ends Openings h = absurd (true≢false (sym h))
+
+is-openings : (a : Next) → isOpenings a ≡ true → a ≡ Openings
+is-openings Total h = absurd (true≢false (sym h))
+is-openings Message h = absurd (true≢false (sym h))
+is-openings Challenge h = absurd (true≢false (sym h))
+is-openings Ends h = absurd (true≢false (sym h))
+is-openings Openings h = refl
+
+-- nor is one open where a challenge is next
+pub challenge-kind : (kind : Kind) (mode : Mode) (a b : Next) → isChallenge a ≡ true → kindFits kind mode a ≡ true → kindFits kind mode b ≡ true
+challenge-kind kind mode a b h e = go kind mode (subst (λ n. kindFits kind mode n ≡ true) (is-challenge a h) e)
+  where
+    go : (kind : Kind) (mode : Mode) → kindFits kind mode Challenge ≡ true → kindFits kind mode b ≡ true
+    go Shut mode e = refl
+    go Asked Small e = absurd (true≢false (sym e))
+    go Asked Full e = absurd (true≢false (sym e))
+    go Change Small e = absurd (true≢false (sym e))
+    go Change Full e = absurd (true≢false (sym e))
+
+-- what a call whose turn it is knows of the run
+module _ (p : ℕ) (r : Run) (s : Pass) where
+  -- a round in which a message or a challenge is next
+  pub record InRound (what : Next) : Type 0 where
+    pub formed : Formed r s
+    pub tests : Tests p r s
+    pub next : r .next ≡ what
+    pub less : r .round < r .rounds
+    pub few : r .round < 15
+    pub level : levelOf r Shut ≡ r .round
+    pub long : foldSize r ≡ size (r .rounds) (r .round)
+    pub half : foldSize r / 2 ≡ size (r .rounds) (suc (r .round))
+    pub halves : foldSize r ≡ 2 * size (r .rounds) (suc (r .round))
+
+  in-round : (what : Next) → wellFormed p r s ≡ true → r .next ≡ what → (roundFits what (r .round) (r .rounds) ≡ true → r .round < r .rounds)
+      → (levelOf r Shut ≡ r .round) → InRound what
+  in-round what e same below level =
+      let h = formed p r s e in
+      let t = tests p r s e in
+      let less : r .round < r .rounds = below (ap (λ a. roundFits a (r .round) (r .rounds)) (sym same) ∙ t .fits) in
+      let few : r .rounds ≤ 15 = h .few in
+      let long : foldSize r ≡ size (r .rounds) (r .round) = size-32 (r .rounds) (levelOf r Shut) few ∙ ap (size (r .rounds)) level in
+      let halves : foldSize r ≡ 2 * size (r .rounds) (suc (r .round)) = long ∙ size-halves (r .rounds) (r .round) less in
+      record {
+        formed = h;
+        tests = t;
+        next = same;
+        less = less;
+        few = omega arith;
+        level = level;
+        long = long;
+        half = omega arith;
+        halves = halves;
+      }
+
+  pub message-round : messageTurn p r s ≡ true → InRound Message
+  message-round e =
+      let a = holds (fullFormed p r s) (isMessage (r .next)) e in
+      let same = is-message (r .next) (a .1) in
+      in-round Message (holds (wellFormed p r s) (isFull (r .mode)) (a .0) .0) same (λ t. ltb-true (r .round) (r .rounds) t) (rw same)
+
+  pub challenge-round : challengeTurn p r s ≡ true → InRound Challenge
+  challenge-round e =
+      let a = holds (wellFormed p r s) (isChallenge (r .next)) e in
+      let same = is-challenge (r .next) (a .1) in
+      in-round Challenge (a .0) same (λ t. ltb-true (r .round) (r .rounds) t) (rw same)
+
+  -- the end values are next
+  pub record AtEnds : Type 0 where
+    pub formed : Formed r s
+    pub tests : Tests p r s
+    pub full : isFull (r .mode) ≡ true
+    pub next : r .next ≡ Ends
+    pub all : r .round ≡ r .rounds
+    pub level : levelOf r Shut ≡ r .rounds
+    pub long : foldSize r ≡ 1
+
+  pub at-ends : endsTurn p r s ≡ true → AtEnds
+  at-ends e =
+      let a = holds (fullFormed p r s) (isEnds (r .next)) e in
+      let b = holds (wellFormed p r s) (isFull (r .mode)) (a .0) in
+      let same = is-ends (r .next) (a .1) in
+      let h = formed p r s (b .0) in
+      let t = tests p r s (b .0) in
+      let level : levelOf r Shut ≡ r .rounds = rw same in
+      record {
+        formed = h;
+        tests = t;
+        full = b .1;
+        next = same;
+        all = eqb-true (r .round) (r .rounds) (ap (λ a. roundFits a (r .round) (r .rounds)) (sym same) ∙ t .fits);
+        level = level;
+        long = size-32 (r .rounds) (levelOf r Shut) (h .few) ∙ ap (size (r .rounds)) level ∙ size-last (r .rounds);
+      }
+
+  pub both-there : (f g : List ℕ) → endsTurn p r s ≡ true → bothLong r (length f) (length g) ≡ true → (1 ≤ length f) × (1 ≤ length g)
+  both-there f g e l =
+      let one = at-ends e .long in
+      let a = holds (leb (foldSize r) (length f)) (leb (foldSize r) (length g)) l in
+      (omega (arith, leb-true (foldSize r) (length f) (a .0)), omega (arith, leb-true (foldSize r) (length g) (a .1)))
+
+  -- openings are next
+  pub record AtOpenings : Type 0 where
+    pub formed : Formed r s
+    pub next : r .next ≡ Openings
+    pub some : 0 < r .rounds
+    pub level : levelOf r Shut ≡ 0
+    pub long : foldSize r ≡ size (r .rounds) 0
+
+  pub at-openings : openingTurn p r s ≡ true → AtOpenings
+  at-openings e =
+      let a = holds (fullFormed p r s) (cond (isOpenings (r .next)) (ltb 0 (r .rounds)) false) e in
+      let b = holds (wellFormed p r s) (isFull (r .mode)) (a .0) in
+      let d = holds (isOpenings (r .next)) (ltb 0 (r .rounds)) (a .1) in
+      let same = is-openings (r .next) (d .0) in
+      let h = formed p r s (b .0) in
+      let level : levelOf r Shut ≡ 0 = rw same in
+      record {
+        formed = h;
+        next = same;
+        some = ltb-true 0 (r .rounds) (d .1);
+        level = level;
+        long = size-32 (r .rounds) (levelOf r Shut) (h .few) ∙ ap (size (r .rounds)) level;
+      }

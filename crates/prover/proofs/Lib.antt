@@ -1,0 +1,14 @@
+pub mod Facts
+pub mod Outcomes
+pub mod OpeningValues
+pub mod Decides
+pub mod StartFacts
+pub mod StartLaws
+pub mod OpenFacts
+pub mod NewPass
+pub mod OpenTurns
+pub mod OpenLaws
+pub mod FullFacts
+pub mod FullOutcomes
+pub mod FullLaws
+pub mod OpeningLaws

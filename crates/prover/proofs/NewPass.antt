@@ -1,0 +1,70 @@
+-- THE PASS THAT IS OPENED: its padding is what it has taken, and it makes a well-formed record.
+use mathlib.Core.Path.{_≡_, refl, sym, ap, subst, _∙_}
+use mathlib.Core.Bool.{Bool, true, false, cond}
+use Prim.Native.Nat.{ℕ, suc, _-_, _^_, _≤_, _<_}
+use native.Mathlib.Omega.{arith}
+use lib.Pow.{pow-mono}
+use borrow.Author.Tests.{le-ltb, eq-eqb}
+use Rattle.vector.specs.declared.kernel.Kernel.{Kernel}
+use Rattle.vector.specs.declared.kernel.Points.{Points}
+use Rattle.vector.specs.Vector.{Vector}
+use Rattle.vector.specs.Kernel.{emptyKernel, paddingKernel}
+use Rattle.vector.proofs.Rounds.{rounds-enough, size-all}
+use Rattle.vector.proofs.StackCount.{ones-below}
+use Rattle.vector.proofs.KernelLevels.{levelled-padding, levelled-count}
+use Rattle.vector.proofs.KernelPass.{Taken}
+use Rattle.vector.proofs.KernelOpen.{taken-padding}
+use Rattle.prover.specs.declared.Kind.{Kind}
+use Rattle.prover.specs.declared.Kind.the-variants.{Asked}
+use Rattle.prover.specs.declared.Run.{Run}
+use Rattle.prover.specs.declared.Pass.{Pass}
+use Rattle.prover.specs.Order.{isTotal, levelOf, padding}
+use Rattle.prover.specs.WellFormed.{kindFits, runFormed, passFormed, wellFormed}
+use Rattle.prover.specs.Open.{newPass, paddedKernel, openKernel}
+use Rattle.prover.proofs.Facts.{Formed, holds, level-at-most, size-32}
+
+-- A new pass is well formed where its kind fits and its kernel's stacks have room.
+pub new-formed : (p : ℕ) (r : Run) (s : Pass) (kind : Kind) (points : Points) (k : Kernel) → wellFormed p r s ≡ true
+    → kindFits kind (r .mode) (r .next) ≡ true → k .fcount ≡ k .gcount → k .fcount ≤ 15 → wellFormed p r (newPass kind points k) ≡ true
+unfolding wellFormed passFormed
+new-formed p r s kind points k h fits counts room =
+    simp
+    (holds (runFormed p r) (passFormed r s) h .0, fits, le-ltb (r .items) 0 (omega arith), eq-eqb (k .fcount) (k .gcount) counts, le-ltb 15 (k .fcount) room)
+
+module _ (r : Run) (s : Pass) (h : Formed r s) where
+  -- the padding is N - L
+  pub padding-is : padding r ≡ 2 ^ r .rounds - r .items
+  padding-is = ap (λ n. n - r .items) (size-32 (r .rounds) 0 (h .few) ∙ size-all (r .rounds))
+
+  padding-below : padding r < 2 ^ 15
+  padding-below =
+      let most : 2 ^ r .rounds ≤ 2 ^ 15 = pow-mono (h .few) in
+      omega (arith, padding-is, h .some)
+
+  level-few : levelOf r Asked ≤ 15
+  level-few = omega (arith, level-at-most (r .rounds) (r .round) (r .next) Asked (h .round), h .few)
+
+  -- one entry for each binary one of the padding, so at most fifteen
+  pub padded-counts : paddedKernel r .fcount ≡ paddedKernel r .gcount
+  padded-counts = sym (levelled-padding (padding r) (levelOf r Asked) level-few .paired .counts)
+
+  pub padded-room : paddedKernel r .fcount ≤ 15
+  padded-room =
+      let l = levelled-padding (padding r) (levelOf r Asked) level-few in
+      omega (arith, levelled-count (levelOf r Asked) (padding r) (paddedKernel r) l, ones-below 15 (suc (levelOf r Asked)) (padding r) padding-below)
+
+  -- of any two vectors whose items from L on are zero, the padding is what the pass has taken
+  pub padded-taken : (p : ℕ) (c : ℕ → ℕ) (at : Points) (f g : Vector) → ((j : ℕ) → r .items ≤ j → f j ≡ 0) → ((j : ℕ) → r .items ≤ j → g j ≡ 0)
+      → Taken p (r .rounds) c (levelOf r Asked) at f g (2 ^ r .rounds - r .items) (paddedKernel r)
+  padded-taken p c at f g zf zg =
+      let enough : r .items ≤ 2 ^ r .rounds = subst (λ n. r .items ≤ 2 ^ n) (sym (h .rounds)) (rounds-enough (r .items) (h .most)) in
+      subst (λ t. Taken p (r .rounds) c (levelOf r Asked) at f g (2 ^ r .rounds - r .items) (paddingKernel t (levelOf r Asked))) (sym padding-is)
+      (taken-padding p (r .rounds) c (levelOf r Asked) at f g (h .few) (level-at-most (r .rounds) (r .round) (r .next) Asked (h .round)) (r .items) enough zf zg)
+
+-- a pass for the total has no stack
+pub open-counts : (r : Run) (s : Pass) → Formed r s → (openKernel r .fcount ≡ openKernel r .gcount) × (openKernel r .fcount ≤ 15)
+open-counts r s h = by (isTotal (r .next))
+  where
+    by : (b : Bool) → (cond b emptyKernel (paddedKernel r) .fcount ≡ cond b emptyKernel (paddedKernel r) .gcount) × (cond b emptyKernel (paddedKernel r) .fcount ≤ 15)
+    by true = (refl, omega arith)
+    by false = (padded-counts r s h, padded-room r s h)

@@ -1,0 +1,97 @@
+-- The turns of the calls that open a pass.
+use mathlib.Core.Path.{_≡_, refl, sym, ap}
+use mathlib.Core.Bool.{Bool, true, false, cond, true≢false}
+use Prim.Native.Nat.{ℕ, _<_}
+use lib.Dec.{ltb}
+use borrow.Author.Tests.{lt-ltb, ltb-true}
+use Rattle.prover.specs.declared.Mode.{Mode}
+use Rattle.prover.specs.declared.Mode.the-variants.{Small, Full}
+use Rattle.prover.specs.declared.Next.{Next}
+use Rattle.prover.specs.declared.Next.the-variants.{Total, Message, Challenge, Ends, Openings}
+use Rattle.prover.specs.declared.Run.{Run}
+use Rattle.prover.specs.declared.Pass.{Pass}
+use Rattle.prover.specs.Records.{isSmall}
+use Rattle.prover.specs.WellFormed.{wellFormed}
+use Rattle.prover.specs.Open.{openNext, isOpenings, mayOpen, mayOpenAt}
+use Rattle.prover.proofs.Facts.{holds}
+use Rattle.prover.proofs.Decides.{Decides}
+
+-- where a pass of small mode may be opened: what is next takes one, and no point
+pub data TakesPass : Next → Type 0 where
+  total : TakesPass Total
+  message : TakesPass Message
+  ends : TakesPass Ends
+
+-- open's turn
+pub record OpenTurn (p : ℕ) (r : Run) (s : Pass) : Type 0 where
+  pub formed : wellFormed p r s ≡ true
+  pub small : r .mode ≡ Small
+  pub next : TakesPass (r .next)
+
+-- open_at's turn
+pub record OpenAtTurn (p : ℕ) (r : Run) (s : Pass) : Type 0 where
+  pub formed : wellFormed p r s ≡ true
+  pub small : r .mode ≡ Small
+  pub next : r .next ≡ Openings
+  pub rounds : 0 < r .rounds
+
+small-is : (m : Mode) → isSmall m ≡ true → m ≡ Small
+small-is Small e = refl
+small-is Full e = absurd (true≢false (sym e))
+
+takes-pass : (n : Next) → openNext n ≡ true → TakesPass n
+takes-pass Total e = total
+takes-pass Message e = message
+takes-pass Challenge e = absurd (true≢false (sym e))
+takes-pass Ends e = ends
+takes-pass Openings e = absurd (true≢false (sym e))
+
+pass-taken : (n : Next) → TakesPass n → openNext n ≡ true
+pass-taken n total = refl
+pass-taken n message = refl
+pass-taken n ends = refl
+
+openings-is : (n : Next) → isOpenings n ≡ true → n ≡ Openings
+openings-is Total e = absurd (true≢false (sym e))
+openings-is Message e = absurd (true≢false (sym e))
+openings-is Challenge e = absurd (true≢false (sym e))
+openings-is Ends e = absurd (true≢false (sym e))
+openings-is Openings e = refl
+
+-- tests one after the other, all true
+both-true : (a b : Bool) → a ≡ true → b ≡ true → cond a b false ≡ true
+both-true true b h e = e
+both-true false b h e = absurd (true≢false (sym h))
+
+pub open-turn : (p : ℕ) (r : Run) (s : Pass) → Decides (mayOpen p r s) (OpenTurn p r s)
+open-turn p r s =
+    record {
+      so = λ h.
+          let a = holds (wellFormed p r s) (cond (isSmall (r .mode)) (openNext (r .next)) false) h in
+          let b = holds (isSmall (r .mode)) (openNext (r .next)) (a .1) in
+          record { formed = a .0; small = small-is (r .mode) (b .0); next = takes-pass (r .next) (b .1) };
+      back = λ t.
+          both-true (wellFormed p r s) (cond (isSmall (r .mode)) (openNext (r .next)) false) (t .formed)
+          (both-true (isSmall (r .mode)) (openNext (r .next)) (ap isSmall (t .small)) (pass-taken (r .next) (t .next)));
+    }
+
+pub open-at-turn : (p : ℕ) (r : Run) (s : Pass) → Decides (mayOpenAt p r s) (OpenAtTurn p r s)
+open-at-turn p r s =
+    let opens = cond (isOpenings (r .next)) (ltb 0 (r .rounds)) false in
+    let turn = cond (isSmall (r .mode)) opens false in
+    record {
+      so = λ h.
+          let a = holds (wellFormed p r s) turn h in
+          let b = holds (isSmall (r .mode)) opens (a .1) in
+          let c = holds (isOpenings (r .next)) (ltb 0 (r .rounds)) (b .1) in
+          record {
+            formed = a .0;
+            small = small-is (r .mode) (b .0);
+            next = openings-is (r .next) (c .0);
+            rounds = ltb-true 0 (r .rounds) (c .1);
+          };
+      back = λ t.
+          both-true (wellFormed p r s) turn (t .formed)
+          (both-true (isSmall (r .mode)) opens (ap isSmall (t .small))
+          (both-true (isOpenings (r .next)) (ltb 0 (r .rounds)) (ap isOpenings (t .next)) (lt-ltb 0 (r .rounds) (t .rounds))));
+    }

@@ -1,0 +1,138 @@
+-- What a call leaves, by what its tests say.
+use mathlib.Core.Path.{_≡_, ap, _∙_}
+use mathlib.Core.Bool.{Bool, true, false, cond}
+use mathlib.Core.List.{List}
+use mathlib.Core.Option.{Option, none, some}
+use Prim.Native.Nat.{ℕ}
+use lib.Dec.{eqb, ltb}
+use lib.ListN.{length}
+use Rattle.refusal.specs.Number as number
+use Rattle.refusal.specs.Outcome.{Outcome, refused, require}
+use Rattle.wire.specs.Proof.{writeProof}
+use Rattle.vector.specs.declared.item.Item.{Item}
+use Rattle.prover.specs.declared.Run.{Run}
+use Rattle.prover.specs.declared.Pass.{Pass}
+use Rattle.prover.specs.declared.Step.{Step}
+use Rattle.prover.specs.declared.Answer.the-variants as answer
+use Rattle.prover.specs.Records.{withKernel, Out, out, leaves, answeredStep, refusedStep}
+use Rattle.prover.specs.Order.{isTotal}
+use Rattle.prover.specs.Take.{entering, summedItem, enteredItem, oneMore, placedIn, takes}
+use Rattle.prover.specs.Calls.{passOpen, bothLong, placesThere, withParts, itemTurn, itemPlaces}
+use Rattle.prover.specs.Change.{mayChange, changes, toFullCall}
+use Rattle.prover.specs.Written.{mayWrite, writeCall}
+use Rattle.prover.specs.Close.{totalFits, closing, closeCall, leavesStep}
+
+module _ (p : ℕ) (r : Run) (s : Pass) (x : Item) (f g : List ℕ) where
+  abbrev summing : Out
+  summing = out (answeredStep r (summedItem p s x (entering p r s x)) answer.Taken) f g
+
+  abbrev climbing : Out
+  climbing =
+      let e = enteredItem p r s (entering p r s x) (x .g) in
+      out (answeredStep r (withKernel (oneMore s) (e .kernel)) answer.Taken) (placedIn r s e (e .f) f) (placedIn r s e (e .g) g)
+
+  pub takes-sum : isTotal (r .next) ≡ true → takes p r s x f g ≡ summing
+  unfolding takes
+  takes-sum h = ap (λ b. cond b summing climbing) h
+
+  pub takes-climb : isTotal (r .next) ≡ false → takes p r s x f g ≡ climbing
+  unfolding takes
+  takes-climb h = ap (λ b. cond b summing climbing) h
+
+-- a check in a row: the refusal, or the rest
+module _ (r : Run) (s : Pass) (f g : List ℕ) where
+  pub stop : (b : Bool) (k : ℕ) (rest : Outcome Out) → b ≡ false → leaves r s f g (require b k rest) ≡ out (refusedStep r s k) f g
+  stop b k rest h = ap (λ t. leaves r s f g (require t k rest)) h
+
+  pub pass : (b : Bool) (k : ℕ) (rest : Outcome Out) → b ≡ true → leaves r s f g (require b k rest) ≡ leaves r s f g rest
+  pass b k rest h = ap (λ t. leaves r s f g (require t k rest)) h
+
+-- the outcomes of an item, plain or of two numbers
+module _ (p : ℕ) (r : Run) (s : Pass) (kind : Bool) (parts : Option Item) (bad : Outcome Out) (f g : List ℕ) where
+  abbrev call : Outcome Out
+  call = itemTurn p r s kind (withParts parts bad (itemPlaces p r s f g))
+
+  pub item-shut : passOpen p r s ≡ false → leaves r s f g call ≡ out (refusedStep r s number.order) f g
+  item-shut a = stop r s f g (passOpen p r s) number.order _ a
+
+  module _ (a : passOpen p r s ≡ true) where
+    pub item-beyond : ltb (s .taken) (r .items) ≡ false → leaves r s f g call ≡ out (refusedStep r s number.items) f g
+    item-beyond b = pass r s f g (passOpen p r s) number.order _ a ∙ stop r s f g (ltb (s .taken) (r .items)) number.items _ b
+
+    module _ (b : ltb (s .taken) (r .items) ≡ true) where
+      item-turn : leaves r s f g call ≡ leaves r s f g (require kind number.order (withParts parts bad (itemPlaces p r s f g)))
+      item-turn = pass r s f g (passOpen p r s) number.order _ a ∙ pass r s f g (ltb (s .taken) (r .items)) number.items _ b
+
+      pub item-other : kind ≡ false → leaves r s f g call ≡ out (refusedStep r s number.order) f g
+      item-other c = item-turn ∙ stop r s f g kind number.order _ c
+
+      module _ (c : kind ≡ true) where
+        item-parts : (o : Option Item) → parts ≡ o → leaves r s f g call ≡ leaves r s f g (withParts o bad (itemPlaces p r s f g))
+        item-parts o e = item-turn ∙ pass r s f g kind number.order _ c ∙ ap (λ q. leaves r s f g (withParts q bad (itemPlaces p r s f g))) e
+
+        pub item-bad : parts ≡ none → leaves r s f g call ≡ leaves r s f g bad
+        item-bad e = item-parts none e
+
+        pub item-short : (x : Item) → parts ≡ some x → placesThere r s (length f) (length g) ≡ false
+            → leaves r s f g call ≡ out (refusedStep r s number.buffer) f g
+        item-short x e d = item-parts (some x) e ∙ stop r s f g (placesThere r s (length f) (length g)) number.buffer _ d
+
+        pub item-taken : (x : Item) → parts ≡ some x → placesThere r s (length f) (length g) ≡ true → leaves r s f g call ≡ takes p r s x f g
+        item-taken x e d = item-parts (some x) e ∙ pass r s f g (placesThere r s (length f) (length g)) number.buffer _ d
+
+-- the outcomes of a change
+module _ (p : ℕ) (r : Run) (s : Pass) (f g : List ℕ) where
+  pub change-never : mayChange p r s ≡ false → leaves r s f g (toFullCall p r s f g) ≡ out (refusedStep r s number.order) f g
+  unfolding toFullCall
+  change-never a = stop r s f g (mayChange p r s) number.order _ a
+
+  module _ (a : mayChange p r s ≡ true) where
+    pub change-short : bothLong r (length f) (length g) ≡ false → leaves r s f g (toFullCall p r s f g) ≡ out (refusedStep r s number.buffer) f g
+    unfolding toFullCall
+    change-short b = pass r s f g (mayChange p r s) number.order _ a ∙ stop r s f g (bothLong r (length f) (length g)) number.buffer _ b
+
+    pub change-opened : bothLong r (length f) (length g) ≡ true → leaves r s f g (toFullCall p r s f g) ≡ changes r f g
+    unfolding toFullCall
+    change-opened b = pass r s f g (mayChange p r s) number.order _ a ∙ pass r s f g (bothLong r (length f) (length g)) number.buffer _ b
+
+-- a check in a row, of a call with no buffers
+module _ (r : Run) (s : Pass) where
+  pub stop-step : (b : Bool) (k : ℕ) (rest : Outcome Step) → b ≡ false → leavesStep r s (require b k rest) ≡ refusedStep r s k
+  stop-step b k rest h = ap (λ t. leavesStep r s (require t k rest)) h
+
+  pub pass-step : (b : Bool) (k : ℕ) (rest : Outcome Step) → b ≡ true → leavesStep r s (require b k rest) ≡ leavesStep r s rest
+  pass-step b k rest h = ap (λ t. leavesStep r s (require t k rest)) h
+
+-- the outcomes of a close
+module _ (p : ℕ) (r : Run) (s : Pass) where
+  pub close-shut : passOpen p r s ≡ false → leavesStep r s (closeCall p r s) ≡ refusedStep r s number.order
+  unfolding closeCall
+  close-shut a = stop-step r s (passOpen p r s) number.order _ a
+
+  module _ (a : passOpen p r s ≡ true) where
+    pub close-wanting : eqb (s .taken) (r .items) ≡ false → leavesStep r s (closeCall p r s) ≡ refusedStep r s number.items
+    unfolding closeCall
+    close-wanting b = pass-step r s (passOpen p r s) number.order _ a ∙ stop-step r s (eqb (s .taken) (r .items)) number.items _ b
+
+    module _ (b : eqb (s .taken) (r .items) ≡ true) where
+      pub close-beyond : totalFits p r s ≡ false → leavesStep r s (closeCall p r s) ≡ refusedStep r s number.total
+      unfolding closeCall
+      close-beyond c =
+          pass-step r s (passOpen p r s) number.order _ a ∙ pass-step r s (eqb (s .taken) (r .items)) number.items _ b
+          ∙ stop-step r s (totalFits p r s) number.total _ c
+
+      pub close-whole : totalFits p r s ≡ true → leavesStep r s (closeCall p r s) ≡ leavesStep r s (closing r s (s .kind))
+      unfolding closeCall
+      close-whole c =
+          pass-step r s (passOpen p r s) number.order _ a ∙ pass-step r s (eqb (s .taken) (r .items)) number.items _ b
+          ∙ pass-step r s (totalFits p r s) number.total _ c
+
+-- the outcomes of writing the proof
+module _ (p : ℕ) (r : Run) (s : Pass) (file : List ℕ) where
+  pub write-never : mayWrite p r s ≡ false → writeCall p r s file ≡ refused number.order
+  unfolding writeCall
+  write-never h = ap (λ b. require b number.order (writeProof p (r .rounds) (r .total) (r .messages) (r .fend) (r .gend) file)) h
+
+  pub write-then : mayWrite p r s ≡ true → writeCall p r s file ≡ writeProof p (r .rounds) (r .total) (r .messages) (r .fend) (r .gend) file
+  unfolding writeCall
+  write-then h = ap (λ b. require b number.order (writeProof p (r .rounds) (r .total) (r .messages) (r .fend) (r .gend) file)) h

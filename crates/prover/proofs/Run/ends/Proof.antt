@@ -1,0 +1,96 @@
+use mathlib.Core.Path.{sym, ap, _∙_}
+use denote.Ref.{now}
+use Rattle.prover.specs.Records.{passed}
+use Rattle.prover.specs.Full.{endsTurn, endsGiven, endsCall}
+use Rattle.prover.proofs.FullOutcomes.{read-turn, read-short, read-unreduced, read-given}
+use Rattle.prover.proofs.FullFacts.{both-there}
+use borrow.Author.Needs.{needs}
+use Rattle.prover.proofs.Run.ends.Statement.{statement}
+use Rattle.prover.proofs.Run.ends.Tie as tie
+
+ends-next-requires : tie.Need-ends-next-requires
+ends-next-requires c κs = search needs
+
+enum-told : tie.Need-enum-told
+enum-told c = search needs
+
+enum-told-2 : tie.Need-enum-told-2
+enum-told-2 c = search needs
+
+refuse-requires : tie.Need-refuse-requires
+refuse-requires c κs = search needs
+
+returns : tie.Need-returns
+unfolding endsCall
+returns c =
+    let s = c .before .before .before .before .before .before .args in
+    rw (c .refuse .ensures) (sym (read-turn 2147483647 (s .self) (s .pass) (now (s .f)) (now (s .g)) (endsTurn 2147483647 (s .self) (s .pass)) (endsGiven (s .self) (s .pass) (now (s .f)) (now (s .g))) (sym (c .before .before .before .ends-next .ensures) ∙ ap passed (c .before .enum-told2 .given .1))))
+
+both-long-requires : tie.Need-both-long-requires
+both-long-requires c κs = search needs
+
+enum-told-3 : tie.Need-enum-told-3
+enum-told-3 c = search needs
+
+enum-told-4 : tie.Need-enum-told-4
+enum-told-4 c = search needs
+
+refuse-requires-2 : tie.Need-refuse-requires-2
+refuse-requires-2 c κs = search needs
+
+returns-2 : tie.Need-returns-2
+unfolding endsCall
+returns-2 c =
+    let s = c .before .before .before .before .before .before .before .before .before .args in
+    rw (c .refuse2 .ensures) (sym (read-short 2147483647 (s .self) (s .pass) (now (s .f)) (now (s .g)) (endsTurn 2147483647 (s .self) (s .pass)) (endsGiven (s .self) (s .pass) (now (s .f)) (now (s .g))) (sym (c .before .before .before .before .before .before .ends-next .ensures) ∙ ap passed (c .before .before .before .before .enum-told .given .1)) (sym (c .before .before .before .both-long .ensures) ∙ ap passed (c .before .enum-told4 .given .1))))
+
+both-reduced-requires : tie.Need-both-reduced-requires
+both-reduced-requires c κs = search needs
+
+enum-told-5 : tie.Need-enum-told-5
+enum-told-5 c = search needs
+
+enum-told-6 : tie.Need-enum-told-6
+enum-told-6 c = search needs
+
+refuse-requires-3 : tie.Need-refuse-requires-3
+refuse-requires-3 c κs = search needs
+
+returns-3 : tie.Need-returns-3
+unfolding endsCall
+returns-3 c =
+    let s = c .before .before .before .before .before .before .before .before .before .before .before .before .args in
+    rw (c .refuse3 .ensures) (sym (read-unreduced 2147483647 (s .self) (s .pass) (now (s .f)) (now (s .g)) (endsTurn 2147483647 (s .self) (s .pass)) (endsGiven (s .self) (s .pass) (now (s .f)) (now (s .g))) (sym (c .before .before .before .before .before .before .before .before .before .ends-next .ensures) ∙ ap passed (c .before .before .before .before .before .before .before .enum-told .given .1)) (sym (c .before .before .before .before .before .before .both-long .ensures) ∙ ap passed (c .before .before .before .before .enum-told3 .given .1)) (sym (c .before .before .before .both-reduced .ensures) ∙ ap passed (c .before .enum-told6 .given .1))))
+
+give-ends-requires : tie.Need-give-ends-requires
+give-ends-requires c κs =
+    let s = c .before .before .before .before .before .before .before .before .before .before .before .args in
+    both-there 2147483647 (s .self) (s .pass) (now (s .f)) (now (s .g)) (sym (c .before .before .before .before .before .before .before .before .ends-next .ensures) ∙ ap passed (c .before .before .before .before .before .before .enum-told .given .1)) (sym (c .before .before .before .before .before .both-long .ensures) ∙ ap passed (c .before .before .before .enum-told3 .given .1))
+
+returns-4 : tie.Need-returns-4
+unfolding endsCall
+returns-4 c =
+    let s = c .before .before .before .before .before .before .before .before .before .before .before .before .args in
+    c .give-ends .ensures ∙ sym (read-given 2147483647 (s .self) (s .pass) (now (s .f)) (now (s .g)) (endsTurn 2147483647 (s .self) (s .pass)) (endsGiven (s .self) (s .pass) (now (s .f)) (now (s .g))) (sym (c .before .before .before .before .before .before .before .before .before .ends-next .ensures) ∙ ap passed (c .before .before .before .before .before .before .before .enum-told .given .1)) (sym (c .before .before .before .before .before .before .both-long .ensures) ∙ ap passed (c .before .before .before .before .enum-told3 .given .1)) (sym (c .before .before .before .both-reduced .ensures) ∙ ap passed (c .before .enum-told5 .given .1)))
+
+pub ends-spec : {M : Type 1} → statement M
+ends-spec =
+    tie.close
+    (tie.spec
+    ends-next-requires
+    enum-told
+    enum-told-2
+    refuse-requires
+    returns
+    both-long-requires
+    enum-told-3
+    enum-told-4
+    refuse-requires-2
+    returns-2
+    both-reduced-requires
+    enum-told-5
+    enum-told-6
+    refuse-requires-3
+    returns-3
+    give-ends-requires
+    returns-4)

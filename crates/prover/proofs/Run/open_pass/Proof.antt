@@ -1,0 +1,52 @@
+use mathlib.Core.Path.{sym, ap, _∙_}
+use mathlib.Core.List.{[]}
+use Rattle.prover.specs.Records.{leaves, passed}
+use Rattle.prover.proofs.OpenFacts.{open-order, open-answered}
+use borrow.Author.Needs.{needs}
+use Rattle.prover.proofs.Run.open_pass.Statement.{statement}
+use Rattle.prover.proofs.Run.open_pass.Tie as tie
+
+may-open-requires : tie.Need-may-open-requires
+may-open-requires c κs = search needs
+
+enum-told : tie.Need-enum-told
+enum-told c = search needs
+
+enum-told-2 : tie.Need-enum-told-2
+enum-told-2 c = search needs
+
+refuse-requires : tie.Need-refuse-requires
+refuse-requires c κs = search needs
+
+returns : tie.Need-returns
+returns c = rw (c .refuse .ensures) (ap (leaves (c .before .before .before .before .args .self) (c .before .before .before .before .args .pass) [] []) (sym (open-order 2147483647 (c .before .before .before .before .args .self) (c .before .before .before .before .args .pass) (sym (c .before .before .before .may-open .ensures) ∙ ap passed (c .before .enum-told2 .given .1)))))
+
+no-points-requires : tie.Need-no-points-requires
+no-points-requires c κs = search needs
+
+open-kernel-requires : tie.Need-open-kernel-requires
+open-kernel-requires c κs = search needs
+
+new-pass-requires : tie.Need-new-pass-requires
+new-pass-requires c κs = search needs
+
+answered-requires : tie.Need-answered-requires
+answered-requires c κs = search needs
+
+returns-2 : tie.Need-returns-2
+returns-2 c = rw (c .answered .ensures, c .before .new-pass .ensures, c .before .before .open-kernel .ensures, c .before .before .before .no-points .ensures) (ap (leaves (c .before .before .before .before .before .before .before .args .self) (c .before .before .before .before .before .before .before .args .pass) [] []) (sym (open-answered 2147483647 (c .before .before .before .before .before .before .before .args .self) (c .before .before .before .before .before .before .before .args .pass) (sym (c .before .before .before .before .before .before .may-open .ensures) ∙ ap passed (c .before .before .before .before .enum-told .given .1)))))
+
+pub open-pass-spec : {M : Type 1} → statement M
+open-pass-spec =
+    tie.close
+    (tie.spec
+    may-open-requires
+    enum-told
+    enum-told-2
+    refuse-requires
+    returns
+    no-points-requires
+    open-kernel-requires
+    new-pass-requires
+    answered-requires
+    returns-2)

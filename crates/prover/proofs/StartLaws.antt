@@ -1,0 +1,128 @@
+-- THE STARTS: each is refused exactly by 3 and 6, in this order, and otherwise gives its fresh run, which is well formed.
+use mathlib.Core.Path.{_≡_, refl, sym, ap, subst, _∙_}
+use mathlib.Core.Bool.{Bool, true, false}
+use mathlib.Core.List.{List}
+use Prim.Native.Nat.{ℕ, _^_, _≤_, _<_}
+use native.Mathlib.Omega.{arith}
+use lib.Dec.{eqb, leb}
+use lib.ListN.{length}
+use lib.Pow.{pow-pos, pow-mono}
+use borrow.Author.Tests.{le-leb, le-ltb, eq-eqb, eqb-true}
+use Rattle.refusal.specs.Limit.{maxItems, maxRounds}
+use Rattle.refusal.specs.Number as number
+use Rattle.refusal.specs.Outcome.{Outcome, answered, refused, refusedAt}
+use Rattle.refusal.proofs.Outcome.{require-says}
+use Rattle.field.specs.Total.{limit, inLimits}
+use Rattle.vector.specs.Rounds.{roundsOf}
+use Rattle.vector.specs.Vector.{at}
+use Rattle.vector.specs.Slice.{isNonzero, allNonzero}
+use Rattle.vector.proofs.Rounds.{rounds-power}
+use Rattle.vector.proofs.Every.{all-nonzero-iff}
+use Rattle.prover.specs.declared.Run.{Run}
+use Rattle.prover.specs.Records.{Out}
+use Rattle.prover.specs.WellFormed.{runFormed, passFormed, wellFormed}
+use Rattle.prover.specs.Start.{freshRun, zeroPass, started, countFits, twistsFit, startPlain, startTwisted, startRule}
+use Rattle.prover.proofs.Decides.{Decides, decide-both, not-so, at-most, Nonzero, nonzero}
+use Rattle.prover.proofs.StartFacts.{plainRun, twistedRun, ruleRun, plain-answered, twisted-answered, rule-answered}
+
+-- L from 1 to 32,768
+abbrev pub InCount : ℕ → Type 0
+InCount items = (1 ≤ items) × (items ≤ maxItems)
+
+-- as many twists as rounds, each from 1 to p - 1
+abbrev pub Twists : ℕ → ℕ → List ℕ → Type 0
+Twists p n twists = (length twists ≡ n) × ((k : ℕ) → k < n → Nonzero p (at twists k))
+
+pub count-fits : (items : ℕ) → Decides (countFits items) (InCount items)
+count-fits items = decide-both (at-most 1 items) (at-most items maxItems)
+
+pub twists-fit : (p n : ℕ) (twists : List ℕ) → Decides (twistsFit p n twists) (Twists p n twists)
+twists-fit p n twists =
+    decide-both {a = eqb (length twists) n} {b = allNonzero p n twists}
+    (record { so = eqb-true (length twists) n; back = eq-eqb (length twists) n })
+    (record { so = all-nonzero-iff p n twists .0; back = all-nonzero-iff p n twists .1 })
+
+-- the rows of a start, each after those above it: Count is what 3 asks, Argument what 6 asks
+pub data StartRefused (Count Argument : Type 0) : ℕ → Type 0 where
+  by-count : (Count → ⊥) → StartRefused Count Argument number.count
+  by-argument : Count → (Argument → ⊥) → StartRefused Count Argument number.argument
+
+abbrev pub StartSays : Type 0 → Type 0 → Run → Outcome Out → Type 0
+StartSays Count Argument r (answered o) = Count × Argument × (o ≡ started r)
+StartSays Count Argument r (refused k) = StartRefused Count Argument k
+StartSays Count Argument r (refusedAt k i) = ⊥
+
+pub plain-says : (items : ℕ) → StartSays (InCount items) (Unit {0}) (plainRun items) (startPlain items)
+unfolding startPlain
+plain-says items =
+    let d = count-fits items in
+    require-says (StartSays (InCount items) (Unit {0}) (plainRun items)) (countFits items) _ _ (λ bad. by-count (not-so d bad)) λ good.
+    (d .so good, tt, refl)
+
+pub twisted-says : (p items : ℕ) (twists : List ℕ)
+    → StartSays (InCount items) (Twists p (roundsOf items) twists) (twistedRun p items twists) (startTwisted p items twists)
+unfolding startTwisted
+twisted-says p items twists =
+    let d = count-fits items in
+    let e = twists-fit p (roundsOf items) twists in
+    let Says = StartSays (InCount items) (Twists p (roundsOf items) twists) (twistedRun p items twists) in
+    require-says Says (countFits items) _ _ (λ bad. by-count (not-so d bad)) λ good.
+    require-says Says (twistsFit p (roundsOf items) twists) _ _ (λ bad. by-argument (d .so good) (not-so e bad)) λ fit.
+    (d .so good, e .so fit, refl)
+
+pub rule-says : (p rounds v : ℕ) → StartSays (rounds ≤ maxRounds) (Nonzero p v) (ruleRun p rounds v) (startRule p rounds v)
+unfolding startRule
+rule-says p rounds v =
+    let d = at-most rounds maxRounds in
+    let e = nonzero p v in
+    let Says = StartSays (rounds ≤ maxRounds) (Nonzero p v) (ruleRun p rounds v) in
+    require-says Says (leb rounds maxRounds) _ _ (λ bad. by-count (not-so d bad)) λ good.
+    require-says Says (isNonzero p v) _ _ (λ bad. by-argument (d .so good) (not-so e bad)) λ fit.
+    (d .so good, e .so fit, refl)
+
+-- a proper start is answered
+pub plain-starts : (items : ℕ) → InCount items → startPlain items ≡ answered (started (plainRun items))
+plain-starts items h = plain-answered items (count-fits items .back h)
+
+pub twisted-starts : (p items : ℕ) (twists : List ℕ) → InCount items → Twists p (roundsOf items) twists
+    → startTwisted p items twists ≡ answered (started (twistedRun p items twists))
+twisted-starts p items twists h e = twisted-answered p items twists (count-fits items .back h) (twists-fit p (roundsOf items) twists .back e)
+
+pub rule-starts : (p rounds v : ℕ) → rounds ≤ maxRounds → Nonzero p v → startRule p rounds v ≡ answered (started (ruleRun p rounds v))
+rule-starts p rounds v h e = rule-answered p rounds v (le-leb rounds maxRounds h) (nonzero p v .back e)
+
+-- A fresh run with a closed pass is well formed.
+pub fresh-formed : (p items rounds : ℕ) (plain : Bool) (twists : List ℕ) → InCount items → rounds ≡ roundsOf items
+    → wellFormed p (freshRun items rounds plain twists) zeroPass ≡ true
+unfolding wellFormed runFormed passFormed inLimits
+fresh-formed p items rounds plain twists h e =
+    simp
+    (le-ltb items 1 (h .0), le-ltb maxItems items (h .1), eq-eqb rounds (roundsOf items) e, le-leb 0 (limit p) (omega arith), le-ltb items 0 (omega arith))
+
+-- what a start says of an answer, of the one that it gives
+of-answer : (Count Argument : Type 0) (r : Run) (got : Outcome Out) (o : Out) → StartSays Count Argument r got → got ≡ answered o
+    → Count × (o ≡ started r)
+of-answer Count Argument r got o says e = let h = subst (StartSays Count Argument r) e says in (h .0, h .2)
+
+as-started : (p : ℕ) (o : Out) (r : Run) → o ≡ started r → wellFormed p r zeroPass ≡ true → wellFormed p (o .run) (o .pass) ≡ true
+as-started p o r e h = ap (λ x. wellFormed p (x .run) (x .pass)) e ∙ h
+
+pub plain-formed : (p items : ℕ) (o : Out) → startPlain items ≡ answered o → wellFormed p (o .run) (o .pass) ≡ true
+plain-formed p items o e =
+    let h = of-answer (InCount items) (Unit {0}) (plainRun items) (startPlain items) o (plain-says items) e in
+    as-started p o (plainRun items) (h .1) (fresh-formed p items (roundsOf items) true _ (h .0) refl)
+
+pub twisted-formed : (p items : ℕ) (twists : List ℕ) (o : Out) → startTwisted p items twists ≡ answered o → wellFormed p (o .run) (o .pass) ≡ true
+twisted-formed p items twists o e =
+    let h =
+    of-answer (InCount items) (Twists p (roundsOf items) twists) (twistedRun p items twists) (startTwisted p items twists) o (twisted-says p items twists) e
+    in
+    as-started p o (twistedRun p items twists) (h .1) (fresh-formed p items (roundsOf items) false _ (h .0) refl)
+
+-- 2^n items need n rounds
+pub rule-formed : (p rounds v : ℕ) (o : Out) → startRule p rounds v ≡ answered o → wellFormed p (o .run) (o .pass) ≡ true
+rule-formed p rounds v o e =
+    let h = of-answer (rounds ≤ maxRounds) (Nonzero p v) (ruleRun p rounds v) (startRule p rounds v) o (rule-says p rounds v) e in
+    let most : 2 ^ rounds ≤ 2 ^ 15 = pow-mono (h .0) in
+    as-started p o (ruleRun p rounds v) (h .1)
+    (fresh-formed p (2 ^ rounds) rounds false _ (pow-pos rounds, most) (sym (rounds-power rounds (h .0))))

@@ -1,0 +1,32 @@
+use borrow.Author.Needs.{needs}
+use Rattle.prover.proofs.change.change_pass.Statement.{statement}
+use Rattle.prover.proofs.change.change_pass.Tie as tie
+
+level-of-requires : tie.Need-level-of-requires
+level-of-requires c κs = search needs
+
+padding-of-requires : tie.Need-padding-of-requires
+padding-of-requires c κs = search needs
+
+padding-requires : tie.Need-padding-requires
+padding-requires c κs = search needs
+
+no-points-requires : tie.Need-no-points-requires
+no-points-requires c κs = search needs
+
+new-pass-requires : tie.Need-new-pass-requires
+new-pass-requires c κs = search needs
+
+returns : tie.Need-returns
+returns c = rw (c .new-pass .ensures, c .before .no-points .ensures, c .before .before .padding .ensures, c .before .before .before .padding-of .ensures, c .before .before .before .before .level-of .ensures)
+
+pub change-pass-spec : {M : Type 1} → statement M
+change-pass-spec =
+    tie.close
+    (tie.spec
+    level-of-requires
+    padding-of-requires
+    padding-requires
+    no-points-requires
+    new-pass-requires
+    returns)

@@ -1,0 +1,23 @@
+use mathlib.Core.Path.{_≡_, ap₂}
+use Prim.Native.Nat.{_/_, _^_}
+use native.Mathlib.Omega.{arith}
+use Rattle.prover.specs.declared.Kind.the-variants.{Change}
+use Rattle.prover.proofs.Facts.{level-at-most}
+use borrow.Author.Needs.{needs}
+use Rattle.prover.proofs.change.padding_places.Statement.{statement}
+use Rattle.prover.proofs.change.padding_places.Tie as tie
+
+level-of-requires : tie.Need-level-of-requires
+level-of-requires c κs = search needs
+
+padding-of-requires : tie.Need-padding-of-requires
+padding-of-requires c κs = search needs
+
+shr-result : tie.Need-shr-result
+shr-result c = omega (arith, c .before .level-of .ensures, level-at-most (c .before .before .args .run .rounds) (c .before .before .args .run .round) (c .before .before .args .run .next) Change (c .before .before .pre .1))
+
+returns : tie.Need-returns
+returns c = ap₂ (λ a b. a / 2 ^ b) (c .padding-of .ensures) (c .before .level-of .ensures)
+
+pub padding-places-spec : {M : Type 1} → statement M
+padding-places-spec = tie.close (tie.spec level-of-requires padding-of-requires shr-result returns)

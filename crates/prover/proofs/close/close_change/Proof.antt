@@ -1,0 +1,21 @@
+use mathlib.Core.Path.{_≡_}
+use mir.Syntax.{w64}
+use mir.Val.{toZ, ofZ}
+use borrow.Author.Needs.{needs}
+use Rattle.prover.proofs.close.close_change.Statement.{statement}
+use Rattle.prover.proofs.close.close_change.Tie as tie
+
+empty-pass-requires : tie.Need-empty-pass-requires
+empty-pass-requires c κs = search needs
+
+answered-requires : tie.Need-answered-requires
+answered-requires c κs = search needs
+
+in-full-requires : tie.Need-in-full-requires
+in-full-requires c κs = search needs
+
+returns : tie.Need-returns
+returns c = rw (c .answered .ensures, c .before .empty-pass .ensures, c .before .before .in-full .ensures)
+
+pub close-change-spec : {M : Type 1} → statement M
+close-change-spec = tie.close (tie.spec in-full-requires empty-pass-requires answered-requires returns)

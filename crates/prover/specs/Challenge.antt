@@ -1,0 +1,65 @@
+-- A challenge, in either mode: document 01, "A run".
+use Prim.Native.Nat.{ℕ, _+_, _/_}
+use mathlib.Core.Bool.{Bool, true, false, cond}
+use mathlib.Core.List.{List}
+use lib.ListN.{set}
+use Rattle.refusal.specs.Number as number
+use Rattle.refusal.specs.Outcome.{Outcome, answered, require}
+use Rattle.vector.specs.Slice.{foldSlice, isNonzero}
+use Rattle.prover.specs.declared.Mode.{Mode}
+use Rattle.prover.specs.declared.Mode.the-variants.{Small, Full}
+use Rattle.prover.specs.declared.Next.{Next}
+use Rattle.prover.specs.declared.Next.the-variants as next
+use Rattle.prover.specs.declared.Run.{Run}
+use Rattle.prover.specs.declared.Pass.{Pass}
+use Rattle.prover.specs.declared.Step.{Step}
+use Rattle.prover.specs.declared.Answer.the-variants as answer
+use Rattle.prover.specs.Records.{Out, out, answeredStep}
+use Rattle.prover.specs.Order.{foldSize, roundOrEnds}
+use Rattle.prover.specs.WellFormed.{wellFormed}
+use Rattle.prover.specs.Full.{lentFolds}
+
+abbrev pub isChallenge : Next → Bool
+isChallenge next.Total = false
+isChallenge next.Message = false
+isChallenge next.Challenge = true
+isChallenge next.Ends = false
+isChallenge next.Openings = false
+
+abbrev pub challengeTurn : ℕ → Run → Pass → Bool
+challengeTurn p r s = cond (wellFormed p r s) (isChallenge (r .next)) false
+
+-- the run keeps the challenge of its round; the next message is next, or the ends after the last round
+abbrev pub keptChallenge : Run → ℕ → Run
+keptChallenge r c =
+    record {
+      items = r .items;
+      rounds = r .rounds;
+      plain = r .plain;
+      mode = r .mode;
+      next = roundOrEnds (r .round + 1) (r .rounds);
+      round = r .round + 1;
+      twists = r .twists;
+      challenges = set (r .challenges) (r .round) c;
+      messages = r .messages;
+      total = r .total;
+      fend = r .fend;
+      gend = r .gend;
+    }
+
+abbrev pub challengedSmall : Run → Pass → ℕ → Step
+challengedSmall r s c = answeredStep (keptChallenge r c) s answer.Challenged
+
+-- "a challenge writes as many as the new fold is long; all other places stay"
+unfoldable pub challengedFull : ℕ → Run → Pass → ℕ → List ℕ → List ℕ → Out
+challengedFull p r s c f g =
+    out (answeredStep (keptChallenge r c) s answer.Challenged) (foldSlice p c (foldSize r / 2) f) (foldSlice p c (foldSize r / 2) g)
+
+-- in small mode the buffers are not looked at
+abbrev pub challenged : ℕ → Run → Pass → ℕ → List ℕ → List ℕ → Mode → Outcome Out
+challenged p r s c f g Small = answered (out (challengedSmall r s c) f g)
+challenged p r s c f g Full = lentFolds p r f g (answered (challengedFull p r s c f g))
+
+unfoldable pub challengeCall : ℕ → Run → Pass → ℕ → List ℕ → List ℕ → Outcome Out
+challengeCall p r s c f g =
+    require (challengeTurn p r s) number.order (require (isNonzero p c) number.argument (challenged p r s c f g (r .mode)))

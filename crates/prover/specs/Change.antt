@@ -1,0 +1,59 @@
+-- "a small run may change to full: one pass writes the current folds .. to the first places of the two buffers".
+use Prim.Native.Nat.{ℕ, zero, suc, _+_, _-_, _/_, _^_}
+use mathlib.Core.Bool.{Bool, true, false, cond}
+use mathlib.Core.List.{List}
+use lib.Dec.{ltb}
+use lib.ListN.{length, set}
+use Rattle.refusal.specs.Number as number
+use Rattle.refusal.specs.Outcome.{Outcome, answered, require}
+use Rattle.vector.specs.Kernel.{emptyKernel, paddingKernel}
+use Rattle.prover.specs.declared.Next.{Next}
+use Rattle.prover.specs.declared.Next.the-variants.{Total, Message, Challenge, Ends, Openings}
+use Rattle.prover.specs.declared.Kind.{Kind}
+use Rattle.prover.specs.declared.Kind.the-variants.{Shut, Asked, Change}
+use Rattle.prover.specs.declared.Run.{Run}
+use Rattle.prover.specs.declared.Pass.{Pass}
+use Rattle.prover.specs.declared.Answer.the-variants as answer
+use Rattle.prover.specs.Records.{Out, out, answeredStep, isSmall}
+use Rattle.prover.specs.Order.{levelOf, foldSize, padding}
+use Rattle.prover.specs.WellFormed.{wellFormed}
+use Rattle.prover.specs.Calls.{bothLong}
+use Rattle.prover.specs.Open.{noPoints, newPass}
+
+-- a pass of a kind that has taken nothing
+abbrev pub emptyPass : Kind → Pass
+emptyPass kind = newPass kind noPoints emptyKernel
+
+-- "Before any later pass (round, ends, openings)"; not between a message and its challenge, and for openings not with n = 0
+abbrev pub changeAt : Next → ℕ → Bool
+changeAt Total n = false
+changeAt Message n = true
+changeAt Challenge n = false
+changeAt Ends n = true
+changeAt Openings n = ltb 0 n
+
+abbrev pub mayChange : ℕ → Run → Pass → Bool
+mayChange p r s = cond (wellFormed p r s) (cond (isSmall (r .mode)) (changeAt (r .next) (r .rounds)) false) false
+
+-- how many places of the fold the padding completes
+abbrev pub paddingPlaces : Run → ℕ
+paddingPlaces r = padding r / 2 ^ levelOf r Change
+
+-- k places from a first one on become zero
+unfoldable pub cleared : ℕ → ℕ → List ℕ → List ℕ
+cleared from zero xs = xs
+cleared from (suc k) xs = set (cleared from k xs) (from + k) 0
+
+-- the last places of the fold, which are zero
+abbrev pub paddedBuffer : Run → List ℕ → List ℕ
+paddedBuffer r xs = cleared (foldSize r - paddingPlaces r) (paddingPlaces r) xs
+
+abbrev pub changePass : Run → Pass
+changePass r = newPass Change noPoints (paddingKernel (padding r) (levelOf r Change))
+
+abbrev pub changes : Run → List ℕ → List ℕ → Out
+changes r f g = out (answeredStep r (changePass r) answer.Opened) (paddedBuffer r f) (paddedBuffer r g)
+
+unfoldable pub toFullCall : ℕ → Run → Pass → List ℕ → List ℕ → Outcome Out
+toFullCall p r s f g =
+    require (mayChange p r s) number.order (require (bothLong r (length f) (length g)) number.buffer (answered (changes r f g)))

@@ -1,0 +1,171 @@
+-- The close of a pass: in small mode each answer comes with it.
+use Prim.Native.Nat.{ℕ, _+_, _*_}
+use mathlib.Core.Bool.{Bool, true, false, cond}
+use mathlib.Core.List.{List}
+use lib.Dec.{eqb}
+use lib.IntN.{ℤ}
+use lib.ListN.{getD, set}
+use Rattle.refusal.specs.Number as number
+use Rattle.refusal.specs.Outcome.{Outcome, answered, refused, refusedAt, require}
+use Rattle.field.specs.Total.{inLimits}
+use Rattle.prover.specs.declared.Mode.the-variants.{Full}
+use Rattle.prover.specs.declared.Next.{Next}
+use Rattle.prover.specs.declared.Next.the-variants.{Total, Message, Challenge, Ends, Openings}
+use Rattle.prover.specs.declared.Kind.{Kind}
+use Rattle.prover.specs.declared.Kind.the-variants.{Shut, Asked, Change}
+use Rattle.prover.specs.declared.Run.{Run}
+use Rattle.prover.specs.declared.Pass.{Pass}
+use Rattle.prover.specs.declared.Step.{Step}
+use Rattle.prover.specs.declared.Answer.the-variants as answer
+use Rattle.prover.specs.Records.{answeredStep, refusedStep, refusedAtStep}
+use Rattle.prover.specs.Order.{isTotal, roundOrEnds}
+use Rattle.prover.specs.Calls.{passOpen}
+use Rattle.prover.specs.Change.{emptyPass}
+use Rattle.prover.specs.Values.{valuesOf}
+
+-- the run with another next, total, message, end values or mode
+abbrev pub goneTo : Run → Next → Run
+goneTo r next =
+    record {
+      items = r .items;
+      rounds = r .rounds;
+      plain = r .plain;
+      mode = r .mode;
+      next = next;
+      round = r .round;
+      twists = r .twists;
+      challenges = r .challenges;
+      messages = r .messages;
+      total = r .total;
+      fend = r .fend;
+      gend = r .gend;
+    }
+
+abbrev pub withTotal : Run → ℤ → Run
+withTotal r total =
+    record {
+      items = r .items;
+      rounds = r .rounds;
+      plain = r .plain;
+      mode = r .mode;
+      next = roundOrEnds 0 (r .rounds);
+      round = r .round;
+      twists = r .twists;
+      challenges = r .challenges;
+      messages = r .messages;
+      total = total;
+      fend = r .fend;
+      gend = r .gend;
+    }
+
+abbrev pub withEnds : Run → ℕ → ℕ → Run
+withEnds r f g =
+    record {
+      items = r .items;
+      rounds = r .rounds;
+      plain = r .plain;
+      mode = r .mode;
+      next = Openings;
+      round = r .round;
+      twists = r .twists;
+      challenges = r .challenges;
+      messages = r .messages;
+      total = r .total;
+      fend = f;
+      gend = g;
+    }
+
+abbrev pub inFull : Run → Run
+inFull r =
+    record {
+      items = r .items;
+      rounds = r .rounds;
+      plain = r .plain;
+      mode = Full;
+      next = r .next;
+      round = r .round;
+      twists = r .twists;
+      challenges = r .challenges;
+      messages = r .messages;
+      total = r .total;
+      fend = r .fend;
+      gend = r .gend;
+    }
+
+-- the pass record that a close hands back
+abbrev pub shutPass : Pass
+shutPass = emptyPass Shut
+
+-- "A twisted run's total is a field number and has no limit"
+abbrev pub totalStep : Run → Pass → Step
+totalStep r s =
+    cond (r .plain) (answeredStep (withTotal r (s .total)) shutPass (answer.Total (s .total)))
+    (answeredStep (goneTo r (roundOrEnds 0 (r .rounds))) shutPass (answer.FieldTotal (s .dot)))
+
+-- the one level-n entry of each stack
+abbrev pub endsStep : Run → Pass → Step
+endsStep r s =
+    let f : ℕ = getD (s .fvalues) 0 0 in
+    let g : ℕ = getD (s .gvalues) 0 0 in
+    answeredStep (withEnds r f g) shutPass (answer.Ends f g)
+
+abbrev pub changedStep : Run → Step
+changedStep r = answeredStep (inFull r) shutPass answer.Changed
+
+-- 7: a plain total within its limits
+abbrev pub totalFits : ℕ → Run → Pass → Bool
+totalFits p r s = cond (isTotal (r .next)) (cond (r .plain) (inLimits p (s .total)) true) true
+
+-- the three numbers of message i, from place 3i on
+abbrev pub keptMessage : List ℕ → ℕ → ℕ → ℕ → ℕ → List ℕ
+keptMessage messages i even cross odd = set (set (set messages (3 * i) even) (3 * i + 1) cross) (3 * i + 2) odd
+
+abbrev pub withMessage : Run → ℕ → ℕ → ℕ → Run
+withMessage r even cross odd =
+    record {
+      items = r .items;
+      rounds = r .rounds;
+      plain = r .plain;
+      mode = r .mode;
+      next = Challenge;
+      round = r .round;
+      twists = r .twists;
+      challenges = r .challenges;
+      messages = keptMessage (r .messages) (r .round) even cross odd;
+      total = r .total;
+      fend = r .fend;
+      gend = r .gend;
+    }
+
+abbrev pub messageStep : Run → Pass → Step
+messageStep r s =
+    answeredStep (withMessage r (s .even) (s .cross) (s .odd)) shutPass (answer.Message (s .even) (s .cross) (s .odd))
+
+-- the run stays where it is: "for as many points as wanted"
+abbrev pub openingStep : Run → Pass → Step
+openingStep r s = record { run = r; pass = shutPass; answer = answer.Opening; values = valuesOf (s .evals) (r .rounds) }
+
+-- what a pass that is whole answers
+abbrev pub finished : Run → Pass → Next → Outcome Step
+finished r s Total = answered (totalStep r s)
+finished r s Message = answered (messageStep r s)
+finished r s Challenge = refused number.order
+finished r s Ends = answered (endsStep r s)
+finished r s Openings = answered (openingStep r s)
+
+abbrev pub closing : Run → Pass → Kind → Outcome Step
+closing r s Shut = refused number.order
+closing r s Asked = finished r s (r .next)
+closing r s Change = answered (changedStep r)
+
+-- 10 no pass; 8 items wanting; 7, which leaves the pass open
+unfoldable pub closeCall : ℕ → Run → Pass → Outcome Step
+closeCall p r s =
+    require (passOpen p r s) number.order
+    (require (eqb (s .taken) (r .items)) number.items (require (totalFits p r s) number.total (closing r s (s .kind))))
+
+-- a call with no buffers
+abbrev pub leavesStep : Run → Pass → Outcome Step → Step
+leavesStep r s (answered o) = o
+leavesStep r s (refused k) = refusedStep r s k
+leavesStep r s (refusedAt k i) = refusedAtStep r s k i

@@ -1,0 +1,15 @@
+pub mod Records
+pub mod WellFormed
+pub mod Order
+pub mod Open
+pub mod Take
+pub mod Calls
+pub mod Change
+pub mod Values
+pub mod Close
+pub mod Written
+pub mod Start
+pub mod StartExample
+pub mod Full
+pub mod Challenge
+pub mod Opening

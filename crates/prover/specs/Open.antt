@@ -1,0 +1,93 @@
+-- The calls that open a pass of small mode, and the return to small mode, which is refused.
+use Prim.Native.Nat.{ℕ}
+use mathlib.Core.Bool.{Bool, true, false, cond}
+use mathlib.Core.List.{[]}
+use lib.Dec.{ltb}
+use lib.IntN.{pos}
+use Rattle.refusal.specs.Number as number
+use Rattle.refusal.specs.Outcome.{Outcome, answered, refused, require}
+use Rattle.algebra.specs.Mod.{negMod, mulMod}
+use Rattle.vector.specs.Slice.{isNonzero}
+use Rattle.vector.specs.declared.kernel.Kernel.{Kernel}
+use Rattle.vector.specs.declared.kernel.Points.{Points}
+use Rattle.vector.specs.Kernel.{emptyKernel, paddingKernel}
+use Rattle.prover.specs.declared.Next.{Next}
+use Rattle.prover.specs.declared.Next.the-variants.{Total, Message, Challenge, Ends, Openings}
+use Rattle.prover.specs.declared.Kind.{Kind}
+use Rattle.prover.specs.declared.Kind.the-variants.{Asked}
+use Rattle.prover.specs.declared.Run.{Run}
+use Rattle.prover.specs.declared.Pass.{Pass}
+use Rattle.prover.specs.declared.Answer.the-variants as answer
+use Rattle.prover.specs.Records.{Out, out, answeredStep, isSmall}
+use Rattle.prover.specs.Order.{isTotal, levelOf, padding}
+pub use Rattle.prover.specs.Order.{isOpenings}
+use Rattle.prover.specs.WellFormed.{wellFormed}
+
+-- a pass that has taken no item, with its kernel
+abbrev pub newPass : Kind → Points → Kernel → Pass
+newPass kind points k =
+    record {
+      kind = kind;
+      taken = 0;
+      total = pos 0;
+      dot = 0;
+      points = points;
+      flevels = k .flevels;
+      fvalues = k .fvalues;
+      fcount = k .fcount;
+      glevels = k .glevels;
+      gvalues = k .gvalues;
+      gcount = k .gcount;
+      even = k .even;
+      cross = k .cross;
+      odd = k .odd;
+      evals = k .evals;
+    }
+
+-- a pass that evaluates nothing
+abbrev pub noPoints : Points
+noPoints = record { on = false; point = 0; minus = 0; square = 0 }
+
+-- "Opening at point b": b, -b, b squared
+abbrev pub pointsOf : ℕ → ℕ → Points
+pointsOf p b = record { on = true; point = b; minus = negMod p b; square = mulMod p b b }
+
+-- what open opens a pass for: the openings have a call of their own, with the point
+abbrev pub openNext : Next → Bool
+openNext Total = true
+openNext Message = true
+openNext Challenge = false
+openNext Ends = true
+openNext Openings = false
+
+-- "In small mode each answer needs a pass": the run is small, and a pass is next
+abbrev pub mayOpen : ℕ → Run → Pass → Bool
+mayOpen p r s = cond (wellFormed p r s) (cond (isSmall (r .mode)) (openNext (r .next)) false) false
+
+-- the run is small, the openings are next and there are rounds: "openings .. with n = 0" are refused
+abbrev pub mayOpenAt : ℕ → Run → Pass → Bool
+mayOpenAt p r s = cond (wellFormed p r s) (cond (isSmall (r .mode)) (cond (isOpenings (r .next)) (ltb 0 (r .rounds)) false) false) false
+
+-- "A small pass takes the padding by itself", folding to the level of what is next
+abbrev pub paddedKernel : Run → Kernel
+paddedKernel r = paddingKernel (padding r) (levelOf r Asked)
+
+-- a pass for the total has no stack
+abbrev pub openKernel : Run → Kernel
+openKernel r = cond (isTotal (r .next)) emptyKernel (paddedKernel r)
+
+abbrev pub opened : Run → Points → Kernel → Out
+opened r points k = out (answeredStep r (newPass Asked points k) answer.Opened) [] []
+
+-- "opening a pass anew drops the unfinished one": nothing of the given pass is in the new one
+unfoldable pub openCall : ℕ → Run → Pass → Outcome Out
+openCall p r s = require (mayOpen p r s) number.order (answered (opened r noPoints (openKernel r)))
+
+unfoldable pub openAtCall : ℕ → Run → Pass → ℕ → Outcome Out
+openAtCall p r s b =
+    require (mayOpenAt p r s) number.order
+    (require (isNonzero p b) number.argument (answered (opened r (pointsOf p b) (paddedKernel r))))
+
+-- "A change between a message and its challenge is refused, and so is full to small"
+unfoldable pub toSmallCall : Run → Pass → Outcome Out
+toSmallCall r s = refused number.order

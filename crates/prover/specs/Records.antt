@@ -1,0 +1,109 @@
+-- The records of a run, what a call hands back, and that a refusal changes nothing.
+use Prim.Native.Nat.{ℕ}
+use mathlib.Core.Bool.{Bool, true, false}
+use mathlib.Core.List.{List}
+use lib.ListN.{replicate}
+use Rattle.refusal.specs.Outcome.{Outcome, answered, refused, refusedAt}
+use Rattle.vector.specs.declared.kernel.Kernel.{Kernel}
+use Rattle.prover.specs.declared.Mode.{Mode}
+use Rattle.prover.specs.declared.Mode.the-variants.{Small, Full}
+use Rattle.prover.specs.declared.Next.{Next}
+use Rattle.prover.specs.declared.Next.the-variants as next
+use Rattle.prover.specs.declared.Kind.{Kind}
+use Rattle.prover.specs.declared.Kind.the-variants.{Shut, Asked, Change}
+use Rattle.prover.specs.declared.Run.{Run}
+use Rattle.prover.specs.declared.Pass.{Pass}
+use Rattle.prover.specs.declared.Step.{Step}
+use Rattle.prover.specs.declared.Check.{Check}
+use Rattle.prover.specs.declared.Check.the-variants as check
+use Rattle.prover.specs.declared.Answer.{Answer}
+use Rattle.prover.specs.declared.Answer.the-variants as answer
+
+-- the part of a pass that the kernel works on
+abbrev pub kernelOf : Pass → Kernel
+kernelOf s =
+    record {
+      flevels = s .flevels;
+      fvalues = s .fvalues;
+      fcount = s .fcount;
+      glevels = s .glevels;
+      gvalues = s .gvalues;
+      gcount = s .gcount;
+      even = s .even;
+      cross = s .cross;
+      odd = s .odd;
+      evals = s .evals;
+    }
+
+abbrev pub withKernel : Pass → Kernel → Pass
+withKernel s k =
+    record {
+      kind = s .kind;
+      taken = s .taken;
+      total = s .total;
+      dot = s .dot;
+      points = s .points;
+      flevels = k .flevels;
+      fvalues = k .fvalues;
+      fcount = k .fcount;
+      glevels = k .glevels;
+      gvalues = k .gvalues;
+      gcount = k .gcount;
+      even = k .even;
+      cross = k .cross;
+      odd = k .odd;
+      evals = k .evals;
+    }
+
+-- no values beside the answer
+abbrev pub noValues : List ℕ
+noValues = replicate 90 0
+
+-- what a call hands back, with the two lent buffers as it leaves them
+pub record Out : Type 0 where
+  pub run : Run
+  pub pass : Pass
+  pub answer : Answer
+  pub values : List ℕ
+  pub f : List ℕ
+  pub g : List ℕ
+
+abbrev pub out : Step → List ℕ → List ℕ → Out
+out s f g = record { run = s .run; pass = s .pass; answer = s .answer; values = s .values; f = f; g = g }
+
+abbrev pub answeredStep : Run → Pass → Answer → Step
+answeredStep r s a = record { run = r; pass = s; answer = a; values = noValues }
+
+abbrev pub refusedStep : Run → Pass → ℕ → Step
+refusedStep r s k = answeredStep r s (answer.Refused k)
+
+abbrev pub refusedAtStep : Run → Pass → ℕ → ℕ → Step
+refusedAtStep r s k i = answeredStep r s (answer.RefusedAt k i)
+
+-- "state and buffers are unchanged": what each outcome of a call leaves of what it was given
+abbrev pub leaves : Run → Pass → List ℕ → List ℕ → Outcome Out → Out
+leaves r s f g (answered o) = o
+leaves r s f g (refused k) = out (refusedStep r s k) f g
+leaves r s f g (refusedAt k i) = out (refusedAtStep r s k i) f g
+
+abbrev pub isSmall : Mode → Bool
+isSmall Small = true
+isSmall Full = false
+
+abbrev pub isFull : Mode → Bool
+isFull Small = false
+isFull Full = true
+
+abbrev pub isOpen : Kind → Bool
+isOpen Shut = false
+isOpen Asked = true
+isOpen Change = true
+
+abbrev pub isChange : Kind → Bool
+isChange Shut = false
+isChange Asked = false
+isChange Change = true
+
+abbrev pub passed : Check → Bool
+passed check.Passed = true
+passed check.Failed = false

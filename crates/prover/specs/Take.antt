@@ -1,0 +1,90 @@
+-- What an answered item does: to the total, to the stacks, and, in a change pass, to the buffers.
+use Prim.Native.Nat.{ℕ, _+_, _-_, _/_, _^_}
+use mathlib.Core.Bool.{Bool, false, cond}
+use mathlib.Core.List.{List}
+use lib.Dec.{eqb}
+use lib.ListN.{set}
+use Rattle.algebra.specs.Mod.{addMod, mulMod}
+use Rattle.field.specs.Total.{plusItem}
+use Rattle.vector.specs.Vector.{at, weight}
+use Rattle.vector.specs.declared.item.Item.{Item}
+use Rattle.vector.specs.declared.kernel.Entered.{Entered}
+use Rattle.vector.specs.Kernel.{entered}
+use Rattle.prover.specs.declared.Run.{Run}
+use Rattle.prover.specs.declared.Pass.{Pass}
+use Rattle.prover.specs.declared.Answer.the-variants as answer
+use Rattle.prover.specs.Records.{kernelOf, withKernel, Out, out, answeredStep, isChange}
+use Rattle.prover.specs.Order.{isTotal, levelOf, foldSize, padding}
+
+-- the index of the next item: "from index L-1 down"
+abbrev pub nextIndex : Run → Pass → ℕ
+nextIndex r s = r .items - 1 - s .taken
+
+-- "Item i of f is first multiplied by the product of those v_k with b_k = 1"; the twists of a plain run are 1
+unfoldable pub entering : ℕ → Run → Pass → Item → ℕ
+entering p r s x = cond (r .plain) (x .f) (mulMod p (x .f) (weight p (at (r .twists)) (r .rounds) (nextIndex r s)))
+
+-- one more item taken
+abbrev pub oneMore : Pass → Pass
+oneMore s =
+    record {
+      kind = s .kind;
+      taken = s .taken + 1;
+      total = s .total;
+      dot = s .dot;
+      points = s .points;
+      flevels = s .flevels;
+      fvalues = s .fvalues;
+      fcount = s .fcount;
+      glevels = s .glevels;
+      gvalues = s .gvalues;
+      gcount = s .gcount;
+      even = s .even;
+      cross = s .cross;
+      odd = s .odd;
+      evals = s .evals;
+    }
+
+-- a pass for the total sums, and has no stack
+unfoldable pub summedItem : ℕ → Pass → Item → ℕ → Pass
+summedItem p s x f =
+    record {
+      kind = s .kind;
+      taken = s .taken + 1;
+      total = plusItem (s .total) (x .reading) (x .weight);
+      dot = addMod p (s .dot) (mulMod p f (x .g));
+      points = s .points;
+      flevels = s .flevels;
+      fvalues = s .fvalues;
+      fcount = s .fcount;
+      glevels = s .glevels;
+      gvalues = s .gvalues;
+      gcount = s .gcount;
+      even = s .even;
+      cross = s .cross;
+      odd = s .odd;
+      evals = s .evals;
+    }
+
+-- a pair enters the stacks
+unfoldable pub enteredItem : ℕ → Run → Pass → ℕ → ℕ → Entered
+enteredItem p r s f g = entered p (r .challenges) (levelOf r (s .kind)) (s .points) (kernelOf s) f g
+
+-- the place of the current fold that a pair completes, where t pairs came before it
+abbrev pub placeOf : Run → Pass → ℕ
+placeOf r s = foldSize r - 1 - (padding r + s .taken) / 2 ^ levelOf r (s .kind)
+
+-- "each place by the call that completes its value"
+abbrev pub placeDone : Run → Pass → ℕ → Bool
+placeDone r s level = cond (isChange (s .kind)) (eqb level (levelOf r (s .kind))) false
+
+-- a buffer after a pair entered
+abbrev pub placedIn : Run → Pass → Entered → ℕ → List ℕ → List ℕ
+placedIn r s e value buffer = cond (placeDone r s (e .level)) (set buffer (placeOf r s) value) buffer
+
+unfoldable pub takes : ℕ → Run → Pass → Item → List ℕ → List ℕ → Out
+takes p r s x f g =
+    let a : ℕ = entering p r s x in
+    let e : Entered = enteredItem p r s a (x .g) in
+    cond (isTotal (r .next)) (out (answeredStep r (summedItem p s x a) answer.Taken) f g)
+    (out (answeredStep r (withKernel (oneMore s) (e .kernel)) answer.Taken) (placedIn r s e (e .f) f) (placedIn r s e (e .g) g))

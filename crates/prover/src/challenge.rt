@@ -1,0 +1,79 @@
+// A challenge: in small mode the run keeps it; in full mode both lent folds are folded too.
+ghost use mathlib.Core.Path.{_≡_};
+ghost use Prim.Native.Nat.{_<_};
+ghost use Rattle.prover.specs.Records.{out, leaves};
+ghost use Rattle.prover.specs.Order.{roundOrEnds};
+ghost use Rattle.prover.specs.Challenge.{keptChallenge, challengedSmall, challengedFull, challengeCall};
+use super::Answer;
+use super::Check;
+use super::Pass;
+use super::Run;
+use super::Step;
+use super::answers::answered;
+use super::answers::refuse;
+use super::checks;
+use super::formed;
+use super::full_checks;
+use super::levels;
+use field::Field;
+
+fn keep_challenge(run: Run, c: u32) -> Run
+    requires { ⌜ run .round < 15 ⌝ }
+    ensures { λ r. ⌜ r ≡ keptChallenge run c ⌝ }
+{
+    let at = run.round as usize;
+    let mut challenges = run.challenges;
+    challenges[at] = c;
+    let round = run.round + 1;
+    let next = super::close::round_or_ends(round, run.rounds);
+    Run {
+        challenges,
+        round,
+        next,
+        ..run
+    }
+}
+
+// A challenge in small mode. Nothing is lent.
+fn challenge_small(run: Run, pass: Pass, c: u32) -> Step
+    requires { ⌜ run .round < 15 ⌝ }
+    ensures { λ r. ⌜ r ≡ challengedSmall run pass c ⌝ }
+{
+    answered(keep_challenge(run, c), pass, Answer::Challenged)
+}
+
+// A challenge in full mode: "writes as many as the new fold is long; all other places stay".
+fn challenge_full(run: Run, pass: Pass, c: u32, f: &mut [u32], g: &mut [u32]) -> Step
+    requires { ⌜ run .round < 15 ⌝ }
+    ensures { λ r. ⌜ out r (now (f .exit)) (now (g .exit)) ≡ challengedFull 2147483647 run pass c (now (f .entry)) (now (g .entry)) ⌝ }
+{
+    let half = (levels::fold_size(run) / 2) as usize;
+    vector::slice::fold(Field::MODULUS, c, f, half);
+    vector::slice::fold(Field::MODULUS, c, g, half);
+    answered(keep_challenge(run, c), pass, Answer::Challenged)
+}
+
+impl Run {
+    // The buffers matter in full mode only.
+    pub fn challenge(self, pass: Pass, c: u32, f: &mut [u32], g: &mut [u32]) -> Step
+        ensures { λ r. ⌜ out r (now (f .exit)) (now (g .exit)) ≡ leaves self pass (now (f .entry)) (now (g .entry)) (challengeCall 2147483647 self pass c (now (f .entry)) (now (g .entry))) ⌝ }
+    {
+        let Check::Passed = full_checks::challenge_next(self, pass) else {
+            return refuse(self, pass, refusal::ORDER);
+        };
+        let Check::Passed = full_checks::number_ok(c) else {
+            return refuse(self, pass, refusal::ARGUMENT);
+        };
+        let mode = self.mode;
+        if formed::is_small(mode) {
+            return challenge_small(self, pass, c);
+        }
+        let Check::Passed = checks::both_long(self, f.len(), g.len()) else {
+            return refuse(self, pass, refusal::BUFFER);
+        };
+        let Check::Passed = full_checks::both_reduced(self, f, g) else {
+            return refuse(self, pass, refusal::VECTOR);
+        };
+        challenge_full(self, pass, c, f, g)
+    }
+}

@@ -1,0 +1,114 @@
+// The change to full mode: its pass is opened here, and its items write the buffers.
+ghost use mathlib.Core.Path.{_≡_};
+ghost use Prim.Native.Nat.{_+_, _≤_, _<_, _^_};
+ghost use Rattle.prover.specs.Records.{passed, out, leaves};
+ghost use Rattle.prover.specs.Change.{emptyPass, changeAt, mayChange, paddingPlaces, cleared, paddedBuffer, changePass, changes, toFullCall};
+use super::Answer;
+use super::Check;
+use super::Kind;
+use super::Next;
+use super::Pass;
+use super::Run;
+use super::Step;
+use super::answers::answered;
+use super::answers::refuse;
+use super::checks;
+use super::formed;
+use super::items::write;
+use super::levels;
+use super::open;
+
+// A pass of a kind that has taken nothing.
+pub fn empty_pass(kind: Kind) -> Pass
+    ensures { λ r. ⌜ r ≡ emptyPass kind ⌝ }
+{
+    open::new_pass(kind, open::no_points(), vector::kernel::empty())
+}
+
+fn change_at(next: Next, rounds: u32) -> bool
+    ensures { λ r. ⌜ r ≡ changeAt next rounds ⌝ }
+{
+    match next {
+        Next::Total => false,
+        Next::Message => true,
+        Next::Challenge => false,
+        Next::Ends => true,
+        Next::Openings => 0 < rounds,
+    }
+}
+
+// 10: small, before a later pass.
+fn may_change(run: Run, pass: Pass) -> Check
+    ensures { λ r. ⌜ passed r ≡ mayChange 2147483647 run pass ⌝ }
+{
+    if formed::well_formed(run, pass) {} else {
+        return Check::Failed;
+    }
+    let mode = run.mode;
+    if formed::is_small(mode) {} else {
+        return Check::Failed;
+    }
+    let next = run.next;
+    if change_at(next, run.rounds) {
+        return Check::Passed;
+    }
+    Check::Failed
+}
+
+fn clear(v: &mut [u32], from: usize, count: usize)
+    requires { ⌜ from + count < 2 ^ 64 ⌝ }
+    ensures { λ r. ⌜ now (v .exit) ≡ cleared from count (now (v .entry)) ⌝ }
+{
+    let mut k: usize = 0;
+    while k < count {
+        write(v, from + k, 0);
+        k += 1;
+    }
+}
+
+// How many places of the fold the padding completes.
+fn padding_places(run: Run) -> u32
+    requires { ⌜ (run .rounds ≤ 15) × (run .round ≤ run .rounds) ⌝ }
+    ensures { λ r. ⌜ r ≡ paddingPlaces run ⌝ }
+{
+    let level = levels::level_of(run, Kind::Change);
+    levels::padding_of(run) >> level
+}
+
+fn pad_buffer(run: Run, v: &mut [u32])
+    requires { ⌜ (run .rounds ≤ 15) × (run .round ≤ run .rounds) ⌝ }
+    ensures { λ r. ⌜ now (v .exit) ≡ paddedBuffer run (now (v .entry)) ⌝ }
+{
+    let size = levels::fold_size(run);
+    let count = padding_places(run);
+    if size < count {
+        clear(v, 0, count as usize);
+        return;
+    }
+    clear(v, (size - count) as usize, count as usize);
+}
+
+fn change_pass(run: Run) -> Pass
+    ensures { λ r. ⌜ r ≡ changePass run ⌝ }
+{
+    let level = levels::level_of(run, Kind::Change);
+    let kernel = vector::kernel::padding(levels::padding_of(run), level);
+    open::new_pass(Kind::Change, open::no_points(), kernel)
+}
+
+impl Run {
+    // Opens the pass that changes to full mode, and writes the places that the padding completes.
+    pub fn to_full(self, pass: Pass, f: &mut [u32], g: &mut [u32]) -> Step
+        ensures { λ r. ⌜ out r (now (f .exit)) (now (g .exit)) ≡ leaves self pass (now (f .entry)) (now (g .entry)) (toFullCall 2147483647 self pass (now (f .entry)) (now (g .entry))) ⌝ }
+    {
+        let Check::Passed = may_change(self, pass) else {
+            return refuse(self, pass, refusal::ORDER);
+        };
+        let Check::Passed = checks::both_long(self, f.len(), g.len()) else {
+            return refuse(self, pass, refusal::BUFFER);
+        };
+        pad_buffer(self, f);
+        pad_buffer(self, g);
+        answered(self, change_pass(self), Answer::Opened)
+    }
+}

@@ -1,0 +1,206 @@
+// The close of a pass: in small mode each answer comes with it.
+ghost use mathlib.Core.Path.{_≡_};
+ghost use Prim.Native.Nat.{_≤_, _<_};
+ghost use mathlib.Core.Bool.{true};
+ghost use lib.Dec.{eqb};
+ghost use Rattle.prover.specs.Records.{passed};
+ghost use Rattle.prover.specs.Order.{roundOrEnds};
+ghost use Rattle.prover.specs.WellFormed.{roundFits};
+ghost use Rattle.prover.specs.Close.{totalFits, totalStep, messageStep, endsStep, openingStep, changedStep, finished, closing, closeCall, leavesStep, goneTo, withMessage, withEnds, inFull};
+use super::Answer;
+use super::Check;
+use super::Kind;
+use super::Mode;
+use super::Next;
+use super::Pass;
+use super::Run;
+use super::Step;
+use super::answers::answered;
+use super::answers::refuse;
+use super::change::empty_pass;
+use super::checks;
+use super::levels;
+use super::values;
+use field::Field;
+
+// 8: no item is wanting.
+fn all_taken(run: Run, pass: Pass) -> Check
+    ensures { λ r. ⌜ passed r ≡ eqb (pass .taken) (run .items) ⌝ }
+{
+    if pass.taken == run.items {
+        return Check::Passed;
+    }
+    Check::Failed
+}
+
+// 7: a plain total within its limits.
+fn total_fits(run: Run, pass: Pass) -> Check
+    ensures { λ r. ⌜ passed r ≡ totalFits 2147483647 run pass ⌝ }
+{
+    let next = run.next;
+    if levels::is_total(next) {} else {
+        return Check::Passed;
+    }
+    if run.plain {} else {
+        return Check::Passed;
+    }
+    if field::total::within(Field::MODULUS, pass.total) {
+        return Check::Passed;
+    }
+    Check::Failed
+}
+
+// After the total, and after a challenge.
+pub fn round_or_ends(round: u32, rounds: u32) -> Next
+    ensures { λ r. ⌜ r ≡ roundOrEnds round rounds ⌝ }
+{
+    if round < rounds {
+        return Next::Message;
+    }
+    Next::Ends
+}
+
+pub fn gone_to(run: Run, next: Next) -> Run
+    ensures { λ r. ⌜ r ≡ goneTo run next ⌝ }
+{
+    Run { next, ..run }
+}
+
+fn close_total(run: Run, pass: Pass) -> Step
+    ensures { λ r. ⌜ r ≡ totalStep run pass ⌝ }
+{
+    let next = round_or_ends(0, run.rounds);
+    let shut = empty_pass(Kind::Shut);
+    if run.plain {
+        let total = pass.total;
+        return answered(Run { next, total, ..run }, shut, Answer::Total(total));
+    }
+    answered(gone_to(run, next), shut, Answer::FieldTotal(pass.dot))
+}
+
+// The run with the message of its round.
+pub(crate) fn keep_message(run: Run, even: u32, cross: u32, odd: u32) -> Run
+    requires { ⌜ run .round < 15 ⌝ }
+    ensures { λ r. ⌜ r ≡ withMessage run even cross odd ⌝ }
+{
+    let at = 3 * (run.round as usize);
+    let mut messages = run.messages;
+    messages[at] = even;
+    messages[at + 1] = cross;
+    messages[at + 2] = odd;
+    Run {
+        next: Next::Challenge,
+        messages,
+        ..run
+    }
+}
+
+fn close_message(run: Run, pass: Pass) -> Step
+    requires { ⌜ run .round < 15 ⌝ }
+    ensures { λ r. ⌜ r ≡ messageStep run pass ⌝ }
+{
+    let after = keep_message(run, pass.even, pass.cross, pass.odd);
+    answered(
+        after,
+        empty_pass(Kind::Shut),
+        Answer::Message(pass.even, pass.cross, pass.odd),
+    )
+}
+
+// The run with its end values.
+pub fn keep_ends(run: Run, f: u32, g: u32) -> Run
+    ensures { λ r. ⌜ r ≡ withEnds run f g ⌝ }
+{
+    Run {
+        next: Next::Openings,
+        fend: f,
+        gend: g,
+        ..run
+    }
+}
+
+fn close_ends(run: Run, pass: Pass) -> Step
+    ensures { λ r. ⌜ r ≡ endsStep run pass ⌝ }
+{
+    let fvalues = pass.fvalues;
+    let gvalues = pass.gvalues;
+    let f = fvalues[0];
+    let g = gvalues[0];
+    answered(
+        keep_ends(run, f, g),
+        empty_pass(Kind::Shut),
+        Answer::Ends(f, g),
+    )
+}
+
+fn close_openings(run: Run, pass: Pass) -> Step
+    ensures { λ r. ⌜ r ≡ openingStep run pass ⌝ }
+{
+    let evals = pass.evals;
+    let values = values::values_of(evals, run.rounds);
+    Step {
+        run,
+        pass: empty_pass(Kind::Shut),
+        answer: Answer::Opening,
+        values,
+    }
+}
+
+fn in_full(run: Run) -> Run
+    ensures { λ r. ⌜ r ≡ inFull run ⌝ }
+{
+    Run {
+        mode: Mode::Full,
+        ..run
+    }
+}
+
+fn close_change(run: Run) -> Step
+    ensures { λ r. ⌜ r ≡ changedStep run ⌝ }
+{
+    answered(in_full(run), empty_pass(Kind::Shut), Answer::Changed)
+}
+
+fn finish(run: Run, pass: Pass) -> Step
+    requires { ⌜ (roundFits (run .next) (run .round) (run .rounds) ≡ true) × (run .rounds ≤ 15) ⌝ }
+    ensures { λ r. ⌜ r ≡ leavesStep run pass (finished run pass (run .next)) ⌝ }
+{
+    let next = run.next;
+    match next {
+        Next::Total => close_total(run, pass),
+        Next::Message => close_message(run, pass),
+        Next::Challenge => refuse(run, pass, refusal::ORDER),
+        Next::Ends => close_ends(run, pass),
+        Next::Openings => close_openings(run, pass),
+    }
+}
+
+fn close_kind(run: Run, pass: Pass) -> Step
+    requires { ⌜ (roundFits (run .next) (run .round) (run .rounds) ≡ true) × (run .rounds ≤ 15) ⌝ }
+    ensures { λ r. ⌜ r ≡ leavesStep run pass (closing run pass (pass .kind)) ⌝ }
+{
+    let kind = pass.kind;
+    match kind {
+        Kind::Shut => refuse(run, pass, refusal::ORDER),
+        Kind::Asked => finish(run, pass),
+        Kind::Change => close_change(run),
+    }
+}
+
+impl Run {
+    // Ends the open pass with its answer. A refused total leaves the pass open.
+    pub fn close(self, pass: Pass) -> Step
+        ensures { λ r. ⌜ r ≡ leavesStep self pass (closeCall 2147483647 self pass) ⌝ }
+    {
+        let Check::Passed = checks::pass_open(self, pass) else {
+            return refuse(self, pass, refusal::ORDER);
+        };
+        let Check::Passed = all_taken(self, pass) else {
+            return refuse(self, pass, refusal::ITEMS);
+        };
+        let Check::Passed = total_fits(self, pass) else {
+            return refuse(self, pass, refusal::TOTAL);
+        };
+        close_kind(self, pass)
+    }
+}

@@ -1,0 +1,113 @@
+// The prover of a run: document 01's unit, in small mode, in full mode and changing over. A run and its pass go in by value and come
+// back by value; a refused call hands both back unchanged and writes no buffer.
+pub mod answers;
+pub mod challenge;
+pub mod change;
+pub mod checks;
+pub mod close;
+pub mod formed;
+pub mod full;
+pub mod full_checks;
+pub mod items;
+pub mod kernels;
+pub mod levels;
+pub mod open;
+pub mod open_checks;
+pub mod opening;
+pub mod start;
+pub mod values;
+pub mod written;
+
+use vector::kernel::Evals;
+use vector::kernel::Points;
+
+pub enum Mode {
+    // Streaming: each answer takes a pass.
+    Small,
+    // In memory: both vectors lie in lent buffers and are folded there.
+    Full,
+}
+
+// What is next in the run. The round is the number of challenges taken.
+pub enum Next {
+    Total,
+    Message,
+    Challenge,
+    Ends,
+    Openings,
+}
+
+pub enum Kind {
+    // No pass is open.
+    Shut,
+    // A pass for what is next.
+    Asked,
+    // A change to full mode.
+    Change,
+}
+
+// 84 numbers: the start (L, n, plain), the mode and what is next, and what was taken and given.
+pub struct Run {
+    pub items: u32,
+    pub rounds: u32,
+    pub plain: bool,
+    pub mode: Mode,
+    pub next: Next,
+    pub round: u32,
+    pub twists: [u32; 15],
+    pub challenges: [u32; 15],
+    pub messages: [u32; 45],
+    pub total: i64,
+    pub fend: u32,
+    pub gend: u32,
+}
+
+// The two stacks with their counts, and beside them 107 numbers.
+pub struct Pass {
+    pub kind: Kind,
+    pub taken: u32,
+    pub total: i64,
+    pub dot: u32,
+    pub points: Points,
+    pub flevels: [u32; 16],
+    pub fvalues: [u32; 16],
+    pub fcount: usize,
+    pub glevels: [u32; 16],
+    pub gvalues: [u32; 16],
+    pub gcount: usize,
+    pub even: u32,
+    pub cross: u32,
+    pub odd: u32,
+    pub evals: Evals,
+}
+
+pub enum Answer {
+    Started,
+    Opened,
+    Taken,
+    Total(i64),
+    FieldTotal(u32),
+    Message(u32, u32, u32),
+    Challenged,
+    Ends(u32, u32),
+    // The values are beside the answer.
+    Opening,
+    Changed,
+    Written(usize),
+    Refused(u8),
+    RefusedAt(u8, u32),
+}
+
+// What a call hands back. `values` has an opening's 6n values in its first places, f before g; all other places are zero.
+pub struct Step {
+    pub run: Run,
+    pub pass: Pass,
+    pub answer: Answer,
+    pub values: [u32; 90],
+}
+
+// The answer of one check.
+pub enum Check {
+    Passed,
+    Failed,
+}

@@ -1,0 +1,126 @@
+// The calls that open a pass of small mode, and the return to small mode, which is refused.
+ghost use mathlib.Core.Path.{_≡_};
+ghost use mathlib.Core.List.{[]};
+ghost use Rattle.prover.specs.Records.{out, leaves};
+ghost use Rattle.prover.specs.Open.{newPass, noPoints, pointsOf, paddedKernel, openKernel, openCall, openAtCall, toSmallCall};
+use super::Answer;
+use super::Check;
+use super::Kind;
+use super::Pass;
+use super::Run;
+use super::Step;
+use super::answers::answered;
+use super::answers::refuse;
+use super::levels;
+use super::open_checks;
+use field::Field;
+use field::modular;
+use vector::kernel::Kernel;
+use vector::kernel::Points;
+
+// A pass that has taken no item.
+pub fn new_pass(kind: Kind, points: Points, k: Kernel) -> Pass
+    ensures { λ r. ⌜ r ≡ newPass kind points k ⌝ }
+{
+    let flevels = k.flevels;
+    let fvalues = k.fvalues;
+    let glevels = k.glevels;
+    let gvalues = k.gvalues;
+    let evals = k.evals;
+    Pass {
+        kind,
+        taken: 0,
+        total: 0,
+        dot: 0,
+        points,
+        flevels,
+        fvalues,
+        fcount: k.fcount,
+        glevels,
+        gvalues,
+        gcount: k.gcount,
+        even: k.even,
+        cross: k.cross,
+        odd: k.odd,
+        evals,
+    }
+}
+
+// A pass that evaluates nothing.
+pub fn no_points() -> Points
+    ensures { λ r. ⌜ r ≡ noPoints ⌝ }
+{
+    Points {
+        on: false,
+        point: 0,
+        minus: 0,
+        square: 0,
+    }
+}
+
+fn points_of(point: u32) -> Points
+    ensures { λ r. ⌜ r ≡ pointsOf 2147483647 point ⌝ }
+{
+    let minus = modular::neg(Field::MODULUS, point);
+    let square = modular::mul(Field::MODULUS, point, point);
+    Points {
+        on: true,
+        point,
+        minus,
+        square,
+    }
+}
+
+// The padding taken.
+fn padded_kernel(run: Run) -> Kernel
+    ensures { λ r. ⌜ r ≡ paddedKernel run ⌝ }
+{
+    let padding = levels::padding_of(run);
+    let level = levels::level_of(run, Kind::Asked);
+    vector::kernel::padding(padding, level)
+}
+
+// A pass for the total has no stack.
+fn open_kernel(run: Run) -> Kernel
+    ensures { λ r. ⌜ r ≡ openKernel run ⌝ }
+{
+    let next = run.next;
+    if levels::is_total(next) {
+        return vector::kernel::empty();
+    }
+    padded_kernel(run)
+}
+
+impl Run {
+    // A pass for the total, the next message or the ends (`open` is a word of the contract language).
+    pub fn open_pass(self, pass: Pass) -> Step
+        ensures { λ r. ⌜ out r [] [] ≡ leaves self pass [] [] (openCall 2147483647 self pass) ⌝ }
+    {
+        let Check::Passed = open_checks::may_open(self, pass) else {
+            return refuse(self, pass, refusal::ORDER);
+        };
+        let fresh = new_pass(Kind::Asked, no_points(), open_kernel(self));
+        answered(self, fresh, Answer::Opened)
+    }
+
+    // A pass for the openings at a point.
+    pub fn open_at(self, pass: Pass, point: u32) -> Step
+        ensures { λ r. ⌜ out r [] [] ≡ leaves self pass [] [] (openAtCall 2147483647 self pass point) ⌝ }
+    {
+        let Check::Passed = open_checks::may_open_at(self, pass) else {
+            return refuse(self, pass, refusal::ORDER);
+        };
+        let Check::Passed = open_checks::nonzero(point) else {
+            return refuse(self, pass, refusal::ARGUMENT);
+        };
+        let fresh = new_pass(Kind::Asked, points_of(point), padded_kernel(self));
+        answered(self, fresh, Answer::Opened)
+    }
+
+    // From full to small: refused.
+    pub fn to_small(self, pass: Pass) -> Step
+        ensures { λ r. ⌜ out r [] [] ≡ leaves self pass [] [] (toSmallCall self pass) ⌝ }
+    {
+        refuse(self, pass, refusal::ORDER)
+    }
+}

@@ -1,0 +1,105 @@
+// Openings in full mode: worked from fold 0, which the host lends again and which is only read.
+ghost use mathlib.Core.Path.{_≡_};
+ghost use Prim.Native.Nat.{_≤_, _^_};
+ghost use lib.ListN.{length};
+ghost use Rattle.vector.specs.Vector.{at};
+ghost use Rattle.vector.specs.Kernel.{emptyKernel};
+ghost use Rattle.vector.specs.Opening.{opening};
+ghost use Rattle.prover.specs.Records.{out, leaves};
+ghost use Rattle.prover.specs.Values.{inNinety};
+ghost use Rattle.prover.specs.Opening.{pointsAt, streamed, openingGiven, openingCall};
+use super::Answer;
+use super::Check;
+use super::Pass;
+use super::Run;
+use super::Step;
+use super::answers::refuse;
+use super::checks;
+use super::full_checks;
+use super::values;
+use field::Field;
+use field::modular;
+use vector::kernel::Kernel;
+use vector::kernel::Points;
+
+// The points of an opening pass at b: b, -b, b squared.
+fn points_at(b: u32) -> Points
+    ensures { λ r. ⌜ r ≡ pointsAt 2147483647 b ⌝ }
+{
+    Points {
+        on: true,
+        point: b,
+        minus: modular::neg(Field::MODULUS, b),
+        square: modular::mul(Field::MODULUS, b, b),
+    }
+}
+
+// The kernel of a pass over the first `count` places, "from last item to first".
+fn stream(
+    challenges: [u32; 15],
+    last: u32,
+    points: Points,
+    f: &[u32],
+    g: &[u32],
+    count: usize,
+) -> Kernel
+    requires { ⌜ (count ≤ length (now f)) × (count ≤ length (now g)) ⌝ }
+    ensures { λ r. ⌜ r ≡ streamed 2147483647 challenges last points (now (f .entry)) (now (g .entry)) count emptyKernel ⌝ }
+{
+    let mut k = vector::kernel::empty();
+    let mut i = count;
+    while i > 0 {
+        i -= 1;
+        let e = vector::kernel::enter(Field::MODULUS, challenges, last, points, k, f[i], g[i]);
+        let next = e.kernel;
+        k = next;
+    }
+    k
+}
+
+// The twists are in fold 0 already, so that its places enter as they are.
+fn opening_values(run: Run, b: u32, f: &[u32], g: &[u32]) -> [u32; 90]
+    requires { ⌜ (run .rounds ≤ 15) × (2 ^ run .rounds ≤ length (now f)) × (2 ^ run .rounds ≤ length (now g)) ⌝ }
+    ensures { λ r. ⌜ r ≡ inNinety (run .rounds) (opening 2147483647 (run .rounds) (at (run .challenges)) (at (now (f .entry))) (at (now (g .entry))) b) ⌝ }
+{
+    let challenges = run.challenges;
+    let count = vector::sizes::size_of(run.rounds, 0) as usize;
+    let points = points_at(b);
+    let kernel = stream(challenges, run.rounds, points, f, g, count);
+    let evals = kernel.evals;
+    values::values_of(evals, run.rounds)
+}
+
+// An answered opening.
+fn give_opening(run: Run, pass: Pass, b: u32, f: &[u32], g: &[u32]) -> Step
+    requires { ⌜ (run .rounds ≤ 15) × (2 ^ run .rounds ≤ length (now f)) × (2 ^ run .rounds ≤ length (now g)) ⌝ }
+    ensures { λ r. ⌜ out r (now (f .entry)) (now (g .entry)) ≡ openingGiven 2147483647 run pass b (now (f .entry)) (now (g .entry)) ⌝ }
+{
+    let values = opening_values(run, b, f, g);
+    Step {
+        run,
+        pass,
+        answer: Answer::Opening,
+        values,
+    }
+}
+
+impl Run {
+    pub fn opening(self, pass: Pass, point: u32, f: &[u32], g: &[u32]) -> Step
+        ensures { λ r. ⌜ out r (now (f .entry)) (now (g .entry)) ≡ leaves self pass (now (f .entry)) (now (g .entry)) (openingCall 2147483647 self pass point (now (f .entry)) (now (g .entry))) ⌝ }
+    {
+        let Check::Passed = full_checks::openings_next(self, pass) else {
+            return refuse(self, pass, refusal::ORDER);
+        };
+        let Check::Passed = full_checks::number_ok(point) else {
+            return refuse(self, pass, refusal::ARGUMENT);
+        };
+        let Check::Passed = checks::both_long(self, f.len(), g.len()) else {
+            return refuse(self, pass, refusal::BUFFER);
+        };
+        let Check::Passed = full_checks::both_reduced(self, f, g) else {
+            return refuse(self, pass, refusal::VECTOR);
+        };
+        give_opening(self, pass, point, f, g)
+    }
+}
