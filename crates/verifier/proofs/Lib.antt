@@ -1,0 +1,12 @@
+pub mod Invariant
+pub mod Faults
+pub mod EndSums
+pub mod Verdicts
+pub mod OpeningChecks
+pub mod Runs
+pub mod PlainRuns
+pub mod TwistedRuns
+pub mod RuleRuns
+pub mod Answered
+pub mod Kept
+pub mod TrueOpenings

@@ -1,0 +1,147 @@
+-- Demand 2 for plain runs: from an answered start, after the L items of the trip first to last, the total and n messages, the verdict is
+-- that of document 01 with the true end values of the padded vectors.
+use mathlib.Core.Path.{_≡_, refl, sym, ap, _∙_}
+use mathlib.Core.Bool.{true}
+use mathlib.Core.List.{List}
+use Prim.Native.Nat.{ℕ, zero, suc, _*_, _^_, _≤_, _<_}
+use native.Mathlib.Omega.{arith}
+use lib.IntN.{ℤ, pos, _*ℤ_, +ℤ-comm}
+use lib.ListN.{replicate}
+use borrow.Author.Tests.{lt-ltb}
+use Rattle.algebra.specs.Mod.{addMod, mulMod}
+use Rattle.algebra.proofs.Congruence.{residue-small}
+use Rattle.refusal.specs.Outcome.{answered}
+use Rattle.refusal.specs.Limit.{maxWeight}
+use Rattle.algebra.proofs.Laws.{add-commutes}
+use Rattle.field.specs.Integer.{image}
+use Rattle.field.specs.Total.{inLimits}
+use Rattle.field.proofs.Integers.{image-residue, image-step}
+use Rattle.vector.specs.Rounds.{roundsOf}
+use Rattle.vector.specs.Vector.{Vector, at, sum, dot, padded}
+use Rattle.vector.specs.Fold.{endValue}
+use Rattle.vector.specs.Message.{Message}
+use Rattle.vector.specs.Message as vector
+use Rattle.vector.specs.Slice.{fifteen}
+use Rattle.vector.proofs.Rounds.{rounds-enough}
+use Rattle.vector.proofs.Sums.{running-product}
+use Rattle.vector.proofs.Overwrite.{fifteen-at}
+use Rattle.vector.proofs.Messages.{dot-padded}
+use Rattle.verifier.specs.declared.Verifier.{Verifier}
+use Rattle.verifier.specs.declared.Answer.the-variants as answer
+use Rattle.verifier.specs.Records.{leaves, yes}
+use Rattle.verifier.specs.WellFormed.{inCount}
+use Rattle.verifier.specs.Starts.{listed, freshVerifier, plainVerifier}
+use Rattle.verifier.specs.Sums.{oneMore}
+use Rattle.verifier.specs.Claims.{closedWith}
+use Rattle.verifier.specs.Calls.{close, verdict}
+use Rattle.verifier.specs.Trips.{afterCalls, plainItems, messages, verdictOf, tripTotal}
+use Rattle.verifier.proofs.EndSums.{entered, state, open-while, item-taken, plain-parts, few, limit}
+use Rattle.verifier.proofs.Verdicts.{true-messages}
+use Rattle.verifier.proofs.Runs.{AllReduced, list-length, Run, reaches, ready-open, run-ends, run-verdict, close-next, message-reduced}
+
+-- the image of the trip's total is the scalar product
+trip-image : (p : ℕ) (readings : ℕ → ℤ) (weights : Vector) (m : ℕ)
+    → image p (tripTotal readings weights m) ≡ dot p m (λ i. image p (readings i)) weights
+unfolding tripTotal sum image
+trip-image p readings weights zero = refl
+trip-image p readings weights (suc m) =
+    let t = tripTotal readings weights m in
+    ap (image p) (+ℤ-comm t (readings m *ℤ pos (weights m)))
+    ∙ image-step p (readings m) (weights m) t
+    ∙ add-commutes p (mulMod p (image p (readings m)) (weights m)) (image p t)
+    ∙ ap (λ x. addMod p x (mulMod p (image p (readings m)) (weights m))) (trip-image p readings weights m)
+    ∙ running-product p (sum m (λ i. image p (readings i) * weights i)) (image p (readings m)) (weights m)
+
+module _ (p items : ℕ) (cs : List ℕ) (readings : ℕ → ℤ) (weights : Vector) where
+  -- document 01's f and g: readings and weights, then zeros
+  abbrev pub readingVector : Vector
+  readingVector = padded items (λ i. image p (readings i))
+
+  abbrev pub weightVector : Vector
+  weightVector = padded items weights
+
+  -- the verifier after the items
+  abbrev pub afterPlain : Verifier
+  afterPlain = afterCalls (plainItems p readings weights) (plainVerifier items cs) items
+
+  module _ (large : maxWeight < p) (count : inCount items ≡ true) (list : listed p (roundsOf items) cs ≡ true)
+      (fine : (i : ℕ) → i < items → weights i ≤ maxWeight) where
+    abbrev kept : List ℕ
+    kept = fifteen (roundsOf items) cs
+
+    abbrev plainState : ℕ → Verifier
+    plainState = state p items count true (replicate 15 0) kept (λ i. image p (readings i)) weights
+
+    plain-taken : (m : ℕ) → m < items
+        → plainItems p readings weights (plainState m) m
+        ≡ answered (record { verifier = oneMore p (plainState m) (image p (readings m)) (weights m); answer = answer.Taken })
+    unfolding freshVerifier state
+    plain-taken m h =
+        item-taken p (plainState m) _ (readings m) (weights m)
+        (open-while p items count true (replicate 15 0) kept (λ i. image p (readings i)) weights m (omega arith))
+        (lt-ltb m items h) refl (plain-parts p (readings m) (weights m) (fine m h))
+
+    plain-same : (i : ℕ) → i < items
+        → entered p (freshVerifier items (roundsOf items) true (replicate 15 0) kept) (λ i. image p (readings i)) i ≡ image p (readings i)
+    unfolding freshVerifier
+    plain-same i h = refl
+
+    abbrev plain-run : Run p
+    plain-run =
+        record {
+          items = items;
+          count = count;
+          plain = true;
+          twists = replicate 15 0;
+          challenges = kept;
+          c = at cs;
+          agree = fifteen-at (roundsOf items) cs (few items count) (omega (arith, list-length p (roundsOf items) cs list));
+          f = λ i. image p (readings i);
+          g = weights;
+          F = λ i. image p (readings i);
+          same = plain-same;
+          reduced-f = λ i h. image-residue p (readings i);
+          reduced-g = λ i h. residue-small p (weights i) (omega (arith, fine i h));
+          calls = plainItems p readings weights;
+          taken = plain-taken;
+        }
+
+    -- (a) THE RUNNING SUMS ARE THE TRUE END VALUES
+    pub plain-ends :
+        (afterPlain .fsum ≡ endValue p (at cs) (roundsOf items) readingVector)
+        × (afterPlain .gsum ≡ endValue p (at cs) (roundsOf items) weightVector)
+    plain-ends = run-ends p plain-run
+
+    plain-close : (total : ℤ) → inLimits p total ≡ true → leaves afterPlain (close p afterPlain total) .verifier ≡ closedWith (plainState items) (image p total)
+    unfolding freshVerifier state
+    plain-close total h =
+        ap (λ v. leaves v (close p v total) .verifier) (reaches p plain-run)
+        ∙ (rw (close-next p (plainState items) total (ready-open p plain-run) refl refl h))
+
+    -- (b) THE VERDICT, for any total within its limits and any messages of field numbers
+    pub plain-verdict : (total : ℤ) (m : ℕ → Message) → inLimits p total ≡ true → AllReduced p (roundsOf items) m
+        → verdict p (afterCalls (messages p m) (leaves afterPlain (close p afterPlain total) .verifier) (roundsOf items))
+        ≡ answered
+        (verdictOf p (at cs) (roundsOf items) (image p total) m
+        (mulMod p (endValue p (at cs) (roundsOf items) readingVector) (endValue p (at cs) (roundsOf items) weightVector)))
+    plain-verdict total m h reduced =
+        ap (λ v. verdict p (afterCalls (messages p m) v (roundsOf items))) (plain-close total h)
+        ∙ run-verdict p plain-run (image p total) m reduced
+
+    -- (d) COMPLETENESS: the trip's own total, if it is within its limits, with the messages of its vectors
+    pub plain-accepts : inLimits p (tripTotal readings weights items) ≡ true
+        → verdict p
+        (afterCalls (messages p (vector.message p (roundsOf items) (at cs) readingVector weightVector))
+        (leaves afterPlain (close p afterPlain (tripTotal readings weights items)) .verifier)
+        (roundsOf items))
+        ≡ answered yes
+    plain-accepts h =
+        let n = roundsOf items in
+        let m = vector.message p n (at cs) readingVector weightVector in
+        let product = mulMod p (endValue p (at cs) n readingVector) (endValue p (at cs) n weightVector) in
+        let claim : image p (tripTotal readings weights items) ≡ dot p (2 ^ n) readingVector weightVector =
+        trip-image p readings weights items
+        ∙ sym (dot-padded p items (2 ^ n) (rounds-enough items (limit items count)) (λ i. image p (readings i)) weights) in
+        plain-verdict (tripTotal readings weights items) m h (message-reduced p n (at cs) readingVector weightVector (omega arith))
+        ∙ ap answered
+        (ap (λ x. verdictOf p (at cs) n x m product) claim ∙ true-messages p n (at cs) readingVector weightVector)

@@ -1,0 +1,91 @@
+-- Each call: its checks in document 01's order (turn, then numbers), then what it does.
+use Prim.Native.Nat.{ℕ, _*_}
+use mathlib.Core.Bool.{Bool, true, false, cond, not}
+use mathlib.Core.List.{List}
+use mathlib.Core.Option.{Option, none, some}
+use lib.Dec.{eqb, ltb}
+use lib.IntN.{ℤ}
+use lib.ListN.{length}
+use Rattle.refusal.specs.Number as number
+use Rattle.refusal.specs.Outcome.{Outcome, answered, refused, refusedAt, require}
+use Rattle.field.specs.Number.{isReduced}
+use Rattle.field.specs.Integer.{image}
+use Rattle.field.specs.Total.{inLimits}
+use Rattle.vector.specs.declared.item.Item.{Item}
+use Rattle.vector.specs.Item.{plainParts, numberParts}
+use Rattle.vector.specs.Slice.{isNonzero, allReduced}
+use Rattle.verifier.specs.declared.Verifier.{Verifier}
+use Rattle.verifier.specs.declared.Step.{Step}
+use Rattle.verifier.specs.Records.{Finding, OpeningFinding}
+use Rattle.verifier.specs.WellFormed.{wellFormed}
+use Rattle.verifier.specs.Sums.{takes}
+use Rattle.verifier.specs.Claims.{messageOf3, closes, hears, finds}
+use Rattle.verifier.specs.Openings.{openingFinds}
+
+-- a record that a call returned, with its pass open
+unfoldable pub passOpen : Verifier → Bool
+passOpen v = cond (wellFormed v) (not (v .closed)) false
+
+-- an item's parts, or its refusal
+abbrev pub withParts : Option Item → Outcome Step → (Item → Outcome Step) → Outcome Step
+withParts none refusal rest = refusal
+withParts (some x) refusal rest = rest x
+
+-- the pass is open (10), an item is wanted (8), and it is of the run's kind (10); 5 with the item's index
+unfoldable pub item : ℕ → Verifier → ℤ → ℕ → Outcome Step
+item p v reading weight =
+    require (passOpen v) number.order
+    (require (ltb (v .taken) (v .items)) number.items
+    (require (v .plain) number.order
+    (withParts (plainParts p reading weight) (refusedAt number.weight (v .taken)) (λ x. answered (takes p v x)))))
+
+unfoldable pub fieldItem : ℕ → Verifier → ℕ → ℕ → Outcome Step
+fieldItem p v a b =
+    require (passOpen v) number.order
+    (require (ltb (v .taken) (v .items)) number.items
+    (require (not (v .plain)) number.order
+    (withParts (numberParts p a b) (refused number.vector) (λ x. answered (takes p v x)))))
+
+-- the total is tested against its limits before it is taken modulo p
+unfoldable pub close : ℕ → Verifier → ℤ → Outcome Step
+close p v total =
+    require (passOpen v) number.order
+    (require (eqb (v .taken) (v .items)) number.items
+    (require (v .plain) number.order (require (inLimits p total) number.total (answered (closes v (image p total))))))
+
+unfoldable pub closeClaim : ℕ → Verifier → ℕ → Outcome Step
+closeClaim p v claim =
+    require (passOpen v) number.order
+    (require (eqb (v .taken) (v .items)) number.items
+    (require (not (v .plain)) number.order (require (isReduced p claim) number.number (answered (closes v claim)))))
+
+-- 12 where the message is "before its pass is closed", "after the last or after a no"
+unfoldable pub messageTurn : Verifier → Bool
+messageTurn v = cond (v .closed) (cond (v .failed) false (ltb (v .round) (v .rounds))) false
+
+unfoldable pub allReduced3 : ℕ → ℕ → ℕ → ℕ → Bool
+allReduced3 p even cross odd = cond (isReduced p even) (cond (isReduced p cross) (isReduced p odd) false) false
+
+unfoldable pub message : ℕ → Verifier → ℕ → ℕ → ℕ → Outcome Step
+message p v even cross odd =
+    require (wellFormed v) number.order
+    (require (messageTurn v) number.turn
+    (require (allReduced3 p even cross odd) number.number (answered (hears p v (messageOf3 even cross odd)))))
+
+-- 12 where the verdict is asked for "before its pass is closed", or "before the last message without a no"
+unfoldable pub verdictTurn : Verifier → Bool
+verdictTurn v = cond (v .closed) (cond (v .failed) true (eqb (v .round) (v .rounds))) false
+
+unfoldable pub verdict : ℕ → Verifier → Outcome Finding
+verdict p v = require (wellFormed v) number.order (require (verdictTurn v) number.turn (answered (finds p v)))
+
+-- with n = 0 there are no openings
+unfoldable pub hasRounds : Verifier → Bool
+hasRounds v = cond (wellFormed v) (ltb 0 (v .rounds)) false
+
+unfoldable pub checkOpening : ℕ → Verifier → ℕ → List ℕ → Outcome OpeningFinding
+checkOpening p v b values =
+    require (hasRounds v) number.order
+    (require (isNonzero p b) number.argument
+    (require (eqb (length values) (6 * v .rounds)) number.argument
+    (require (allReduced p (length values) values) number.number (answered (openingFinds p v b values)))))

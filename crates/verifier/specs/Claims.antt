@@ -1,0 +1,85 @@
+-- The claim, the messages and the verdict: document 01, "The gateway".
+use Prim.Native.Nat.{ℕ, _+_}
+use mathlib.Core.Bool.{true, cond}
+use lib.Dec.{eqb}
+use Rattle.algebra.specs.Mod.{mulMod}
+use Rattle.vector.specs.Vector.{at}
+use Rattle.vector.specs.Message.{Message, passes, nextClaim}
+use Rattle.verifier.specs.declared.Verifier.{Verifier}
+use Rattle.verifier.specs.declared.Step.{Step}
+use Rattle.verifier.specs.declared.Answer.the-variants as answer
+use Rattle.verifier.specs.Records.{Finding, yes, no}
+
+abbrev pub messageOf3 : ℕ → ℕ → ℕ → Message
+messageOf3 even cross odd = record { even = even; cross = cross; odd = odd }
+
+-- "the claim becomes even + cross·c + odd·c²"
+abbrev pub nextOf : ℕ → ℕ → ℕ → ℕ → ℕ → ℕ
+nextOf p c even cross odd = nextClaim p (messageOf3 even cross odd) c
+
+-- "Its claim starts as the total"
+unfoldable pub closedWith : Verifier → ℕ → Verifier
+closedWith v claim =
+    record {
+      items = v .items;
+      rounds = v .rounds;
+      plain = v .plain;
+      twists = v .twists;
+      challenges = v .challenges;
+      closed = true;
+      taken = v .taken;
+      fsum = v .fsum;
+      gsum = v .gsum;
+      claim = claim;
+      round = v .round;
+      failed = v .failed;
+    }
+
+abbrev pub closes : Verifier → ℕ → Step
+closes v claim = record { verifier = closedWith v claim; answer = answer.Closed }
+
+-- after a message that passed
+unfoldable pub passedWith : ℕ → Verifier → Message → Verifier
+passedWith p v m =
+    record {
+      items = v .items;
+      rounds = v .rounds;
+      plain = v .plain;
+      twists = v .twists;
+      challenges = v .challenges;
+      closed = v .closed;
+      taken = v .taken;
+      fsum = v .fsum;
+      gsum = v .gsum;
+      claim = nextClaim p m (at (v .challenges) (v .round));
+      round = v .round + 1;
+      failed = v .failed;
+    }
+
+-- "A no is not a refusal; it closes the run"
+unfoldable pub failedNow : Verifier → Verifier
+failedNow v =
+    record {
+      items = v .items;
+      rounds = v .rounds;
+      plain = v .plain;
+      twists = v .twists;
+      challenges = v .challenges;
+      closed = v .closed;
+      taken = v .taken;
+      fsum = v .fsum;
+      gsum = v .gsum;
+      claim = v .claim;
+      round = v .round;
+      failed = true;
+    }
+
+-- "A message passes if even + odd = claim"
+unfoldable pub hears : ℕ → Verifier → Message → Step
+hears p v m =
+    cond (eqb (passes p m) (v .claim)) (record { verifier = passedWith p v m; answer = answer.Passed })
+    (record { verifier = failedNow v; answer = answer.No (v .round) })
+
+-- "yes if the claim equals the product of its own end values. Otherwise no, with the first round that failed, or n"
+unfoldable pub finds : ℕ → Verifier → Finding
+finds p v = cond (v .failed) (no (v .round)) (cond (eqb (v .claim) (mulMod p (v .fsum) (v .gsum))) yes (no (v .rounds)))

@@ -1,0 +1,9 @@
+pub mod Records
+pub mod WellFormed
+pub mod Starts
+pub mod Sums
+pub mod Claims
+pub mod Openings
+pub mod Calls
+pub mod Trips
+pub mod Example
