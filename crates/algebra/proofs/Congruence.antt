@@ -1,7 +1,7 @@
 -- Congruence modulo p of numbers that need not be reduced, and what the operations are up to it.
 use mathlib.Core.Path.{_≡_, refl, sym, ap, ap₂, _∙_}
-use Prim.Native.Nat.{ℕ, zero, suc, _+_, _-_, _*_, _/_, _%_, _≤_, _<_, max}
-use native.Mathlib.Nat.{add-assoc, add-mod, add-mod-mod, add-mod-right, add-mul, add-sub-of-le, div-add-mod, le-of-lt, mod-add-mod, mod-eq-of-lt, mod-lt, mod-mod, mod-self, mul-add-mod-self-left, mul-assoc, mul-comm, mul-zero, zero-mod}
+use Prim.Native.Nat.{ℕ, zero, suc, _+_, _-_, _*_, _/_, _%_, _<_}
+use native.Mathlib.Nat.{add-assoc, add-mod, add-mod-right, add-mul, add-sub-of-le, div-add-mod, le-of-lt, mod-add-mod, mod-eq-of-lt, mod-lt, mod-mod, mod-self, mul-add-mod-self-left, mul-assoc, mul-comm, zero-mod}
 use native.Mathlib.Omega.{arith}
 use Rattle.algebra.specs.Mod.{base, residue, addMod, negMod, subMod, mulMod}
 

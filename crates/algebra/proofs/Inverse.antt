@@ -1,15 +1,15 @@
 -- Inverses modulo any prime, and what follows: no zero divisors, cancelling.
 use mathlib.Core.Path.{_≡_, refl, sym, ap, _∙_}
 use mathlib.Core.Bool.{Bool, true, false}
-use mathlib.Core.List.{List, [], _∷_}
+use mathlib.Core.List.{[], _∷_}
 use mathlib.Core.Logic.{_⊎_, inl, inr}
-use Prim.Native.Nat.{ℕ, zero, suc, _+_, _*_, _/_, _%_, _≤_, _<_}
+use Prim.Native.Nat.{ℕ, zero, suc, _*_, _/_, _%_, _≤_, _<_}
 use native.Mathlib.Nat.{le-refl, mod-add-div', mod-lt, pos-of-ne-zero}
 use native.Mathlib.Omega.{arith}
 use native.Mathlib.Decide.{decLe, ℕ-discrete}
 use lib.Dec.{leb}
 use borrow.Author.Tests.{le-leb, lt-leb, leb-true, leb-false}
-use Rattle.algebra.specs.Mod.{base, residue, addMod, negMod, subMod, mulMod, inverseIn, inverseMod, divMod}
+use Rattle.algebra.specs.Mod.{base, residue, negMod, mulMod, inverseIn, inverseMod}
 use Rattle.algebra.specs.Prime.{Prime}
 use Rattle.algebra.proofs.Congruence.{Cong, base-pos, cong-add, cong-cancel, cong-eq, cong-modulus, cong-reduced, cong-refl, cong-sym, cong-trans, mul-cong, neg-cong, residue-lt, residue-small, residue-twice, residue-zero}
 use Rattle.algebra.proofs.Laws.{mul-associates, mul-lt, mul-residue, one-product, zero-product}

@@ -1,11 +1,11 @@
 -- The laws of a commutative ring, for every p. Each unit law says `residue p a`: an argument need not be reduced.
-use mathlib.Core.Path.{_≡_, refl, sym, ap, ap₂, _∙_}
-use mathlib.Core.List.{List, [], _∷_}
+use mathlib.Core.Path.{_≡_, sym, ap, _∙_}
+use mathlib.Core.List.{[], _∷_}
 use Prim.Native.Nat.{ℕ, zero, suc, _+_, _*_, _%_, _<_}
 use native.Mathlib.Nat.{suc-add, zero-add, one-mul, zero-mul}
 use native.Mathlib.Omega.{arith}
 use Rattle.algebra.specs.Mod.{base, residue, addMod, negMod, subMod, mulMod, powMod, halfOne, halfMod}
-use Rattle.algebra.proofs.Congruence.{Cong, cong-add, cong-eq, cong-modulus, cong-mul, cong-refl, cong-residue, cong-sym, cong-trans, add-cong, mul-cong, residue-lt, residue-twice, residue-zero}
+use Rattle.algebra.proofs.Congruence.{Cong, cong-add, cong-eq, cong-modulus, cong-mul, cong-refl, cong-residue, cong-trans, add-cong, residue-lt, residue-twice, residue-zero}
 use Rattle.algebra.proofs.Ring.{var, num, add, sub, mul, neg, solve, solve-from, vars, none, given}
 
 module _ (p : ℕ) where

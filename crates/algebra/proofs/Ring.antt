@@ -7,14 +7,14 @@
 use mathlib.Core.Path.{_≡_, refl, sym, ap, ap₂, _∙_}
 use mathlib.Core.Bool.{Bool, true, false, _&&_}
 use mathlib.Core.List.{List}
-use Prim.Native.Nat.{ℕ, zero, suc, _+_, _-_, _*_}
+use Prim.Native.Nat.{ℕ, zero, _+_, _-_, _*_}
 use native.Mathlib.Nat.{add-comm, add-assoc, add-mul, add-zero, mul-add, mul-zero, zero-add}
 use native.Mathlib.Omega.{arith}
 use lib.ListN.{getD}
 use lib.Dec.{T}
 use Rattle.algebra.specs.Mod.{base, residue, addMod, negMod, subMod, mulMod}
 use Rattle.algebra.proofs.Congruence.{Cong, cong-refl, cong-sym, cong-trans, cong-eq, cong-add, cong-mul, cong-cancel, add-cong, mul-cong, neg-cong, sub-cong, residue-twice}
-use Rattle.algebra.proofs.Polynomial.{Pol, con, hor, val, addP, mulP, varP, eqP, both, addP-ok, mulP-ok, eqP-ok, varP-ok}
+use Rattle.algebra.proofs.Polynomial.{Pol, con, val, addP, mulP, varP, eqP, both, addP-ok, mulP-ok, eqP-ok, varP-ok}
 
 pub data Expr : Type 0 where
   var : ℕ → Expr

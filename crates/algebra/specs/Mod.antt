@@ -1,7 +1,7 @@
 -- Arithmetic modulo p on the natural numbers. Arguments need not be reduced; results are.
 use Prim.Native.Nat.{ℕ, zero, suc, _+_, _-_, _*_, _/_, _%_, max}
 use lib.Dec.{leb}
-use mathlib.Core.Bool.{Bool, true, false}
+use mathlib.Core.Bool.{true, false}
 
 -- A modulus of 0 is read as 1, so that every law holds for every p and every function on machine numbers is total.
 abbrev pub base : ℕ → ℕ

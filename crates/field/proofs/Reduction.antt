@@ -1,12 +1,11 @@
 -- The machine's arithmetic is the algebra's.
-use mathlib.Core.Path.{_≡_, refl, sym, ap, _∙_, subst⁻¹}
-use Prim.Native.Nat.{ℕ, zero, suc, _+_, _-_, _*_, _/_, _%_, _^_, _≤_, _<_, max}
+use mathlib.Core.Path.{_≡_, ap, _∙_, subst⁻¹}
+use Prim.Native.Nat.{ℕ, _+_, _-_, _*_, _%_, _^_, _≤_, _<_}
 use native.Mathlib.Nat.{lt-of-le-of-lt, mul-le-mul, mul-le-mul-left, mul-lt-mul-of-pos-right, le-of-lt, mod-self, sub-zero}
 use native.Mathlib.Omega.{arith}
 use lib.Pow.{pow-add, pow-pos}
-use Rattle.algebra.specs.Mod.{base, residue, addMod, negMod, subMod, mulMod, inverseIn, inverseMod}
-use Rattle.algebra.proofs.Congruence.{base-of, cong-add, cong-refl, cong-residue, cong-sym, residue-lt, residue-of, residue-small, residue-twice}
-use Rattle.algebra.proofs.Laws.{sub-is}
+use Rattle.algebra.specs.Mod.{base, residue, addMod, negMod, mulMod}
+use Rattle.algebra.proofs.Congruence.{cong-add, cong-refl, cong-residue, cong-sym, residue-lt, residue-small}
 
 -- the product of two k-bit numbers
 pub product-below : (k : ℕ) {a b : ℕ} → a < 2 ^ k → b < 2 ^ k → a * b < 2 ^ (k + k)

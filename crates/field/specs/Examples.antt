@@ -5,7 +5,8 @@ use mathlib.Core.Bool.{true, false}
 use lib.IntN.{pos, negsuc}
 use Rattle.algebra.specs.Mod.{residue, negMod, mulMod, halfOne, halfMod}
 use Rattle.field.specs.Integer.{image}
-use Rattle.field.specs.Total.{inLimits}
+use Rattle.refusal.specs.Limit.{maxTotal}
+use Rattle.field.specs.Total.{limit, inLimits}
 
 abbrev P : ℕ
 P = 2147483647
@@ -26,6 +27,10 @@ half-of-one = refl
 pub reading-minus-180 : image P (negsuc 179) ≡ 2147483467
 unfolding image negMod residue
 reading-minus-180 = refl
+
+-- the limit over any modulus, at P
+pub limit-of-total : limit P ≡ maxTotal
+limit-of-total = refl
 
 pub largest-total : inLimits P (pos 1073741823) ≡ true
 unfolding inLimits

@@ -2,7 +2,6 @@
 use Prim.Native.Nat.{ℕ}
 use mathlib.Core.Bool.{Bool, cond}
 use lib.Dec.{ltb}
-use Rattle.field.specs.declared.Field.{Field}
 use Rattle.field.specs.declared.Checked.{Checked}
 use Rattle.field.specs.declared.Checked.the-variants.{Number, Unreduced}
 

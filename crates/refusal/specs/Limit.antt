@@ -1,4 +1,4 @@
--- Document 01: the limits that do not depend on the modulus.
+-- Document 01: the limits. That of a total is half of P - 1; over any modulus it is `limit` of field.
 use Prim.Native.Nat.{ℕ}
 use mathlib.Core.List.{List, [], _∷_}
 
@@ -14,5 +14,9 @@ maxRounds = 15
 abbrev pub maxWeight : ℕ
 maxWeight = 1440
 
+-- "A plain total is a signed whole number from -1,073,741,823 to 1,073,741,823"
+abbrev pub maxTotal : ℕ
+maxTotal = 1073741823
+
 abbrev pub limits : List ℕ
-limits = maxItems ∷ maxRounds ∷ maxWeight ∷ []
+limits = maxItems ∷ maxRounds ∷ maxWeight ∷ maxTotal ∷ []

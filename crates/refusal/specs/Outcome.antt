@@ -1,7 +1,7 @@
 -- What a call answers, in document 01's terms: "A refusal carries its number and, for 5 and 13 to 15, the index".
 -- Each enum of the code has a definition that maps its cases to this type, and the contracts use that definition.
 use Prim.Native.Nat.{ℕ, zero, suc}
-use mathlib.Core.Bool.{Bool, true, false, cond}
+use mathlib.Core.Bool.{Bool, cond}
 
 pub data Outcome (A : Type 0) : Type 0 where
   answered : A → Outcome A

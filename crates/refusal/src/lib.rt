@@ -41,6 +41,9 @@ pub const MAX_ROUNDS: u32 = 15;
 
 pub const MAX_WEIGHT: u32 = 1440;
 
+// The least total is its negative.
+pub const MAX_TOTAL: u32 = 1073741823;
+
 // Every refusal number, in the table's order.
 pub fn numbers() -> [u8; 16]
     ensures { λ r. ⌜ r ≡ number.numbers ⌝ }
@@ -65,8 +68,8 @@ pub fn numbers() -> [u8; 16]
     ]
 }
 
-pub fn limits() -> [u32; 3]
+pub fn limits() -> [u32; 4]
     ensures { λ r. ⌜ r ≡ limit.limits ⌝ }
 {
-    [MAX_ITEMS, MAX_ROUNDS, MAX_WEIGHT]
+    [MAX_ITEMS, MAX_ROUNDS, MAX_WEIGHT, MAX_TOTAL]
 }
