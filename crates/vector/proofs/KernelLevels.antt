@@ -10,12 +10,12 @@ use Rattle.vector.specs.declared.kernel.Points.{Points}
 use Rattle.vector.specs.declared.kernel.Kernel.{Kernel}
 use Rattle.vector.specs.Vector.{bit, at as items}
 use Rattle.vector.specs.Fold.{Pair, combinePair}
-use Rattle.vector.specs.Stack.{Stack, entries}
+use Rattle.vector.specs.Stack.{Stack, entries, ones, onesFrom, levels}
 use Rattle.vector.specs.Kernel.{entered, paddingKernel}
 use Rattle.vector.specs.KernelView.{stackF, stackG, stackPairs, Paired}
 use Rattle.vector.proofs.Machine.{enter}
 use Rattle.vector.proofs.StackLaw.{enter-item}
-use Rattle.vector.proofs.StackCount.{ones, onesFrom, levels, ones-below, entries-count, entries-levels}
+use Rattle.vector.proofs.StackCount.{ones-below, entries-count, entries-levels}
 use Rattle.vector.proofs.StackImage.{mapValues, enter-image}
 use Rattle.vector.proofs.Padding.{equalFrom}
 use Rattle.vector.proofs.KernelArrays.{pairs-count, first-stack, second-stack}

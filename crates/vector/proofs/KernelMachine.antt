@@ -17,9 +17,9 @@ use Rattle.vector.specs.Vector.{at as items}
 use Rattle.vector.specs.Fold.{Pair, combine, combinePair}
 use Rattle.vector.specs.Message.{Message}
 use Rattle.vector.specs.Stack.{Stack}
-use Rattle.vector.specs.Kernel.{hornerAt, arrived, topsAt, raised, mayRise, climbFrom, climbed, meetsAt, met, settled, entered}
+use Rattle.vector.specs.Kernel.{hornerAt, arrived, topsAt, raised, mayRise, climbFrom, climbed, meetsAt, settled, entered}
 use Rattle.vector.specs.KernelView.{pairsView, stackPairs, sumsOf, Sixteen, Paired}
-use Rattle.vector.proofs.KernelSteps.{stays, rises, at-last, by-tops}
+use Rattle.vector.proofs.KernelSteps.{stays, at-last, by-tops}
 use Rattle.vector.proofs.KernelArrays.{climber, push-pairs, push-paired, meet-paired}
 use Rattle.vector.proofs.Machine.{enter}
 use Rattle.vector.proofs.Passes.{addPair}

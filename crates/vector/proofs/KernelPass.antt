@@ -13,14 +13,14 @@ use Rattle.vector.specs.declared.kernel.Entered.{Entered}
 use Rattle.vector.specs.Rounds.{size}
 use Rattle.vector.specs.Vector.{Vector, at as items}
 use Rattle.vector.specs.Fold.{Pair, foldWith, combine, combinePair, beside, fold}
-use Rattle.vector.specs.Stack.{Stack, entries}
+use Rattle.vector.specs.Stack.{Stack, entries, ones}
 use Rattle.vector.specs.Kernel.{entered}
 use Rattle.vector.specs.KernelView.{stackF, stackG, stackPairs, sumsOf, Paired}
 use Rattle.vector.proofs.Folds.{fold-beside}
 use Rattle.vector.proofs.Counts.{completes-zero}
 use Rattle.vector.proofs.Machine.{enter, gathered}
 use Rattle.vector.proofs.StackLaw.{enter-item}
-use Rattle.vector.proofs.StackCount.{ones, ones-at-most, ones-below, entries-count}
+use Rattle.vector.proofs.StackCount.{ones-at-most, ones-below, entries-count}
 use Rattle.vector.proofs.StackImage.{mapValues, entries-first, entries-second}
 use Rattle.vector.proofs.Gathering.{lastPairs, sums-step}
 use Rattle.vector.proofs.Passes.{noMessage, addPair, lastMessage, last-message}

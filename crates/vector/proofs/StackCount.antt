@@ -1,7 +1,7 @@
 -- How many entries a stack has, and at which levels: the binary ones of the count, whatever the values.
 use mathlib.Core.Path.{_≡_, refl, ap, _∙_}
 use mathlib.Core.Bool.{Bool, true, false, cond}
-use mathlib.Core.List.{List, [], _∷_}
+use mathlib.Core.List.{[], _∷_}
 use mathlib.Core.Logic.{inl, inr}
 use Prim.Native.Nat.{ℕ, zero, suc, _+_, _-_, _/_, _%_, _^_, _<_, _≤_}
 use native.Mathlib.Nat.{div-one}
@@ -13,16 +13,11 @@ use lib.Pow.{field, mod-mod-pow}
 use Rattle.vector.specs.Rounds.{size}
 use Rattle.vector.specs.Vector.{bit}
 use Rattle.vector.specs.Fold.{foldWith, combine}
-use Rattle.vector.specs.Stack.{Stack, backwards, entryOn, entriesFrom, entries}
+use Rattle.vector.specs.Stack.{Stack, backwards, entryOn, entriesFrom, entries, ones, onesFrom, levels}
 use Rattle.vector.proofs.Rounds.{half-count}
 use Rattle.vector.proofs.Counts.{Parity, parity}
 use Rattle.vector.proofs.StackLaw.{machine, stream-law}
 use Rattle.vector.proofs.Machine.{entry-even, entry-odd}
-
--- how many ones are among the lowest w places of t
-unfoldable pub ones : ℕ → ℕ → ℕ
-ones zero t = 0
-ones (suc w) t = t % 2 + ones w (t / 2)
 
 pub ones-at-most : (w t : ℕ) → ones w t ≤ w
 unfolding ones
@@ -43,15 +38,6 @@ unfolding ones
 ones-below w zero t h = omega arith
 ones-below zero (suc m) t h = omega (arith, ones-below zero m (t / 2) (omega arith))
 ones-below (suc w) (suc m) t h = omega (arith, ones-below w m (t / 2) (omega arith))
-
--- the places of the ones of t from place k to k + m, the lowest first
-unfoldable pub onesFrom : ℕ → ℕ → ℕ → List ℕ
-onesFrom t k zero = cond (eqb (bit k t) 1) (k ∷ []) []
-onesFrom t k (suc m) = cond (eqb (bit k t) 1) (k ∷ onesFrom t (suc k) m) (onesFrom t (suc k) m)
-
-unfoldable pub levels : {A : Type 0} → Stack A → List ℕ
-levels [] = []
-levels (e ∷ rest) = e .0 ∷ levels rest
 
 module _ {A : Type 0} (combine : ℕ → A → A → A) (c : ℕ → ℕ) (n : ℕ) (v : ℕ → A) where
   -- its length is the number of ones

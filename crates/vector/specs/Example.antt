@@ -1,14 +1,14 @@
 -- Document 01, "One trip, whole": readings -180, -175, 40; weights 10, 20, 5; challenges 2, 3; point 2.
-use Prim.Native.Nat.{ℕ, _*_}
+use Prim.Native.Nat.{ℕ}
 use mathlib.Core.Path.{_≡_, refl}
-use mathlib.Core.List.{List, [], _∷_}
+use mathlib.Core.List.{[], _∷_}
 use lib.IntN.{pos, negsuc}
-use Rattle.algebra.specs.Mod.{residue, addMod, subMod, negMod, mulMod}
+use Rattle.algebra.specs.Mod.{residue, addMod, negMod, mulMod}
 use Rattle.field.specs.Integer.{image}
 use Rattle.vector.specs.Rounds.{powers, firstFrom, roundsOf}
 use Rattle.vector.specs.Vector.{Vector, at, sum, dot, padded}
 use Rattle.vector.specs.Fold.{foldWith, endValue}
-use Rattle.vector.specs.Message.{Message, message, nextClaim}
+use Rattle.vector.specs.Message.{message, nextClaim}
 use Rattle.vector.specs.Opening.{tripleValues, opening}
 
 abbrev P : ℕ

@@ -2,7 +2,6 @@
 use mathlib.Core.Path.{_≡_, refl}
 use mathlib.Core.Bool.{true, false}
 use mathlib.Core.List.{[], _∷_}
-use lib.ListN.{length}
 use Rattle.algebra.specs.Mod.{residue, addMod, mulMod, powMod}
 use Rattle.vector.specs.Rounds.{powers, firstFrom, roundsOf}
 use Rattle.vector.specs.Vector.{at, sum, weight}

@@ -1,5 +1,5 @@
 -- The stack of a small pass, in document 01's words.
-use Prim.Native.Nat.{ℕ, zero, suc, _+_, _-_, _*_, _/_, _%_, _^_}
+use Prim.Native.Nat.{ℕ, zero, suc, _+_, _-_, _/_, _%_, _^_}
 use mathlib.Core.Bool.{cond}
 use mathlib.Core.List.{List, [], _∷_}
 use lib.Dec.{eqb}
@@ -28,3 +28,18 @@ module _ {A : Type 0} (combine : ℕ → A → A → A) (c : ℕ → ℕ) (n : �
   -- the stack for a pass that folds to level i, after t items
   abbrev pub entries : ℕ → Stack A
   entries i = entriesFrom 0 i
+
+-- how many ones are among the lowest w places of t
+unfoldable pub ones : ℕ → ℕ → ℕ
+ones zero t = 0
+ones (suc w) t = t % 2 + ones w (t / 2)
+
+-- the places of the ones of t from place k to k + m, the lowest first
+unfoldable pub onesFrom : ℕ → ℕ → ℕ → List ℕ
+onesFrom t k zero = cond (eqb (bit k t) 1) (k ∷ []) []
+onesFrom t k (suc m) = cond (eqb (bit k t) 1) (k ∷ onesFrom t (suc k) m) (onesFrom t (suc k) m)
+
+-- the levels of a stack, the top first
+unfoldable pub levels : {A : Type 0} → Stack A → List ℕ
+levels [] = []
+levels (e ∷ rest) = e .0 ∷ levels rest

@@ -1,5 +1,6 @@
 // The first places of a slice as a vector of numbers modulo p.
 ghost use mathlib.Core.Path.{_≡_};
+ghost use lib.ListN.{set};
 ghost use Rattle.vector.specs.Slice.{foldSlice, messageIn, messageSlice, dotSlice, evaluateSlice, allReduced, isNonzero, allNonzero, fifteen};
 use super::Message;
 
@@ -141,4 +142,13 @@ pub fn take15(v: &[u32], n: usize) -> [u32; 15]
         i += 1;
     }
     out
+}
+
+// One place becomes x; nothing where it is not there.
+pub fn write(v: &mut [u32], at: usize, x: u32)
+    ensures { λ r. ⌜ now (v .exit) ≡ set (now (v .entry)) at x ⌝ }
+{
+    if at < v.len() {
+        v[at] = x;
+    }
 }
