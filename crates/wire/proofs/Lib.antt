@@ -4,6 +4,7 @@ pub mod LogSays
 pub mod Below
 pub mod Writes
 pub mod ProofSays
+pub mod ProofOf
 pub mod WriteRows
 pub mod MatrixSays
 pub mod Codes

@@ -31,7 +31,7 @@ at-number (x ∷ xs) zero h b = num-bytes 4 x b
 at-number (x ∷ xs) (suc k) h b = simp unary-clauses (at-number xs k (omega arith) b)
 
 -- the places of a proof's numbers: three to a round, then the end values
-thirds : (P : ℕ → Type 0) (n : ℕ) → ((r : ℕ) → r < n → P (3 * r) × P (3 * r + 1) × P (3 * r + 2)) → (k : ℕ) → k < 3 * n → P k
+pub thirds : (P : ℕ → Type 0) (n : ℕ) → ((r : ℕ) → r < n → P (3 * r) × P (3 * r + 1) × P (3 * r + 2)) → (k : ℕ) → k < 3 * n → P k
 thirds P n h k l = go (k % 3) refl
   where
     three : P (3 * (k / 3)) × P (3 * (k / 3) + 1) × P (3 * (k / 3) + 2)
@@ -192,37 +192,40 @@ header-of p file n t b g =
     drop-cons file 0 0 (omega arith)
     ∙ rw (drop-cons file 1 0 (omega arith), drop-cons file 2 0 (omega arith), parted file b 2 3 (omega arith), g .frame .version, drop-cons file 5 0 (omega arith), g .rounds, parted file b 4 6 (omega arith), w, m .first, m .second, m .third)
 
-found-same : {A : Type 0} {x y : A} → found x ≡ found y → x ≡ y
+pub found-same : {A : Type 0} {x y : A} → found x ≡ found y → x ≡ y
 found-same e = cc
 
--- a file that reads as a proof is the file written from it
-module _ (p : ℕ) (file : List ℕ) (n : ℕ) (t : ℤ) (ms : List ℕ) (f g : ℕ) (b : Bytes file) (room : 3 * n ≤ length ms) (r : ReadsAs p file n t ms f g) where
-  good : GoodProof p file (record { rounds = n; total = t })
+-- the numbers of a file that reads as a proof
+module _ (p : ℕ) (file : List ℕ) (n : ℕ) (t : ℤ) (ms : List ℕ) (f g : ℕ) (r : ReadsAs p file n t ms f g) where
+  pub good : GoodProof p file (record { rounds = n; total = t })
   good = proof-good p file _ (r .head)
 
-  messages-same : (q : ℕ) → q < n
+  pub messages-same : (q : ℕ) → q < n
       → (proofNumber file (3 * q) ≡ getD ms (3 * q) 0) × (proofNumber file (3 * q + 1) ≡ getD ms (3 * q + 1) 0) × (proofNumber file (3 * q + 2) ≡ getD ms (3 * q + 2) 0)
   messages-same q h =
       let e = found-same (sym (round-message p file _ good q (omega (arith, good .rounds))) ∙ r .rounds q h) in
       (ap (λ (m : Message). m .even) e, ap (λ (m : Message). m .cross) e, ap (λ (m : Message). m .odd) e)
 
-  ends-same : (proofNumber file (3 * n) ≡ f) × (proofNumber file (3 * n + 1) ≡ g)
+  pub ends-same : (proofNumber file (3 * n) ≡ f) × (proofNumber file (3 * n + 1) ≡ g)
   ends-same =
       let e = found-same (rw (good .rounds) at (sym (end-values p file _ good) ∙ r .ends)) in
       (ap (λ (m : Ends). m .f) e, ap (λ (m : Ends). m .g) e)
 
+-- it is the file written from that proof
+module _ (p : ℕ) (file : List ℕ) (n : ℕ) (t : ℤ) (ms : List ℕ) (f g : ℕ) (b : Bytes file) (room : 3 * n ≤ length ms) (r : ReadsAs p file n t ms f g) where
   numbers-same : (k : ℕ) → k < 3 * n + 2 → proofNumber file k ≡ getD (proofValues n ms f g) k 0
   numbers-same =
       and-two (λ k. proofNumber file k ≡ getD (proofValues n ms f g) k 0) (3 * n)
-      (λ k l. thirds (λ k. proofNumber file k ≡ getD ms k 0) n messages-same k l ∙ sym (value-message n ms f g room k l))
-      (ends-same .0 ∙ sym (value-f n ms f g room))
-      (ends-same .1 ∙ sym (value-g n ms f g room))
+      (λ k l. thirds (λ k. proofNumber file k ≡ getD ms k 0) n (messages-same p file n t ms f g r) k l ∙ sym (value-message n ms f g room k l))
+      (ends-same p file n t ms f g r .0 ∙ sym (value-f n ms f g room))
+      (ends-same p file n t ms f g r .1 ∙ sym (value-g n ms f g room))
 
   pub reads-only : file ≡ proofFile n t (proofValues n ms f g)
   reads-only =
       let v = length-values n t ms f g room in
-      let d : length (drop 10 file) ≡ 4 * length (proofValues n ms f g) = length-drop 10 file ∙ omega (arith, good .frame .size, good .rounds) in
-      header-of p file n t b good
+      let whole = good p file n t ms f g r in
+      let d : length (drop 10 file) ≡ 4 * length (proofValues n ms f g) = length-drop 10 file ∙ omega (arith, whole .frame .size, whole .rounds) in
+      header-of p file n t b whole
       ∙ ap (λ s. proofHeader n t ++ s)
       (bytes-of (proofValues n ms f g) (drop 10 file) d (bytes-drop file 10 b)
       (λ k l. num-dropped 4 10 (4 * k) file ∙ numbers-same k (omega arith)))

@@ -67,6 +67,10 @@ readProof p file =
     (require (allBelow p (proofNumber file) (3 * proofRounds file + 2)) number.number
     (answered (record { rounds = proofRounds file; total = proofTotal file }))))))
 
+-- for a verifier of n rounds: 3 for "n above 15; a proof's n not the gateway's", before 4 and the rows below it
+unfoldable pub readProofOf : ℕ → ℕ → List ℕ → Outcome Head
+readProofOf p n file = requireHeader 80 10 file (require (eqb (proofRounds file) n) number.count (readProof p file))
+
 -- "The twelve bytes of one round": the empty part "for a file that is refused, or a round n or more"
 unfoldable pub partIn : Outcome Head → List ℕ → ℕ → List ℕ
 partIn (answered head) file round = cond (ltb round (head .rounds)) (take 12 (drop (10 + 12 * round) file)) []
@@ -81,6 +85,16 @@ unfoldable pub partMessage : List ℕ → Found Message
 partMessage part =
     foundIf (leb 12 (length part))
     (record { even = numAt 4 part 0; cross = numAt 4 part 4; odd = numAt 4 part 8 })
+
+-- the message of a round, where the file has it
+unfoldable pub proofMessage : List ℕ → ℕ → Found Message
+proofMessage file round =
+    foundIf (leb (22 + 12 * round) (length file))
+    (record {
+      even = proofNumber file (3 * round);
+      cross = proofNumber file (3 * round + 1);
+      odd = proofNumber file (3 * round + 2);
+    })
 
 -- the end values after n messages, where the file has them
 unfoldable pub proofEnds : List ℕ → Found Ends

@@ -4,7 +4,7 @@ ghost use Prim.Native.Nat.{_+_, _*_, _<_, _≤_};
 ghost use lib.ListN.{length, getD, take};
 ghost use lib.IntN.{natAbs};
 ghost use lib.Seq.{sets};
-ghost use Rattle.wire.specs.Proof.{allBelow, endsOf, messageOf, numbers, partMessage, proofEnds, proofFile, proofHeader, proofNumber, proofOf, proofRound, proofValues, readProof, writeProof, writtenIn, writtenOf};
+ghost use Rattle.wire.specs.Proof.{allBelow, endsOf, messageOf, numbers, partMessage, proofEnds, proofFile, proofHeader, proofMessage, proofNumber, proofOf, proofRound, proofValues, readProof, readProofOf, writeProof, writtenIn, writtenOf};
 use super::header::marked;
 use super::number::bits32;
 use super::number::get16;
@@ -63,6 +63,23 @@ pub fn read_proof(file: &[u8]) -> ProofRead
     ProofRead::Proof(rounds, total)
 }
 
+// For a verifier of `rounds` rounds: its own n is tested before the length.
+pub fn read_proof_of(file: &[u8], rounds: u32) -> ProofRead
+    ensures { λ r. ⌜ proofOf r ≡ readProofOf 2147483647 rounds (now (file .entry)) ⌝ }
+{
+    if marked(file, b'P', 10) {} else {
+        return ProofRead::Refused(refusal::HEADER);
+    }
+    if get16(file, 3) != 1 {
+        return ProofRead::Refused(refusal::VERSION);
+    }
+    let n = file[5] as u32;
+    if n != rounds {
+        return ProofRead::Refused(refusal::COUNT);
+    }
+    read_proof(file)
+}
+
 // Whether the first `count` numbers after the header are field numbers.
 fn reduced_in(file: &[u8], count: usize) -> bool
     requires { ⌜ 10 + 4 * count ≤ length (now file) ⌝ }
@@ -99,6 +116,22 @@ pub fn part_message(part: &[u8]) -> MessageRead
 {
     if 12 <= part.len() {
         MessageRead::Message(get32(part, 0), get32(part, 4), get32(part, 8))
+    } else {
+        MessageRead::Nothing
+    }
+}
+
+// The message of a round, where the file has its bytes. Only read_proof says whether the file is a good proof.
+pub fn proof_message(file: &[u8], round: u32) -> MessageRead
+    ensures { λ r. ⌜ messageOf r ≡ proofMessage (now (file .entry)) round ⌝ }
+{
+    let k = 3 * (round as usize);
+    if 22 + 12 * (round as usize) <= file.len() {
+        MessageRead::Message(
+            get32(file, 10 + 4 * k),
+            get32(file, 10 + 4 * (k + 1)),
+            get32(file, 10 + 4 * (k + 2)),
+        )
     } else {
         MessageRead::Nothing
     }
