@@ -1,7 +1,7 @@
 -- What a well-formed record tells, and bounds of levels and sizes.
-use mathlib.Core.Path.{_≡_, refl, sym, ap, _∙_, subst}
+use mathlib.Core.Path.{_≡_, refl, sym, ap}
 use mathlib.Core.Bool.{Bool, true, false, cond, true≢false}
-use Prim.Native.Nat.{ℕ, _+_, _-_, _/_, _^_, _≤_, _<_}
+use Prim.Native.Nat.{ℕ, _-_, _^_, _≤_}
 use native.Mathlib.Nat.{le-refl}
 use native.Mathlib.Omega.{arith}
 use lib.Dec.{eqb, ltb}
@@ -16,7 +16,7 @@ use Rattle.prover.specs.declared.Kind.{Kind}
 use Rattle.prover.specs.declared.Kind.the-variants.{Shut, Asked, Change}
 use Rattle.prover.specs.declared.Run.{Run}
 use Rattle.prover.specs.declared.Pass.{Pass}
-use Rattle.prover.specs.Order.{levelAt, levelOf, padding}
+use Rattle.prover.specs.Order.{levelAt, padding}
 use Rattle.prover.specs.WellFormed.{roundFits, kindFits, runFormed, passFormed, wellFormed}
 
 -- a test that must hold, and one that must not

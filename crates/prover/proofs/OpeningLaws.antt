@@ -27,7 +27,8 @@ use Rattle.prover.specs.Order.{foldSize}
 use Rattle.prover.specs.Values.{inNinety, valuesOf}
 use Rattle.prover.specs.Calls.{bothLong}
 use Rattle.prover.specs.Full.{openingTurn, bothReduced}
-use Rattle.prover.specs.Opening.{pointsAt, streamed, openingGiven, openingCall}
+use Rattle.prover.specs.Open.{pointsOf}
+use Rattle.prover.specs.Opening.{streamed, openingGiven, openingCall}
 use Rattle.prover.proofs.Facts.{holds}
 use Rattle.prover.proofs.FullFacts.{at-openings}
 use Rattle.prover.proofs.FullLaws.{Lent, passed-row, lent-rows, both-long}
@@ -67,22 +68,22 @@ module _ (p n : ℕ) (c : ℕ → ℕ) (points : Points) (f g : Vector) (few : n
 
 -- the opening of the buffers as they are
 pub stream-values : (p n b : ℕ) (cs fs gs : List ℕ) → n ≤ 15
-    → valuesOf (streamed p cs n (pointsAt p b) fs gs (2 ^ n) emptyKernel .evals) n ≡ inNinety n (opening p n (at cs) (at fs) (at gs) b)
+    → valuesOf (streamed p cs n (pointsOf p b) fs gs (2 ^ n) emptyKernel .evals) n ≡ inNinety n (opening p n (at cs) (at fs) (at gs) b)
 stream-values p n b cs fs gs few =
-    taken-opened p n (at cs) (pointsAt p b) (at fs) (at gs) (streamed p cs n (pointsAt p b) fs gs (2 ^ n) emptyKernel) b refl refl refl refl
-    (whole-stream p n (at cs) (pointsAt p b) (at fs) (at gs) few cs (λ j h. refl) fs gs (λ k h. refl) (λ k h. refl)) few
+    taken-opened p n (at cs) (pointsOf p b) (at fs) (at gs) (streamed p cs n (pointsOf p b) fs gs (2 ^ n) emptyKernel) b refl refl refl refl
+    (whole-stream p n (at cs) (pointsOf p b) (at fs) (at gs) few cs (λ j h. refl) fs gs (λ k h. refl) (λ k h. refl)) few
 
 -- it is the opening of the vectors that the buffers hold, under the challenges that the run keeps
 pub opening-same : (p n : ℕ) (c : ℕ → ℕ) (f g : Vector) (b : ℕ) (cs fs gs : List ℕ) → n ≤ 15 → ((j : ℕ) → j < n → at cs j ≡ c j)
     → ((k : ℕ) → k < 2 ^ n → at fs k ≡ f k) → ((k : ℕ) → k < 2 ^ n → at gs k ≡ g k)
     → opening p n (at cs) (at fs) (at gs) b ≡ opening p n c f g b
 opening-same p n c f g b cs fs gs few agree first second =
-    let k : Kernel = streamed p cs n (pointsAt p b) fs gs (2 ^ n) emptyKernel in
+    let k : Kernel = streamed p cs n (pointsOf p b) fs gs (2 ^ n) emptyKernel in
     sym
-    (taken-opening p n (at cs) (pointsAt p b) (at fs) (at gs) k b refl refl refl refl
-    (whole-stream p n (at cs) (pointsAt p b) (at fs) (at gs) few cs (λ j h. refl) fs gs (λ k h. refl) (λ k h. refl)))
-    ∙ taken-opening p n c (pointsAt p b) f g k b refl refl refl refl
-    (whole-stream p n c (pointsAt p b) f g few cs agree fs gs first second)
+    (taken-opening p n (at cs) (pointsOf p b) (at fs) (at gs) k b refl refl refl refl
+    (whole-stream p n (at cs) (pointsOf p b) (at fs) (at gs) few cs (λ j h. refl) fs gs (λ k h. refl) (λ k h. refl)))
+    ∙ taken-opening p n c (pointsOf p b) f g k b refl refl refl refl
+    (whole-stream p n c (pointsOf p b) f g few cs agree fs gs first second)
 
 -- the first 2^n places are there
 pub fold-there : (p : ℕ) (r : Run) (s : Pass) (fs gs : List ℕ) → openingTurn p r s ≡ true → bothLong r (length fs) (length gs) ≡ true

@@ -73,7 +73,7 @@ both-stored s t n few =
     ∙ ap (λ k. (vs ++ ws) ++ drop k noValues) (zero-add (length (vs ++ ws)) ∙ all)
     ∙ ap (λ r. (vs ++ ws) ++ r) rest
 
-triples-same : (s t : ℕ → Triple) (k m : ℕ) → ((j : ℕ) → k ≤ j → j < k + m → s j ≡ t j) → tripleValues s k m ≡ tripleValues t k m
+pub triples-same : (s t : ℕ → Triple) (k m : ℕ) → ((j : ℕ) → k ≤ j → j < k + m → s j ≡ t j) → tripleValues s k m ≡ tripleValues t k m
 unfolding tripleValues
 triples-same s t k zero same = refl
 triples-same s t k (suc m) same =

@@ -1,13 +1,13 @@
 -- Each call of a run: its checks in document 01's order (turn, numbers, buffers), then what it does.
-use Prim.Native.Nat.{ℕ, _+_, _-_}
+use Prim.Native.Nat.{ℕ}
 use mathlib.Core.Bool.{Bool, true, false, cond, not}
 use mathlib.Core.List.{List}
 use mathlib.Core.Option.{Option, none, some}
-use lib.Dec.{eqb, leb, ltb}
+use lib.Dec.{leb, ltb}
 use lib.IntN.{ℤ}
 use lib.ListN.{length}
 use Rattle.refusal.specs.Number as number
-use Rattle.refusal.specs.Outcome.{Outcome, answered, refused, refusedAt, require, requireAt}
+use Rattle.refusal.specs.Outcome.{Outcome, answered, refused, refusedAt, require}
 use Rattle.vector.specs.declared.item.Item.{Item}
 use Rattle.vector.specs.Item.{plainParts, numberParts}
 use Rattle.prover.specs.declared.Run.{Run}

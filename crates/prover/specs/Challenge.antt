@@ -1,6 +1,6 @@
 -- A challenge, in either mode: document 01, "A run".
 use Prim.Native.Nat.{ℕ, _+_, _/_}
-use mathlib.Core.Bool.{Bool, true, false, cond}
+use mathlib.Core.Bool.{Bool, false, cond}
 use mathlib.Core.List.{List}
 use lib.ListN.{set}
 use Rattle.refusal.specs.Number as number
@@ -8,23 +8,15 @@ use Rattle.refusal.specs.Outcome.{Outcome, answered, require}
 use Rattle.vector.specs.Slice.{foldSlice, isNonzero}
 use Rattle.prover.specs.declared.Mode.{Mode}
 use Rattle.prover.specs.declared.Mode.the-variants.{Small, Full}
-use Rattle.prover.specs.declared.Next.{Next}
-use Rattle.prover.specs.declared.Next.the-variants as next
 use Rattle.prover.specs.declared.Run.{Run}
 use Rattle.prover.specs.declared.Pass.{Pass}
 use Rattle.prover.specs.declared.Step.{Step}
 use Rattle.prover.specs.declared.Answer.the-variants as answer
 use Rattle.prover.specs.Records.{Out, out, answeredStep}
 use Rattle.prover.specs.Order.{foldSize, roundOrEnds}
+pub use Rattle.prover.specs.Order.{isChallenge}
 use Rattle.prover.specs.WellFormed.{wellFormed}
 use Rattle.prover.specs.Full.{lentFolds}
-
-abbrev pub isChallenge : Next → Bool
-isChallenge next.Total = false
-isChallenge next.Message = false
-isChallenge next.Challenge = true
-isChallenge next.Ends = false
-isChallenge next.Openings = false
 
 abbrev pub challengeTurn : ℕ → Run → Pass → Bool
 challengeTurn p r s = cond (wellFormed p r s) (isChallenge (r .next)) false

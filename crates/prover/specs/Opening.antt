@@ -1,10 +1,8 @@
 -- Openings in full mode: "worked from fold 0, which the host lends again; they only read it".
 use Prim.Native.Nat.{ℕ, zero, suc}
-use mathlib.Core.Bool.{true}
 use mathlib.Core.List.{List}
 use Rattle.refusal.specs.Number as number
 use Rattle.refusal.specs.Outcome.{Outcome, answered, require}
-use Rattle.algebra.specs.Mod.{negMod, mulMod}
 use Rattle.vector.specs.Vector.{at}
 use Rattle.vector.specs.Slice.{isNonzero}
 use Rattle.vector.specs.Opening.{opening}
@@ -17,10 +15,6 @@ use Rattle.prover.specs.declared.Answer.the-variants as answer
 use Rattle.prover.specs.Records.{Out}
 use Rattle.prover.specs.Values.{inNinety}
 use Rattle.prover.specs.Full.{openingTurn, lentFolds}
-
--- the points of an opening pass at b
-abbrev pub pointsAt : ℕ → ℕ → Points
-pointsAt p b = record { on = true; point = b; minus = negMod p b; square = mulMod p b b }
 
 -- the kernel after the places m - 1 down to 0 of two buffers
 unfoldable pub streamed : ℕ → List ℕ → ℕ → Points → List ℕ → List ℕ → ℕ → Kernel → Kernel

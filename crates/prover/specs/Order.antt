@@ -8,7 +8,6 @@ use Rattle.prover.specs.declared.Next.the-variants.{Total, Message, Chal
 use Rattle.prover.specs.declared.Kind.{Kind}
 use Rattle.prover.specs.declared.Kind.the-variants.{Shut, Asked, Change}
 use Rattle.prover.specs.declared.Run.{Run}
-use Rattle.prover.specs.declared.Pass.{Pass}
 
 abbrev pub isTotal : Next → Bool
 isTotal Total = true
@@ -23,6 +22,13 @@ isMessage Message = true
 isMessage Challenge = false
 isMessage Ends = false
 isMessage Openings = false
+
+abbrev pub isChallenge : Next → Bool
+isChallenge Total = false
+isChallenge Message = false
+isChallenge Challenge = true
+isChallenge Ends = false
+isChallenge Openings = false
 
 abbrev pub isEnds : Next → Bool
 isEnds Total = false

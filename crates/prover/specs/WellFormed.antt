@@ -7,7 +7,6 @@ use Rattle.refusal.specs.Limit.{maxItems}
 use Rattle.field.specs.Total.{inLimits}
 use Rattle.vector.specs.Rounds.{roundsOf}
 use Rattle.prover.specs.declared.Mode.{Mode}
-use Rattle.prover.specs.declared.Mode.the-variants.{Small, Full}
 use Rattle.prover.specs.declared.Next.{Next}
 use Rattle.prover.specs.declared.Next.the-variants.{Total, Message, Challenge, Ends, Openings}
 use Rattle.prover.specs.declared.Kind.{Kind}

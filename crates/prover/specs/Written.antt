@@ -1,10 +1,10 @@
 -- The proof file of a plain run: "It serves plain runs only."
 use Prim.Native.Nat.{ℕ}
-use mathlib.Core.Bool.{Bool, true, false, cond}
+use mathlib.Core.Bool.{Bool, false, cond}
 use mathlib.Core.List.{List}
 use Rattle.refusal.specs.Number as number
 use Rattle.refusal.specs.Outcome.{Outcome, answered, refused, refusedAt, require}
-use Rattle.wire.specs.Proof.{proofFile, proofValues, writeProof, writtenIn}
+use Rattle.wire.specs.Proof.{proofFile, proofValues, writeProof}
 use Rattle.prover.specs.declared.Run.{Run}
 use Rattle.prover.specs.declared.Pass.{Pass}
 use Rattle.prover.specs.declared.Step.{Step}

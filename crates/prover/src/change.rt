@@ -14,9 +14,9 @@ use super::answers::answered;
 use super::answers::refuse;
 use super::checks;
 use super::formed;
-use super::items::write;
 use super::levels;
 use super::open;
+use vector::slice::write;
 
 // A pass of a kind that has taken nothing.
 pub fn empty_pass(kind: Kind) -> Pass

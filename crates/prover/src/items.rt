@@ -1,7 +1,6 @@
 // The items of a pass.
 ghost use mathlib.Core.Path.{_≡_};
 ghost use Prim.Native.Nat.{_≤_, _<_};
-ghost use lib.ListN.{set};
 ghost use Rattle.prover.specs.Records.{out, leaves};
 ghost use Rattle.prover.specs.Take.{entering, summedItem, enteredItem, oneMore, placeOf, placeDone, placedIn, takes};
 ghost use Rattle.prover.specs.Calls.{itemCall, fieldItemCall};
@@ -21,6 +20,7 @@ use field::Field;
 use vector::item::Item;
 use vector::item::Parts;
 use vector::kernel::Entered;
+use vector::slice::write;
 
 // The number that enters f.
 fn twisted(run: Run, pass: Pass, x: Item) -> u32
@@ -89,14 +89,6 @@ fn place_done(run: Run, pass: Pass, level: u32) -> bool
         Kind::Shut => false,
         Kind::Asked => false,
         Kind::Change => level == last,
-    }
-}
-
-pub fn write(v: &mut [u32], at: usize, x: u32)
-    ensures { λ r. ⌜ now (v .exit) ≡ set (now (v .entry)) at x ⌝ }
-{
-    if at < v.len() {
-        v[at] = x;
     }
 }
 

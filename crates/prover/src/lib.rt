@@ -1,22 +1,22 @@
 // The prover of a run: document 01's unit, in small mode, in full mode and changing over. A run and its pass go in by value and come
 // back by value; a refused call hands both back unchanged and writes no buffer.
-pub mod answers;
-pub mod challenge;
-pub mod change;
-pub mod checks;
-pub mod close;
-pub mod formed;
-pub mod full;
-pub mod full_checks;
-pub mod items;
-pub mod kernels;
-pub mod levels;
-pub mod open;
-pub mod open_checks;
-pub mod opening;
-pub mod start;
-pub mod values;
-pub mod written;
+mod answers;
+mod challenge;
+mod change;
+mod checks;
+mod close;
+mod formed;
+mod full;
+mod full_checks;
+mod items;
+mod kernels;
+mod levels;
+mod open;
+mod open_checks;
+mod opening;
+mod start;
+mod values;
+mod written;
 
 use vector::kernel::Evals;
 use vector::kernel::Points;

@@ -58,7 +58,7 @@ pub fn no_points() -> Points
     }
 }
 
-fn points_of(point: u32) -> Points
+pub fn points_of(point: u32) -> Points
     ensures { λ r. ⌜ r ≡ pointsOf 2147483647 point ⌝ }
 {
     let minus = modular::neg(Field::MODULUS, point);

@@ -7,7 +7,7 @@ ghost use Rattle.vector.specs.Kernel.{emptyKernel};
 ghost use Rattle.vector.specs.Opening.{opening};
 ghost use Rattle.prover.specs.Records.{out, leaves};
 ghost use Rattle.prover.specs.Values.{inNinety};
-ghost use Rattle.prover.specs.Opening.{pointsAt, streamed, openingGiven, openingCall};
+ghost use Rattle.prover.specs.Opening.{streamed, openingGiven, openingCall};
 use super::Answer;
 use super::Check;
 use super::Pass;
@@ -16,23 +16,12 @@ use super::Step;
 use super::answers::refuse;
 use super::checks;
 use super::full_checks;
+use super::open::points_of;
 use super::values;
 use field::Field;
 use field::modular;
 use vector::kernel::Kernel;
 use vector::kernel::Points;
-
-// The points of an opening pass at b: b, -b, b squared.
-fn points_at(b: u32) -> Points
-    ensures { λ r. ⌜ r ≡ pointsAt 2147483647 b ⌝ }
-{
-    Points {
-        on: true,
-        point: b,
-        minus: modular::neg(Field::MODULUS, b),
-        square: modular::mul(Field::MODULUS, b, b),
-    }
-}
 
 // The kernel of a pass over the first `count` places, "from last item to first".
 fn stream(
@@ -64,7 +53,7 @@ fn opening_values(run: Run, b: u32, f: &[u32], g: &[u32]) -> [u32; 90]
 {
     let challenges = run.challenges;
     let count = vector::sizes::size_of(run.rounds, 0) as usize;
-    let points = points_at(b);
+    let points = points_of(b);
     let kernel = stream(challenges, run.rounds, points, f, g, count);
     let evals = kernel.evals;
     values::values_of(evals, run.rounds)

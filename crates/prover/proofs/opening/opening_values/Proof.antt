@@ -18,8 +18,8 @@ size-of-requires c κs = search needs
 cast-count : tie.Need-cast-count
 cast-count c = search needs
 
-points-at-requires : tie.Need-points-at-requires
-points-at-requires c κs = search needs
+points-of-requires : tie.Need-points-of-requires
+points-of-requires c κs = search needs
 
 stream-requires : tie.Need-stream-requires
 stream-requires c κs =
@@ -37,7 +37,7 @@ returns c =
     let few = c .before .before .before .before .before .before .before .before .pre .0 in
     let count : c .before .before .before .before .size-of .result ≡ 2 ^ n = c .before .before .before .before .size-of .ensures ∙ size-32 n 0 few ∙ size-all n in
     c .values-of .ensures
-    ∙ ap (λ k. valuesOf (k .evals) n) (c .before .before .stream .ensures ∙ ap₂ (λ points m. streamed 2147483647 (s .run .challenges) n points (now (s .f)) (now (s .g)) m emptyKernel) (c .before .before .before .points-at .ensures) count)
+    ∙ ap (λ k. valuesOf (k .evals) n) (c .before .before .stream .ensures ∙ ap₂ (λ points m. streamed 2147483647 (s .run .challenges) n points (now (s .f)) (now (s .g)) m emptyKernel) (c .before .before .before .points-of .ensures) count)
     ∙ stream-values 2147483647 n (s .b) (s .run .challenges) (now (s .f)) (now (s .g)) few
 
 pub opening-values-spec : {M : Type 1} → statement M
@@ -46,7 +46,7 @@ opening-values-spec =
     (tie.spec
     size-of-requires
     cast-count
-    points-at-requires
+    points-of-requires
     stream-requires
     values-of-requires
     returns)
