@@ -15,7 +15,6 @@ use Rattle.vector.specs.Rounds.{roundsOf}
 use Rattle.vector.specs.Slice.{isNonzero}
 use Rattle.verifier.specs.declared.Verifier.{Verifier}
 use Rattle.verifier.specs.declared.Step.{Step}
-use Rattle.verifier.specs.Records.{blank, leaves}
 use Rattle.verifier.specs.WellFormed.{inCount}
 use Rattle.verifier.specs.Starts.{listed, startedWith, plainVerifier, twistedVerifier, ruleVerifier, startPlain, startTwisted, startRule}
 use Rattle.verifier.specs.Claims.{closedWith}
@@ -25,9 +24,8 @@ pub require-answered : {A : Type 0} (ok : Bool) (k : ℕ) (rest : Outcome A) {x 
 require-answered true k rest h = (refl, h)
 require-answered false k rest h = absurd (let z : _≡_ {A = ℕ} 0 1 = cc in omega arith)
 
--- the answer of an outcome that is one
-pub step-of : {s t : Step} → answered s ≡ answered t → s ≡ t
-step-of e = ap (leaves blank) e
+pub answered-same : {A : Type 0} {x y : A} → answered x ≡ answered y → x ≡ y
+answered-same e = cc
 
 pub start-plain-says : (p items : ℕ) (cs : List ℕ) {s : Step} → startPlain p items cs ≡ answered s
     → (inCount items ≡ true) × (listed p (roundsOf items) cs ≡ true) × (s ≡ startedWith (plainVerifier items cs))
@@ -35,7 +33,7 @@ unfolding startPlain
 start-plain-says p items cs h =
     let a = require-answered (inCount items) number.count _ h in
     let b = require-answered (listed p (roundsOf items) cs) number.argument _ (a .1) in
-    (a .0, b .0, sym (step-of (b .1)))
+    (a .0, b .0, sym (answered-same (b .1)))
 
 pub start-twisted-says : (p items : ℕ) (vs cs : List ℕ) {s : Step} → startTwisted p items vs cs ≡ answered s
     → (inCount items ≡ true)
@@ -47,7 +45,7 @@ start-twisted-says p items vs cs h =
     let a = require-answered (inCount items) number.count _ h in
     let b = require-answered (listed p (roundsOf items) vs) number.argument _ (a .1) in
     let c = require-answered (listed p (roundsOf items) cs) number.argument _ (b .1) in
-    (a .0, b .0, c .0, sym (step-of (c .1)))
+    (a .0, b .0, c .0, sym (answered-same (c .1)))
 
 pub start-rule-says : (p rounds v : ℕ) (cs : List ℕ) {s : Step} → startRule p rounds v cs ≡ answered s
     → (leb rounds 15 ≡ true) × (isNonzero p v ≡ true) × (listed p rounds cs ≡ true) × (s ≡ startedWith (ruleVerifier p rounds v cs))
@@ -56,7 +54,7 @@ start-rule-says p rounds v cs h =
     let a = require-answered (leb rounds 15) number.count _ h in
     let b = require-answered (isNonzero p v) number.argument _ (a .1) in
     let c = require-answered (listed p rounds cs) number.argument _ (b .1) in
-    (a .0, b .0, c .0, sym (step-of (c .1)))
+    (a .0, b .0, c .0, sym (answered-same (c .1)))
 
 close-says : (p : ℕ) (v : Verifier) (total : ℤ) {x : Step} → close p v total ≡ answered x → (inLimits p total ≡ true) × (x .verifier .claim ≡ image p total)
 unfolding close closedWith
@@ -65,7 +63,7 @@ close-says p v total {x} h =
     let b = require-answered (eqb (v .taken) (v .items)) number.items _ a .1 in
     let c = require-answered (v .plain) number.order _ b .1 in
     let d = require-answered (inLimits p total) number.total _ c in
-    (d .0, ap (λ s. s .verifier .claim) (sym (step-of (d .1))))
+    (d .0, ap (λ s. s .verifier .claim) (sym (answered-same (d .1))))
 
 -- A TOTAL IS NEVER TAKEN FOR ANOTHER: of two totals that the close answers alike, so that T and T + P never both pass
 pub totals-apart : (p : ℕ) (v : Verifier) (s t : ℤ) {x : Step} → close p v s ≡ answered x → close p v t ≡ answered x → s ≡ t

@@ -1,4 +1,4 @@
--- A fresh verifier is well formed, and every call hands back a well-formed one for a well-formed one.
+-- A fresh verifier is well formed, and every call hands back a well-formed one for a well-formed one (with a proof file: ProofFiles).
 use mathlib.Core.Path.{_≡_, refl, sym, _∙_}
 use mathlib.Core.Bool.{Bool, true, false, cond, not}
 use mathlib.Core.List.{List}

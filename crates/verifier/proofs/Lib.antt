@@ -1,4 +1,5 @@
 pub mod Invariant
+pub mod FileFacts
 pub mod Faults
 pub mod EndSums
 pub mod Verdicts
@@ -10,3 +11,7 @@ pub mod RuleRuns
 pub mod Answered
 pub mod Kept
 pub mod TrueOpenings
+pub mod Singly
+pub mod FileVerdicts
+pub mod ProofFiles
+pub mod PlainFiles

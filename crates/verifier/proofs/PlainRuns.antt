@@ -33,7 +33,7 @@ use Rattle.verifier.specs.WellFormed.{inCount}
 use Rattle.verifier.specs.Starts.{listed, freshVerifier, plainVerifier}
 use Rattle.verifier.specs.Sums.{oneMore}
 use Rattle.verifier.specs.Claims.{closedWith}
-use Rattle.verifier.specs.Calls.{close, verdict}
+use Rattle.verifier.specs.Calls.{passOpen, close, verdict}
 use Rattle.verifier.specs.Trips.{afterCalls, plainItems, messages, verdictOf, tripTotal}
 use Rattle.verifier.proofs.EndSums.{entered, state, open-while, item-taken, plain-parts, few, limit}
 use Rattle.verifier.proofs.Verdicts.{true-messages}
@@ -66,10 +66,10 @@ module _ (p items : ℕ) (cs : List ℕ) (readings : ℕ → ℤ) (weights : Vec
 
   module _ (large : maxWeight < p) (count : inCount items ≡ true) (list : listed p (roundsOf items) cs ≡ true)
       (fine : (i : ℕ) → i < items → weights i ≤ maxWeight) where
-    abbrev kept : List ℕ
+    abbrev pub kept : List ℕ
     kept = fifteen (roundsOf items) cs
 
-    abbrev plainState : ℕ → Verifier
+    abbrev pub plainState : ℕ → Verifier
     plainState = state p items count true (replicate 15 0) kept (λ i. image p (readings i)) weights
 
     plain-taken : (m : ℕ) → m < items
@@ -86,6 +86,9 @@ module _ (p items : ℕ) (cs : List ℕ) (readings : ℕ → ℤ) (weights : Vec
     unfolding freshVerifier
     plain-same i h = refl
 
+    pub plain-agree : (k : ℕ) → k < roundsOf items → at kept k ≡ at cs k
+    plain-agree = fifteen-at (roundsOf items) cs (few items count) (omega (arith, list-length p (roundsOf items) cs list))
+
     abbrev plain-run : Run p
     plain-run =
         record {
@@ -95,7 +98,7 @@ module _ (p items : ℕ) (cs : List ℕ) (readings : ℕ → ℤ) (weights : Vec
           twists = replicate 15 0;
           challenges = kept;
           c = at cs;
-          agree = fifteen-at (roundsOf items) cs (few items count) (omega (arith, list-length p (roundsOf items) cs list));
+          agree = plain-agree;
           f = λ i. image p (readings i);
           g = weights;
           F = λ i. image p (readings i);
@@ -106,6 +109,13 @@ module _ (p items : ℕ) (cs : List ℕ) (readings : ℕ → ℤ) (weights : Vec
           taken = plain-taken;
         }
 
+    -- the record after the items
+    pub plain-reaches : afterPlain ≡ plainState items
+    plain-reaches = reaches p plain-run
+
+    pub plain-open : passOpen afterPlain ≡ true
+    plain-open = ap passOpen plain-reaches ∙ ready-open p plain-run
+
     -- (a) THE RUNNING SUMS ARE THE TRUE END VALUES
     pub plain-ends :
         (afterPlain .fsum ≡ endValue p (at cs) (roundsOf items) readingVector)
@@ -115,7 +125,7 @@ module _ (p items : ℕ) (cs : List ℕ) (readings : ℕ → ℤ) (weights : Vec
     plain-close : (total : ℤ) → inLimits p total ≡ true → leaves afterPlain (close p afterPlain total) .verifier ≡ closedWith (plainState items) (image p total)
     unfolding freshVerifier state
     plain-close total h =
-        ap (λ v. leaves v (close p v total) .verifier) (reaches p plain-run)
+        ap (λ v. leaves v (close p v total) .verifier) plain-reaches
         ∙ (rw (close-next p (plainState items) total (ready-open p plain-run) refl refl h))
 
     -- (b) THE VERDICT, for any total within its limits and any messages of field numbers
@@ -128,6 +138,12 @@ module _ (p items : ℕ) (cs : List ℕ) (readings : ℕ → ℤ) (weights : Vec
         ap (λ v. verdict p (afterCalls (messages p m) v (roundsOf items))) (plain-close total h)
         ∙ run-verdict p plain-run (image p total) m reduced
 
+    -- the trip's total as a claim
+    pub plain-claim : image p (tripTotal readings weights items) ≡ dot p (2 ^ roundsOf items) readingVector weightVector
+    plain-claim =
+        trip-image p readings weights items
+        ∙ sym (dot-padded p items (2 ^ roundsOf items) (rounds-enough items (limit items count)) (λ i. image p (readings i)) weights)
+
     -- (d) COMPLETENESS: the trip's own total, if it is within its limits, with the messages of its vectors
     pub plain-accepts : inLimits p (tripTotal readings weights items) ≡ true
         → verdict p
@@ -139,9 +155,6 @@ module _ (p items : ℕ) (cs : List ℕ) (readings : ℕ → ℤ) (weights : Vec
         let n = roundsOf items in
         let m = vector.message p n (at cs) readingVector weightVector in
         let product = mulMod p (endValue p (at cs) n readingVector) (endValue p (at cs) n weightVector) in
-        let claim : image p (tripTotal readings weights items) ≡ dot p (2 ^ n) readingVector weightVector =
-        trip-image p readings weights items
-        ∙ sym (dot-padded p items (2 ^ n) (rounds-enough items (limit items count)) (λ i. image p (readings i)) weights) in
         plain-verdict (tripTotal readings weights items) m h (message-reduced p n (at cs) readingVector weightVector (omega arith))
         ∙ ap answered
-        (ap (λ x. verdictOf p (at cs) n x m product) claim ∙ true-messages p n (at cs) readingVector weightVector)
+        (ap (λ x. verdictOf p (at cs) n x m product) plain-claim ∙ true-messages p n (at cs) readingVector weightVector)

@@ -6,7 +6,7 @@ use Prim.Native.Nat.{ℕ, zero, suc, _+_, _-_, _^_, _≤_, _<_}
 use native.Mathlib.Numerals.{add-one}
 use native.Mathlib.Omega.{arith}
 use lib.Dec.{eqb, ltb}
-use borrow.Author.Tests.{eq-eqb, eqb-true, eqb-false, lt-ltb, le-ltb}
+use borrow.Author.Tests.{eq-eqb, eqb-true, eqb-false, lt-ltb, le-ltb, ltb-false}
 use Rattle.algebra.specs.Mod.{mulMod}
 use Rattle.refusal.specs.Outcome.{answered, refused}
 use Rattle.refusal.specs.Number as number
@@ -24,10 +24,10 @@ use Rattle.verifier.specs.Openings.{firstFault}
 use Rattle.verifier.specs.Calls.{messageTurn, allReduced3, message, verdictTurn, verdict}
 use Rattle.verifier.specs.Trips.{afterCalls, messages, claimAt, messagePasses, firstFailed, verdictOf}
 use Rattle.verifier.proofs.Invariant.{parts-of, formed-of, closed-taken, closed-turn}
-use Rattle.verifier.proofs.Faults.{Passes, Fails, fault-cases, fault-same, passes-all}
+use Rattle.verifier.proofs.Faults.{Passes, Fails, fault-cases, fault-most, fault-same, passes-all}
 
 -- a verifier with another claim, round and failure
-abbrev withClaim : Verifier → ℕ → ℕ → Bool → Verifier
+abbrev pub withClaim : Verifier → ℕ → ℕ → Bool → Verifier
 withClaim v claim round failed =
     record {
       items = v .items;
@@ -57,17 +57,17 @@ formed-with v h closed claim round failed le =
     })
 
 -- a call that is next is answered; one that is not changes nothing
-message-heard : (p : ℕ) (w : Verifier) (m : Message) → wellFormed w ≡ true → messageTurn w ≡ true
+pub message-heard : (p : ℕ) (w : Verifier) (m : Message) → wellFormed w ≡ true → messageTurn w ≡ true
     → allReduced3 p (m .even) (m .cross) (m .odd) ≡ true → message p w (m .even) (m .cross) (m .odd) ≡ answered (hears p w m)
 unfolding message
 message-heard p w m a b c = rw (a, b, c)
 
-message-refused : (p : ℕ) (w : Verifier) (m : Message) → wellFormed w ≡ true → messageTurn w ≡ false
+pub message-refused : (p : ℕ) (w : Verifier) (m : Message) → wellFormed w ≡ true → messageTurn w ≡ false
     → message p w (m .even) (m .cross) (m .odd) ≡ refused number.turn
 unfolding message
 message-refused p w m a b = rw (a, b)
 
-verdict-found : (p : ℕ) (w : Verifier) → wellFormed w ≡ true → verdictTurn w ≡ true → verdict p w ≡ answered (finds p w)
+pub verdict-found : (p : ℕ) (w : Verifier) → wellFormed w ≡ true → verdictTurn w ≡ true → verdict p w ≡ answered (finds p w)
 unfolding verdict
 verdict-found p w a b = rw (a, b)
 
@@ -157,22 +157,33 @@ module _ (p : ℕ) (v : Verifier) (start : Closed v) (m : ℕ → Message)
   unfolding verdictTurn finds
   found-no j h = verdict-found p (stopped j) (formed (claims j) j true h) (rw (start .closed))
 
-  -- DEMAND 2, THE VERDICT
-  pub verdict-after : verdict p (after n) ≡ answered (verdictOf p (at (v .challenges)) n (v .claim) m (mulMod p (v .fsum) (v .gsum)))
-  unfolding verdictOf product
-  verdict-after =
+  -- the record after n messages: stopped at the first that failed, if any
+  pub ended : after n ≡ withClaim v (claims (firstFault test 0 n)) (firstFault test 0 n) (ltb (firstFault test 0 n) n)
+  ended =
       ⊎-elim
       (λ (a : Passes test 0 n).
-      let none : ltb (firstFault test 0 n) n ≡ false = le-ltb (firstFault test 0 n) n (omega (arith, a .end)) in
-      ap (verdict p) (all-heard n (omega arith) (λ i h. a .all i (omega arith) (omega arith))) ∙ found ∙ (rw none))
+      let end : firstFault test 0 n ≡ n = a .end ∙ omega arith in
+      all-heard n (omega arith) (λ i h. a .all i (omega arith) (omega arith)) ∙ (rw (end, le-ltb n n (omega arith))))
       (λ (a : Fails test 0 n).
       let j : ℕ = firstFault test 0 n in
       let less : firstFault test 0 n < n = omega (arith, a .below) in
       let same : n ≡ suc (firstFault test 0 n + (n - suc (firstFault test 0 n))) = omega arith in
-      ap (λ k. verdict p (after k)) same
-      ∙ ap (verdict p) (after-no j less (λ i h. a .before i (omega arith) h) (a .fails) (n - suc j))
-      ∙ found-no j (omega arith) ∙ (rw (lt-ltb (firstFault test 0 n) n less)))
+      ap after same
+      ∙ after-no j less (λ i h. a .before i (omega arith) h) (a .fails) (n - suc j)
+      ∙ (rw (lt-ltb (firstFault test 0 n) n less)))
       (fault-cases test n 0)
+
+  -- DEMAND 2, THE VERDICT
+  pub verdict-after : verdict p (after n) ≡ answered (verdictOf p (at (v .challenges)) n (v .claim) m (mulMod p (v .fsum) (v .gsum)))
+  unfolding verdictOf product
+  verdict-after = ap (verdict p) ended ∙ by (firstFault test 0 n) (fault-most test n) (ltb (firstFault test 0 n) n) refl
+    where
+      by : (j : ℕ) → j ≤ n → (b : Bool) → ltb j n ≡ b
+          → verdict p (withClaim v (claims j) j b) ≡ answered (cond b (no j) (cond (eqb (claims n) product) yes (no n)))
+      by j h true e = found-no j h
+      by j h false e =
+          let last : j ≡ n = (let le = ltb-false j n e in omega arith) in
+          ap (λ k. verdict p (withClaim v (claims k) k false)) last ∙ found
 
 -- each message meets its equation
 abbrev pub AllPass : ℕ → (ℕ → ℕ) → ℕ → (ℕ → Message) → ℕ → Type 0
@@ -202,26 +213,31 @@ module _ (p : ℕ) (c : ℕ → ℕ) (n claim : ℕ) (m : ℕ → Message) (prod
   unequal : (i : ℕ) → messagePasses p c claim m i ≡ false → passes p (m i) ≡ claimAt p c claim m i → ⊥
   unequal i e = eqb-false (passes p (m i)) (claimAt p c claim m i) e
 
+  -- the first round whose message fails; n where every one passes
+  pub first-says : FirstNo p c claim m n (firstFailed p c n claim m) ⊎ ((firstFailed p c n claim m ≡ n) × AllPass p c claim m n)
+  first-says =
+      ⊎-elim
+      (λ (a : Passes (messagePasses p c claim m) 0 n).
+      inr (a .end ∙ omega arith, λ i h. equation i (a .all i (omega arith) (omega arith))))
+      (λ (a : Fails (messagePasses p c claim m) 0 n).
+      inl
+      (record {
+        below = omega (arith, a .below);
+        before = λ i h. equation i (a .before i (omega arith) h);
+        fails = unequal (firstFailed p c n claim m) (a .fails);
+      }))
+      (fault-cases (messagePasses p c claim m) n 0)
+
   -- DEMAND 2, BOTH WAYS: yes where every message meets its equation and the last claim is the product, else the first round that failed,
   -- or n
   pub verdict-says : VerdictSays p c claim m n product (verdictOf p c n claim m product)
   unfolding verdictOf
   verdict-says =
       ⊎-elim
-      (λ (a : Passes (messagePasses p c claim m) 0 n).
-      let none : ltb (firstFailed p c n claim m) n ≡ false = le-ltb (firstFailed p c n claim m) n (omega (arith, a .end)) in
-      let all : AllPass p c claim m n = λ i h. equation i (a .all i (omega arith) (omega arith)) in
-      rw none (by (eqb (claimAt p c claim m n) product) refl all))
-      (λ (a : Fails (messagePasses p c claim m) 0 n).
-      let less : firstFailed p c n claim m < n = omega (arith, a .below) in
-      rw (lt-ltb (firstFailed p c n claim m) n less)
-      (inl
-      (record {
-        below = less;
-        before = λ i h. equation i (a .before i (omega arith) h);
-        fails = unequal (firstFailed p c n claim m) (a .fails);
-      })))
-      (fault-cases (messagePasses p c claim m) n 0)
+      (λ (a : FirstNo p c claim m n (firstFailed p c n claim m)). rw (lt-ltb (firstFailed p c n claim m) n (a .below)) (inl a))
+      (λ (a : (firstFailed p c n claim m ≡ n) × AllPass p c claim m n).
+      rw (le-ltb (firstFailed p c n claim m) n (omega (arith, a .0))) (by (eqb (claimAt p c claim m n) product) refl (a .1)))
+      first-says
     where
       by : (b : Bool) → eqb (claimAt p c claim m n) product ≡ b → AllPass p c claim m n → VerdictSays p c claim m n product (cond b yes (no n))
       by true e all = (all, eqb-true (claimAt p c claim m n) product e)
@@ -251,6 +267,13 @@ true-messages p n c f g =
     (λ i h. message-passes p n c f g i h ∙ sym (claim-of p n c f g i))
     (claim-of p n c f g n ∙ last-claim p n c f g)
 
+-- only the messages below n count
+pub claim-of-same : (p n : ℕ) (c : ℕ → ℕ) (claim : ℕ) (m l : ℕ → Message) → ((i : ℕ) → i < n → m i ≡ l i) → (i : ℕ) → i ≤ n
+    → claimAt p c claim m i ≡ claimAt p c claim l i
+unfolding claimAt
+claim-of-same p n c claim m l same zero h = refl
+claim-of-same p n c claim m l same (suc i) h = ap (λ x. nextClaim p x (c i)) (same i (omega arith))
+
 -- only the challenges below n count
 module _ (p n : ℕ) (c d : ℕ → ℕ) (agree : (k : ℕ) → k < n → c k ≡ d k) (claim : ℕ) (m : ℕ → Message) where
   claim-same : (i : ℕ) → i ≤ n → claimAt p c claim m i ≡ claimAt p d claim m i
@@ -258,10 +281,12 @@ module _ (p n : ℕ) (c d : ℕ → ℕ) (agree : (k : ℕ) → k < n → c k �
   claim-same zero h = refl
   claim-same (suc i) h = ap (nextClaim p (m i)) (agree i (omega arith))
 
+  pub failed-same : firstFailed p c n claim m ≡ firstFailed p d n claim m
+  failed-same =
+      fault-same (messagePasses p c claim m) (messagePasses p d claim m) n 0
+      (λ i l h. ap (eqb (passes p (m i))) (claim-same i (omega arith)))
+
   pub verdict-same : (product : ℕ) → verdictOf p c n claim m product ≡ verdictOf p d n claim m product
   unfolding verdictOf
   verdict-same product =
-      ap₂ (λ k x. cond (ltb k n) (no k) (cond (eqb x product) yes (no n)))
-      (fault-same (messagePasses p c claim m) (messagePasses p d claim m) n 0
-      (λ i l h. ap (eqb (passes p (m i))) (claim-same i (omega arith))))
-      (claim-same n (omega arith))
+      ap₂ (λ k x. cond (ltb k n) (no k) (cond (eqb x product) yes (no n))) failed-same (claim-same n (omega arith))

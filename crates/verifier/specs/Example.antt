@@ -3,6 +3,7 @@ use Prim.Native.Nat.{ℕ, zero, suc}
 use mathlib.Core.Path.{_≡_, refl}
 use mathlib.Core.List.{List, [], _∷_}
 use lib.IntN.{ℤ, pos, negsuc}
+use lib.ListN.{set}
 use Rattle.algebra.specs.Mod.{residue, addMod, subMod, negMod, mulMod, halfOne, halfMod, inverseIn, inverseMod, divMod}
 use Rattle.refusal.specs.Outcome.{answered, refused, refusedAt}
 use Rattle.field.specs.Integer.{image}
@@ -13,6 +14,9 @@ use Rattle.vector.specs.Message.{Message}
 use Rattle.vector.specs.Opening.{opens}
 use Rattle.vector.specs.Slice.{overwrite, fifteen, every}
 use Rattle.vector.specs.Item.{plainParts}
+use Rattle.wire.specs.Number.{num, bytes, numAt, signed, bits}
+use Rattle.wire.specs.Header.{marked}
+use Rattle.wire.specs.Proof.{readProof, readProofOf, allBelow, numbers, proofHeader, proofFile}
 use Rattle.verifier.specs.declared.Verifier.{Verifier}
 use Rattle.verifier.specs.Records.{leaves, yes, no, holds, failsG}
 use Rattle.verifier.specs.WellFormed.{inCount, turnFits, wellFormed}
@@ -21,6 +25,7 @@ use Rattle.verifier.specs.Sums.{entering, oneMore}
 use Rattle.verifier.specs.Claims.{closedWith, passedWith, failedNow, hears, finds}
 use Rattle.verifier.specs.Openings.{firstFault, openingFinds}
 use Rattle.verifier.specs.Calls.{passOpen, item, close, messageTurn, allReduced3, message, verdictTurn, verdict, hasRounds, checkOpening}
+use Rattle.verifier.specs.ProofFile.{hearsNext, hearsFirst, endsAgree, compares, afterFile, proof, leavesJudged}
 use Rattle.verifier.specs.Trips.{afterCalls, plainItems, messages}
 
 abbrev P : ℕ
@@ -85,6 +90,31 @@ other-message = refl
 pub other-cross : verdict P (afterMessages (negsuc 5099) (record { even = 2147457147; cross = 2147482998; odd = 200 })) ≡ answered (no 2)
 unfolding afterCalls item passOpen wellFormed inCount turnFits plainParts oneMore entering freshVerifier fifteen overwrite powers firstFrom weight image residue addMod negMod mulMod close closedWith inLimits message messageTurn allReduced3 hears passedWith failedNow verdict verdictTurn finds
 other-cross = refl
+
+-- the same in a proof file
+abbrev fileWith : ℕ → List ℕ
+fileWith end =
+    proofFile 2 (negsuc 5099)
+    (2147482047 ∷ 2147478297 ∷ 2147480147 ∷ 2147457147 ∷ 2147482997 ∷ 200 ∷ 2147483237 ∷ end ∷ [])
+
+pub file-accepted : leavesJudged afterTrip (proof P afterTrip (fileWith 65)) .1 ≡ answered yes
+unfolding afterCalls item passOpen wellFormed inCount turnFits plainParts oneMore entering freshVerifier fifteen overwrite powers firstFrom weight image residue addMod negMod mulMod proof readProofOf readProof marked numAt num signed inLimits allBelow proofHeader numbers bytes bits afterFile hearsFirst hearsNext compares endsAgree closedWith hears passedWith failedNow finds
+file-accepted = refl
+
+-- another end value of g is no at n, though the last claim is the product of the verifier's own
+pub other-end : leavesJudged afterTrip (proof P afterTrip (fileWith 66)) .1 ≡ answered (no 2)
+unfolding afterCalls item passOpen wellFormed inCount turnFits plainParts oneMore entering freshVerifier fifteen overwrite powers firstFrom weight image residue addMod negMod mulMod proof readProofOf readProof marked numAt num signed inLimits allBelow proofHeader numbers bytes bits afterFile hearsFirst hearsNext compares endsAgree closedWith hears passedWith failedNow finds
+other-end = refl
+
+-- a file for one round more, and too short for it: 3 before 4
+pub other-rounds : proof P afterTrip (set (fileWith 65) 5 3) ≡ refused 3
+unfolding afterCalls item passOpen wellFormed inCount turnFits plainParts oneMore entering freshVerifier fifteen overwrite powers firstFrom weight image residue addMod negMod mulMod proof readProofOf readProof marked numAt num signed inLimits allBelow proofHeader numbers bytes bits
+other-rounds = refl
+
+-- before the items, whatever the file
+pub file-early : proof P (plainVerifier 3 challenges) [] ≡ refused 8
+unfolding passOpen wellFormed inCount turnFits freshVerifier powers firstFrom proof
+file-early = refl
 
 -- "total .. 1,073,741,824 refused", and the same below zero
 pub total-over : close P afterTrip (pos 1073741824) ≡ refused 7

@@ -5,5 +5,6 @@ pub mod Sums
 pub mod Claims
 pub mod Openings
 pub mod Calls
+pub mod ProofFile
 pub mod Trips
 pub mod Example

@@ -1,16 +1,21 @@
 -- Calls in a row, and what the verdict after them is.
-use Prim.Native.Nat.{ℕ, zero, suc}
-use mathlib.Core.Bool.{Bool, cond}
+use Prim.Native.Nat.{ℕ, zero, suc, _+_, _*_}
+use mathlib.Core.Bool.{Bool, cond, _&&_}
+use mathlib.Core.List.{List}
 use lib.Dec.{eqb, ltb}
 use lib.IntN.{ℤ, pos, _+ℤ_, _*ℤ_}
+use Rattle.algebra.specs.Mod.{mulMod}
 use Rattle.refusal.specs.Outcome.{Outcome}
+use Rattle.field.specs.Integer.{image}
 use Rattle.vector.specs.Vector.{Vector}
 use Rattle.vector.specs.Message.{Message, passes, nextClaim}
+use Rattle.wire.specs.Proof.{proofTotal, proofNumber}
 use Rattle.verifier.specs.declared.Verifier.{Verifier}
 use Rattle.verifier.specs.declared.Step.{Step}
 use Rattle.verifier.specs.Records.{leaves, Finding, yes, no}
 use Rattle.verifier.specs.Openings.{firstFault}
 use Rattle.verifier.specs.Calls.{item, fieldItem, message}
+use Rattle.verifier.specs.ProofFile.{fileMessage}
 
 -- the verifier after m calls, "each call given the record that the last returned"
 unfoldable pub afterCalls : (Verifier → ℕ → Outcome Step) → Verifier → ℕ → Verifier
@@ -46,6 +51,13 @@ unfoldable pub verdictOf : ℕ → (ℕ → ℕ) → ℕ → ℕ → (ℕ → Me
 verdictOf p c n claim m product =
     cond (ltb (firstFailed p c n claim m) n) (no (firstFailed p c n claim m))
     (cond (eqb (claimAt p c claim m n) product) yes (no n))
+
+-- the same for a proof file and end values f and g: "End values in the proof file must equal its own, else no at n"
+unfoldable pub fileVerdictOf : ℕ → (ℕ → ℕ) → ℕ → List ℕ → ℕ → ℕ → Finding
+fileVerdictOf p c n file f g =
+    cond (eqb (proofNumber file (3 * n)) f && eqb (proofNumber file (3 * n + 1)) g)
+    (verdictOf p c n (image p (proofTotal file)) (fileMessage file) (mulMod p f g))
+    (no (firstFailed p c n (image p (proofTotal file)) (fileMessage file)))
 
 -- readings times minutes over the first m items
 unfoldable pub tripTotal : (ℕ → ℤ) → Vector → ℕ → ℤ
