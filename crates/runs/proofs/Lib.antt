@@ -1,0 +1,12 @@
+pub mod RunBounds
+pub mod PassRecord
+pub mod PassKernel
+pub mod PassTotal
+pub mod PassFormed
+pub mod PassTrip
+pub mod RunFacts
+pub mod CloseLaws
+pub mod LevelReached
+pub mod Places
+pub mod ChangeLaws
+pub mod FullBuffers

@@ -1,0 +1,98 @@
+-- The stacks of a pass after any items: those of the stream of its pairs, so their levels follow from the count alone.
+use mathlib.Core.Path.{_≡_, refl, sym, ap, _∙_}
+use mathlib.Core.Bool.{Bool, true, false, cond, true≢false}
+use mathlib.Core.List.{List, [], _∷_}
+use mathlib.Core.Logic.{⊎-elim}
+use Prim.Native.Nat.{ℕ, zero, suc, _+_, _/_, _^_, _<_, _≤_}
+use native.Mathlib.Nat.{eq-or-lt-of-le}
+use native.Mathlib.Omega.{arith}
+use lib.ListN.{length}
+use Rattle.vector.specs.declared.kernel.Kernel.{Kernel}
+use Rattle.vector.specs.Kernel.{entered, emptyKernel, paddingKernel}
+use Rattle.vector.specs.Stack.{ones}
+use Rattle.vector.proofs.StackCount.{ones-below}
+use Rattle.vector.proofs.KernelLevels.{Levelled, levelled-count}
+use Rattle.vector.proofs.KernelStream.{kernelOf as streamOf, levelled-list}
+use Rattle.prover.specs.declared.Kind.{Kind}
+use Rattle.prover.specs.declared.Kind.the-variants.{Shut, Asked, Change}
+use Rattle.prover.specs.declared.Run.{Run}
+use Rattle.prover.specs.declared.Pass.{Pass}
+use Rattle.prover.specs.Records.{kernelOf, isOpen}
+use Rattle.prover.specs.Order.{isTotal, isOpenings, levelOf, padding}
+use Rattle.prover.specs.WellFormed.{runFormed}
+use Rattle.prover.specs.Open.{newPass, noPoints, pointsOf, paddedKernel, openKernel}
+use Rattle.prover.specs.Take.{entering, enteredItem}
+use Rattle.runs.specs.Trip.{Raw, partsIn}
+use Rattle.runs.specs.Passes.{openedPass, passAfter}
+use Rattle.runs.specs.Items.{pairsOf}
+use Rattle.runs.proofs.RunBounds.{Bounds, bounds}
+use Rattle.runs.proofs.PassRecord.{takes-kernel, after-kind, after-points, after-entering}
+
+pub pairs-length : (p : ℕ) (r : Run) (xs : List Raw) → length (pairsOf p r xs) ≡ length xs
+unfolding pairsOf
+pairs-length p r [] = refl
+pairs-length p r (x ∷ xs) = ap suc (pairs-length p r xs)
+
+-- one binary one in a power of two
+ones-power : (n w : ℕ) → ones w (2 ^ n) ≤ 1
+unfolding ones
+ones-power n zero = omega arith
+ones-power zero (suc w) = omega (arith, ones-below 0 w 0 (omega arith))
+ones-power (suc n) (suc w) =
+    let half : 2 ^ suc n / 2 ≡ 2 ^ n = omega arith in
+    rw half (omega (arith, ones-power n w))
+
+-- after at most N items fifteen places are enough
+pub ones-fit : (n w t : ℕ) → n ≤ 15 → t ≤ 2 ^ n → ones w t ≤ 15
+ones-fit n w t hn ht =
+    ⊎-elim (λ (e : t ≡ 2 ^ n). rw e (omega (arith, ones-power n w))) (λ (l : t < 2 ^ n). omega (arith, ones-below n w t l)) (eq-or-lt-of-le ht)
+
+module _ (p : ℕ) (r : Run) (b : ℕ) (other : isTotal (r .next) ≡ false) where
+  -- "A small pass takes the padding by itself"
+  pub opened-kernel : (k : Kind) → isOpen k ≡ true → kernelOf (openedPass p r k b) ≡ paddingKernel (padding r) (levelOf r k)
+  opened-kernel Shut o = absurd (true≢false (sym o))
+  opened-kernel Asked o = by (isOpenings (r .next))
+    where
+      by : (t : Bool) → kernelOf (cond t (newPass Asked (pointsOf p b) (paddedKernel r)) (newPass Asked noPoints (openKernel r))) ≡ paddedKernel r
+      by true = refl
+      by false = ap (λ t. cond t emptyKernel (paddedKernel r)) other
+  opened-kernel Change o = refl
+
+  module _ (k : Kind) (isopen : isOpen k ≡ true) where
+    -- THE STACKS of a pass, item by item
+    pub after-kernel : (xs : List Raw)
+        → kernelOf (passAfter p r k b xs)
+        ≡ streamOf p (r .challenges) (levelOf r k) (openedPass p r k b .points) (paddingKernel (padding r) (levelOf r k)) (pairsOf p r xs)
+    unfolding passAfter pairsOf streamOf enteredItem
+    after-kernel [] = opened-kernel k isopen
+    after-kernel (x ∷ xs) =
+        let s : Pass = passAfter p r k b xs in
+        let a : ℕ = entering p r s (partsIn p x) in
+        let q : Kernel = streamOf p (r .challenges) (levelOf r k) (openedPass p r k b .points) (paddingKernel (padding r) (levelOf r k)) (pairsOf p r xs) in
+        takes-kernel p r s (partsIn p x) [] [] other
+        ∙ ap (λ m. entered p (r .challenges) (levelOf r m) (s .points) (kernelOf s) a (partsIn p x .g) .kernel) (after-kind p r k b xs)
+        ∙ ap (λ at. entered p (r .challenges) (levelOf r k) at (kernelOf s) a (partsIn p x .g) .kernel) (after-points p r k b xs)
+        ∙ ap (λ m. entered p (r .challenges) (levelOf r k) (openedPass p r k b .points) m a (partsIn p x .g) .kernel) (after-kernel xs)
+        ∙ ap (λ f. entered p (r .challenges) (levelOf r k) (openedPass p r k b .points) q f (partsIn p x .g) .kernel) (after-entering p r k b xs x)
+
+    module _ (formed : runFormed p r ≡ true) (xs : List Raw) (within : length xs ≤ r .items) where
+      -- their levels, whatever the items
+      pub after-levels : Levelled (levelOf r k) (padding r + length xs) (kernelOf (passAfter p r k b xs))
+      after-levels =
+          let h : Bounds r = bounds p r formed in
+          let fits : padding r + length (pairsOf p r xs) ≤ 2 ^ r .rounds = omega (arith, pairs-length p r xs, h .padding, h .enough) in
+          rw (after-kernel xs, ← pairs-length p r xs)
+          (levelled-list (r .rounds) (levelOf r k) (h .few) (h .level k) p (r .challenges) (openedPass p r k b .points) (padding r) (pairsOf p r xs) fits)
+
+      pub after-counts : passAfter p r k b xs .fcount ≡ passAfter p r k b xs .gcount
+      after-counts = sym (after-levels .paired .counts)
+
+      pub after-room : passAfter p r k b xs .fcount ≤ 15
+      after-room =
+          let h : Bounds r = bounds p r formed in
+          let fits : padding r + length xs ≤ 2 ^ r .rounds = omega (arith, h .padding, h .enough) in
+          omega (
+            arith,
+            levelled-count (levelOf r k) (padding r + length xs) (kernelOf (passAfter p r k b xs)) after-levels,
+            ones-fit (r .rounds) (suc (levelOf r k)) (padding r + length xs) (h .few) fits,
+          )

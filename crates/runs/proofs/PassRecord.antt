@@ -1,0 +1,132 @@
+-- The record of a pass after any items: its kind, its count, its points, and the index at which the next item enters.
+use mathlib.Core.Path.{_≡_, refl, ap, _∙_}
+use mathlib.Core.Bool.{Bool, true, false, cond}
+use mathlib.Core.List.{List, [], _∷_}
+use Prim.Native.Nat.{ℕ, suc, _+_, _-_}
+use native.Mathlib.Numerals.{add-one}
+use lib.ListN.{length}
+use Rattle.algebra.specs.Mod.{addMod, mulMod}
+use Rattle.field.specs.Total.{plusItem}
+use Rattle.vector.specs.declared.item.Item.{Item}
+use Rattle.vector.specs.declared.kernel.Points.{Points}
+use Rattle.vector.specs.declared.kernel.Kernel.{Kernel}
+use Rattle.vector.specs.Kernel.{emptyKernel, paddingKernel}
+use Rattle.prover.specs.declared.Kind.{Kind}
+use Rattle.prover.specs.declared.Kind.the-variants.{Shut, Asked, Change}
+use Rattle.prover.specs.declared.Run.{Run}
+use Rattle.prover.specs.declared.Pass.{Pass}
+use Rattle.prover.specs.declared.Answer.the-variants as answer
+use Rattle.prover.specs.Records.{kernelOf, withKernel, Out, out, answeredStep, noValues}
+use Rattle.prover.specs.Order.{isTotal, isOpenings, levelOf, padding}
+use Rattle.prover.specs.Open.{newPass, noPoints, pointsOf, paddedKernel, openKernel}
+use Rattle.prover.specs.Take.{entering, oneMore, summedItem, enteredItem, placedIn, takes}
+use Rattle.prover.proofs.Outcomes.{takes-sum, takes-climb}
+use Rattle.runs.specs.Trip.{Raw, partsIn, entersAs}
+use Rattle.runs.specs.Passes.{startOf, openedPass, passAfter}
+
+-- ONE MORE ITEM of any pass
+module _ (p : ℕ) (r : Run) (s : Pass) (y : Item) (f g : List ℕ) where
+  abbrev taking : Bool → Out
+  taking b =
+      let e = enteredItem p r s (entering p r s y) (y .g) in
+      cond b (out (answeredStep r (summedItem p s y (entering p r s y)) answer.Taken) f g)
+      (out (answeredStep r (withKernel (oneMore s) (e .kernel)) answer.Taken) (placedIn r s e (e .f) f) (placedIn r s e (e .g) g))
+
+  -- what holds in a pass for the total and in any other
+  either : {A : Type 0} (part : Out → A) (a : A) → part (taking true) ≡ a → part (taking false) ≡ a → part (takes p r s y f g) ≡ a
+  unfolding takes
+  either part a x y = by (isTotal (r .next))
+    where
+      by : (b : Bool) → part (taking b) ≡ a
+      by true = x
+      by false = y
+
+  pub takes-run : takes p r s y f g .run ≡ r
+  takes-run = either (λ o. o .run) r refl refl
+
+  pub takes-answer : takes p r s y f g .answer ≡ answer.Taken
+  takes-answer = either (λ o. o .answer) answer.Taken refl refl
+
+  pub takes-values : takes p r s y f g .values ≡ noValues
+  takes-values = either (λ o. o .values) noValues refl refl
+
+  pub takes-kind : takes p r s y f g .pass .kind ≡ s .kind
+  unfolding summedItem
+  takes-kind = either (λ o. o .pass .kind) (s .kind) refl refl
+
+  pub takes-taken : takes p r s y f g .pass .taken ≡ suc (s .taken)
+  unfolding summedItem
+  takes-taken = either (λ o. o .pass .taken) (s .taken + 1) refl refl ∙ add-one (s .taken)
+
+  pub takes-points : takes p r s y f g .pass .points ≡ s .points
+  unfolding summedItem
+  takes-points = either (λ o. o .pass .points) (s .points) refl refl
+
+  -- a pass for the total
+  module _ (h : isTotal (r .next) ≡ true) where
+    pub takes-total : takes p r s y f g .pass .total ≡ plusItem (s .total) (y .reading) (y .weight)
+    unfolding summedItem
+    takes-total = ap (λ o. o .pass .total) (takes-sum p r s y f g h)
+
+    pub takes-dot : takes p r s y f g .pass .dot ≡ addMod p (s .dot) (mulMod p (entering p r s y) (y .g))
+    unfolding summedItem
+    takes-dot = ap (λ o. o .pass .dot) (takes-sum p r s y f g h)
+
+    pub takes-still : kernelOf (takes p r s y f g .pass) ≡ kernelOf s
+    unfolding summedItem
+    takes-still = ap (λ o. kernelOf (o .pass)) (takes-sum p r s y f g h)
+
+  -- any other
+  module _ (h : isTotal (r .next) ≡ false) where
+    pub takes-kernel : kernelOf (takes p r s y f g .pass) ≡ enteredItem p r s (entering p r s y) (y .g) .kernel
+    takes-kernel = ap (λ o. kernelOf (o .pass)) (takes-climb p r s y f g h)
+
+    pub takes-none : takes p r s y f g .pass .total ≡ s .total
+    takes-none = ap (λ o. o .pass .total) (takes-climb p r s y f g h)
+
+-- its pass does not depend on the buffers
+pub takes-buffers : (p : ℕ) (r : Run) (s : Pass) (y : Item) (f g f′ g′ : List ℕ) → takes p r s y f g .pass ≡ takes p r s y f′ g′ .pass
+unfolding takes
+takes-buffers p r s y f g f′ g′ = by (isTotal (r .next))
+  where
+    by : (b : Bool) → taking p r s y f g b .pass ≡ taking p r s y f′ g′ b .pass
+    by true = refl
+    by false = refl
+
+module _ (p : ℕ) (r : Run) (b : ℕ) where
+  -- what holds of every new pass of a kind holds of the one that is opened
+  pub opened-new : {A : Type 0} (part : Pass → A) (a : A) (k : Kind) → ((points : Points) (q : Kernel) → part (newPass k points q) ≡ a) → part (openedPass p r k b) ≡ a
+  opened-new part a Shut h = h noPoints emptyKernel
+  opened-new part a Asked h = by (isOpenings (r .next))
+    where
+      by : (t : Bool) → part (cond t (newPass Asked (pointsOf p b) (paddedKernel r)) (newPass Asked noPoints (openKernel r))) ≡ a
+      by true = h (pointsOf p b) (paddedKernel r)
+      by false = h noPoints (openKernel r)
+  opened-new part a Change h = h noPoints (paddingKernel (padding r) (levelOf r Change))
+
+-- A PASS AFTER ITS ITEMS
+module _ (p : ℕ) (r : Run) (k : Kind) (b : ℕ) where
+  pub after-kind : (xs : List Raw) → passAfter p r k b xs .kind ≡ k
+  unfolding passAfter
+  after-kind [] = opened-new p r b (λ s. s .kind) k k (λ points q. refl)
+  after-kind (x ∷ xs) = takes-kind p r (passAfter p r k b xs) (partsIn p x) [] [] ∙ after-kind xs
+
+  pub after-taken : (xs : List Raw) → passAfter p r k b xs .taken ≡ length xs
+  unfolding passAfter
+  after-taken [] = opened-new p r b (λ s. s .taken) 0 k (λ points q. refl)
+  after-taken (x ∷ xs) = takes-taken p r (passAfter p r k b xs) (partsIn p x) [] [] ∙ ap suc (after-taken xs)
+
+  pub after-points : (xs : List Raw) → passAfter p r k b xs .points ≡ openedPass p r k b .points
+  unfolding passAfter
+  after-points [] = refl
+  after-points (x ∷ xs) = takes-points p r (passAfter p r k b xs) (partsIn p x) [] [] ∙ after-points xs
+
+  pub after-item : (xs : List Raw) (x : Raw) (f g : List ℕ) → takes p r (passAfter p r k b xs) (partsIn p x) f g .pass ≡ passAfter p r k b (x ∷ xs)
+  unfolding passAfter
+  after-item xs x f g = takes-buffers p r (passAfter p r k b xs) (partsIn p x) f g [] []
+
+  -- "from index L-1 down"
+  pub after-entering : (xs : List Raw) (x : Raw)
+      → entering p r (passAfter p r k b xs) (partsIn p x) ≡ entersAs p (startOf r) (r .items - 1 - length xs) (partsIn p x .f)
+  unfolding entering
+  after-entering xs x = ap (λ t. entersAs p (startOf r) (r .items - 1 - t) (partsIn p x .f)) (after-taken xs)

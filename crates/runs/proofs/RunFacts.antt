@@ -1,0 +1,44 @@
+-- What a well-formed run tells, whatever its pass.
+use mathlib.Core.Path.{_≡_, refl, sym, ap, subst, _∙_}
+use mathlib.Core.Bool.{true}
+use Prim.Native.Nat.{ℕ, _-_, _^_, _≤_}
+use native.Mathlib.Omega.{arith}
+use borrow.Author.Tests.{le-ltb}
+use Rattle.vector.specs.Rounds.{size}
+use Rattle.vector.proofs.Rounds.{rounds-enough}
+use Rattle.prover.specs.declared.Next.{Next}
+use Rattle.prover.specs.declared.Next.the-variants.{Total, Message, Challenge, Ends, Openings}
+use Rattle.prover.specs.declared.Kind.{Kind}
+use Rattle.prover.specs.declared.Kind.the-variants.{Shut, Change}
+use Rattle.prover.specs.declared.Run.{Run}
+use Rattle.prover.specs.Order.{levelAt, levelOf, foldSize, padding}
+use Rattle.prover.specs.WellFormed.{runFormed, passFormed, wellFormed}
+use Rattle.prover.specs.Close.{shutPass}
+use Rattle.prover.proofs.Facts.{Formed, formed, level-at-most, size-32}
+use Rattle.prover.proofs.NewPass.{padding-is}
+
+-- a change writes the current fold
+pub change-level : (n i : ℕ) (next : Next) → levelAt n i next Shut ≡ levelAt n i next Change
+change-level n i Total = refl
+change-level n i Message = refl
+change-level n i Challenge = refl
+change-level n i Ends = refl
+change-level n i Openings = refl
+
+module _ (p : ℕ) (r : Run) (ok : runFormed p r ≡ true) where
+  -- its facts, with no pass open
+  pub run-facts : Formed r shutPass
+  unfolding wellFormed passFormed
+  run-facts = formed p r shutPass (rw (ok, le-ltb (r .items) 0 (omega arith)) refl)
+
+  pub run-level : (k : Kind) → levelOf r k ≤ r .rounds
+  run-level k = level-at-most (r .rounds) (r .round) (r .next) k (run-facts .round)
+
+  pub run-items : r .items ≤ 2 ^ r .rounds
+  run-items = subst (λ n. r .items ≤ 2 ^ n) (sym (run-facts .rounds)) (rounds-enough (r .items) (run-facts .most))
+
+  pub run-padding : padding r ≡ 2 ^ r .rounds - r .items
+  run-padding = padding-is r shutPass run-facts
+
+  pub run-fold : foldSize r ≡ size (r .rounds) (levelOf r Change)
+  run-fold = size-32 (r .rounds) (levelOf r Shut) (run-facts .few) ∙ ap (size (r .rounds)) (change-level (r .rounds) (r .round) (r .next))
