@@ -1,0 +1,11 @@
+pub mod Overwritten
+pub mod RowSums
+pub mod EntryFound
+pub mod Vectors
+pub mod ProductRows
+pub mod ProductSays
+pub mod ClaimRows
+pub mod ClaimSays
+pub mod RuleTotals
+pub mod RuleVerdicts
+pub mod RuleCheck

@@ -1,0 +1,4 @@
+pub mod Product
+pub mod Claim
+pub mod Check
+pub mod Example
