@@ -1,0 +1,126 @@
+-- What holds of a state whose answered calls brought the trip's items and kept the buffers.
+use mathlib.Core.Path.{_≡_, refl, sym, ap, ap₂, subst}
+use mathlib.Core.Bool.{Bool, true, false}
+use mathlib.Core.List.{List, [], _∷_, _++_}
+use Prim.Native.Nat.{ℕ, zero, suc, _+_, _-_, _^_, _<_, _≤_}
+use native.Mathlib.Omega.{arith}
+use lib.ListN.{length, List·getD-append}
+use lib.Seq.{getD-append-seam}
+use borrow.Author.Tests.{le-ltb, ltb-true, eqb-true}
+use Rattle.vector.specs.Vector.{at}
+use Rattle.vector.specs.Rounds.{size}
+use Rattle.vector.specs.Fold.{combine, fold, endValue}
+use Rattle.vector.specs.Message.{Message}
+use Rattle.vector.proofs.Rounds.{rounds-enough}
+use Rattle.vector.proofs.Folds.{fold-challenges}
+use Rattle.vector.proofs.Messages.{message-same}
+use Rattle.vector.proofs.KernelPass.{Taken}
+use Rattle.prover.specs.declared.Next.{Next}
+use Rattle.prover.specs.declared.Next.the-variants as next
+use Rattle.prover.specs.declared.Kind.{Kind}
+use Rattle.prover.specs.declared.Kind.the-variants.{Shut, Asked, Change}
+use Rattle.prover.specs.declared.Pass.{Pass}
+use Rattle.prover.specs.Records as records
+use Rattle.prover.specs.Records.{kernelOf}
+use Rattle.prover.specs.Order.{isTotal, levelAt, levelOf}
+use Rattle.prover.specs.WellFormed.{roundFits}
+use Rattle.runs.specs.Trip.{Raw, Trip, vectorF, vectorG, totalOf}
+use Rattle.runs.specs.Passes.{passAfter, Gives}
+use Rattle.runs.proofs.PassTrip.{after-given}
+use Rattle.calls.specs.State.{State}
+use Rattle.calls.specs.Table.{waits, long}
+use Rattle.calls.specs.Meaning.{messageAt, messagesTo, foldF, foldG}
+use Rattle.calls.specs.Statement.{known}
+use Rattle.calls.proofs.Records.{runOf}
+use Rattle.calls.proofs.Arrays.{array-at}
+use Rattle.calls.proofs.Fits.{givenAt, Fits, run-formed}
+
+-- the trip of a state's start
+abbrev pub tripAt : List Raw → State → Trip
+tripAt its a = record { start = a .start; items = its }
+
+pub record Agrees (p : ℕ) (through : Bool) (its : List Raw) (a : State) : Type 0 where
+  pub gives : Gives (tripAt its a) (a .items)
+  pub placesF : (j : ℕ) → known through a ≤ j → j < long a → at (a .f) j ≡ foldF p (tripAt its a) a j
+  pub placesG : (j : ℕ) → known through a ≤ j → j < long a → at (a .g) j ≡ foldG p (tripAt its a) a j
+  pub total : a .start .plain ≡ true → waits next.Total (a .next) ≡ false → a .total ≡ totalOf (tripAt its a)
+  pub messages : a .messages ≡ messagesTo p (tripAt its a) (a .challenges) (givenAt (length (a .challenges)) (a .next))
+  pub ends : waits next.Openings (a .next) ≡ true
+      → (a .fend ≡ endValue p (at (a .challenges)) (a .start .rounds) (vectorF p (tripAt its a)))
+      × (a .gend ≡ endValue p (at (a .challenges)) (a .start .rounds) (vectorG p (tripAt its a)))
+
+-- A MESSAGE DEPENDS ON THE CHALLENGES BEFORE IT
+pub message-before : (p : ℕ) (T : Trip) (cs ds : List ℕ) (i : ℕ) → ((j : ℕ) → j < i → at cs j ≡ at ds j) → messageAt p T cs i ≡ messageAt p T ds i
+message-before p T cs ds i same =
+    message-same p (size (T .start .rounds) (suc i)) (fold p (at cs) i (vectorF p T)) (fold p (at ds) i (vectorF p T)) (fold p (at cs) i (vectorG p T)) (fold p (at ds) i (vectorG p T))
+    (λ k l. fold-challenges (combine p) (at cs) (at ds) (vectorF p T) i same k) (λ k l. fold-challenges (combine p) (at cs) (at ds) (vectorG p T) i same k)
+
+pub messages-before : (p : ℕ) (T : Trip) (cs ds : List ℕ) (i : ℕ) → ((j : ℕ) → j < i → at cs j ≡ at ds j) → messagesTo p T cs (suc i) ≡ messagesTo p T ds (suc i)
+unfolding messagesTo
+messages-before p T cs ds zero same = ap (λ m. [] ++ m .even ∷ m .cross ∷ m .odd ∷ []) (message-before p T cs ds zero same)
+messages-before p T cs ds (suc i) same =
+    ap₂ (λ ms m. ms ++ m .even ∷ m .cross ∷ m .odd ∷ []) (messages-before p T cs ds i (λ j l. same j (omega arith))) (message-before p T cs ds (suc i) same)
+
+-- one challenge more
+pub old-challenges : (cs : List ℕ) (c j : ℕ) → j < length cs → at (cs ++ c ∷ []) j ≡ at cs j
+old-challenges cs c j l = List·getD-append cs (c ∷ []) 0 j l
+
+pub new-challenge : (cs : List ℕ) (c : ℕ) → at (cs ++ c ∷ []) (length cs) ≡ c
+new-challenge cs c = getD-append-seam cs c [] 0
+
+-- padding is zero
+pub f-zero : (p : ℕ) (T : Trip) (j : ℕ) → T .start .items ≤ j → vectorF p T j ≡ 0
+f-zero p T j h = rw (le-ltb j (T .start .items) h)
+
+pub g-zero : (p : ℕ) (T : Trip) (j : ℕ) → T .start .items ≤ j → vectorG p T j ≡ 0
+g-zero p T j h = rw (le-ltb j (T .start .items) h)
+
+module _ (p : ℕ) (its : List Raw) (a : State) (h : Fits p a) where
+  abbrev T : Trip
+  T = tripAt its a
+
+  pub round-most : length (a .challenges) ≤ a .start .rounds
+  round-most = by (a .next) (h .run .round)
+    where
+      by : (t : Next) → roundFits t (length (a .challenges)) (a .start .rounds) ≡ true → length (a .challenges) ≤ a .start .rounds
+      by next.Total e = omega (arith, eqb-true (length (a .challenges)) 0 e)
+      by next.Message e = omega (arith, ltb-true (length (a .challenges)) (a .start .rounds) e)
+      by next.Challenge e = omega (arith, ltb-true (length (a .challenges)) (a .start .rounds) e)
+      by next.Ends e = omega (arith, eqb-true (length (a .challenges)) (a .start .rounds) e)
+      by next.Openings e = omega (arith, eqb-true (length (a .challenges)) (a .start .rounds) e)
+
+  -- the level of a pass uses challenges that were taken
+  level-taken : (k : Kind) → levelOf (runOf a) k ≤ length (a .challenges)
+  level-taken k = by (a .next) k (h .run .round)
+    where
+      by : (t : Next) (k : Kind) → roundFits t (length (a .challenges)) (a .start .rounds) ≡ true → levelAt (a .start .rounds) (length (a .challenges)) t k ≤ length (a .challenges)
+      by next.Total k e = omega arith
+      by next.Message k e = omega arith
+      by next.Challenge k e = omega arith
+      by next.Ends k e = omega (arith, eqb-true (length (a .challenges)) (a .start .rounds) e)
+      by next.Openings Shut e = omega arith
+      by next.Openings Asked e = omega (arith, eqb-true (length (a .challenges)) (a .start .rounds) e)
+      by next.Openings Change e = omega arith
+
+  pub agree-at : (k : Kind) (j : ℕ) → j < levelOf (runOf a) k → at (runOf a .challenges) j ≡ at (a .challenges) j
+  agree-at k j l = array-at 15 (a .challenges) j (omega (arith, level-taken k))
+
+  -- THE OPEN PASS has taken the trip's items
+  pub pass-taken : (k : Kind) → a .kind ≡ k → records.isOpen k ≡ true → isTotal (a .next) ≡ false → Gives T (a .items)
+      → (let s : Pass = passAfter p (runOf a) k (a .point) (a .items) in
+      Taken p (a .start .rounds) (at (a .challenges)) (levelOf (runOf a) k) (s .points) (vectorF p T) (vectorG p T) (2 ^ a .start .rounds - a .start .items + length (a .items)) (kernelOf s))
+  pass-taken k e op other gives =
+      after-given p (runOf a) k (a .point) (a .items) (run-formed p a h) (h .pass .count) other op (at (a .challenges)) (agree-at k) T refl gives
+
+  pub enough : a .start .items ≤ 2 ^ a .start .rounds
+  enough = subst (λ n. a .start .items ≤ 2 ^ n) (sym (h .run .rounds)) (rounds-enough (a .start .items) (h .run .most))
+
+  -- a whole one
+  pub pass-whole : (k : Kind) → a .kind ≡ k → records.isOpen k ≡ true → isTotal (a .next) ≡ false → Gives T (a .items) → length (a .items) ≡ a .start .items
+      → (let s : Pass = passAfter p (runOf a) k (a .point) (a .items) in
+      Taken p (a .start .rounds) (at (a .challenges)) (levelOf (runOf a) k) (s .points) (vectorF p T) (vectorG p T) (2 ^ a .start .rounds) (kernelOf s))
+  pass-whole k e op other gives all =
+      let s : Pass = passAfter p (runOf a) k (a .point) (a .items) in
+      let t : 2 ^ a .start .rounds - a .start .items + length (a .items) ≡ 2 ^ a .start .rounds = omega (arith, enough) in
+      subst (λ t. Taken p (a .start .rounds) (at (a .challenges)) (levelOf (runOf a) k) (s .points) (vectorF p T) (vectorG p T) t (kernelOf s)) t
+      (pass-taken k e op other gives)

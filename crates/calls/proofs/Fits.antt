@@ -1,0 +1,126 @@
+-- What holds of every state that answered calls make, and so of the records that it stands for.
+use mathlib.Core.Path.{_≡_, refl, ap, _∙_}
+use mathlib.Core.Bool.{Bool, true, false}
+use mathlib.Core.List.{List, []}
+use mathlib.Core.Logic.{_⊎_, inl, inr, ⊎-elim}
+use Prim.Native.Nat.{ℕ, zero, suc, _+_, _*_, _-_, _<_, _≤_}
+use native.Mathlib.Omega.{arith}
+use lib.Dec.{ltb}
+use lib.IntN.{ℤ}
+use lib.ListN.{length, getD, replicate, getD-replicate, List·getD-append, List·getD-eq-default, length-replicate}
+use lib.Seq.{getD-append-add}
+use borrow.Author.Tests.{le-ltb, eq-eqb, lt-ltb, ltb-true, ltb-false}
+use Rattle.refusal.specs.Limit.{maxItems}
+use Rattle.field.specs.Total.{inLimits}
+use Rattle.wire.specs.Proof.{allBelow}
+use Rattle.vector.specs.Vector.{at}
+use Rattle.vector.specs.Rounds.{roundsOf}
+use Rattle.vector.proofs.Rounds.{rounds-at-most}
+use Rattle.prover.specs.declared.Mode.{Mode}
+use Rattle.prover.specs.declared.Next.{Next}
+use Rattle.prover.specs.declared.Next.the-variants as next
+use Rattle.prover.specs.declared.Kind.{Kind}
+use Rattle.prover.specs.declared.Kind.the-variants.{Shut}
+use Rattle.prover.specs.Order.{isTotal}
+use Rattle.prover.specs.WellFormed.{roundFits, kindFits, runFormed, wellFormed}
+use Rattle.runs.specs.Trip.{Raw, numbers, partsIn, Start, sumOf}
+use Rattle.runs.specs.Items.{AllWithin}
+use Rattle.runs.proofs.PassRecord.{after-kind, after-taken}
+use Rattle.runs.proofs.PassTotal.{after-total}
+use Rattle.runs.proofs.PassFormed.{after-formed}
+use Rattle.calls.specs.State.{State}
+use Rattle.calls.proofs.Records.{inArray, runOf, passOf}
+
+-- how many messages were given
+abbrev pub givenAt : ℕ → Next → ℕ
+givenAt i next.Total = 0
+givenAt i next.Message = i
+givenAt i next.Challenge = suc i
+givenAt i next.Ends = i
+givenAt i next.Openings = i
+
+-- both numbers of an item are field numbers
+abbrev pub Fine : ℕ → Raw → Type 0
+Fine p x = (partsIn p x .f < p) × (partsIn p x .g < p)
+
+pub record RunFits (p : ℕ) (s : Start) (t : Next) (cs : List ℕ) (z : ℤ) (ms : List ℕ) (a b : ℕ) : Type 0 where
+  pub some : 1 ≤ s .items
+  pub most : s .items ≤ 32768
+  pub rounds : s .rounds ≡ roundsOf (s .items)
+  pub round : roundFits t (length cs) (s .rounds) ≡ true
+  pub total : inLimits p z ≡ true
+  pub given : length ms ≡ 3 * givenAt (length cs) t
+  pub below : (j : ℕ) → at ms j < p
+  pub fend : a < p
+  pub gend : b < p
+
+pub record PassFits (p : ℕ) (s : Start) (m : Mode) (t : Next) (k : Kind) (xs : List Raw) : Type 0 where
+  pub kind : kindFits k m t ≡ true
+  pub idle : k ≡ Shut → xs ≡ []
+  pub count : length xs ≤ s .items
+  pub within : AllWithin xs
+  pub fine : (q : ℕ) → Fine p (getD xs q (numbers 0 0))
+
+pub record Fits (p : ℕ) (a : State) : Type 0 where
+  pub run : RunFits p (a .start) (a .next) (a .challenges) (a .total) (a .messages) (a .fend) (a .gend)
+  pub pass : PassFits p (a .start) (a .mode) (a .next) (a .kind) (a .items)
+
+pub lt-or-le : (j m : ℕ) → (j < m) ⊎ (m ≤ j)
+lt-or-le j m = by (ltb j m) refl
+  where
+    by : (b : Bool) → ltb j m ≡ b → (j < m) ⊎ (m ≤ j)
+    by true e = inl (ltb-true j m e)
+    by false e = inr (ltb-false j m e)
+
+-- a list of field numbers in an array
+zeros-at : (m j : ℕ) → at (replicate m 0) j ≡ 0
+zeros-at m j =
+    ⊎-elim (λ (l : j < m). getD-replicate m j 0 0 l)
+    (λ (l : m ≤ j). List·getD-eq-default (replicate m 0) 0 {n = j} (omega (arith, length-replicate {A = ℕ} m 0))) (lt-or-le j m)
+
+pub array-below : (p size : ℕ) (xs : List ℕ) → 0 < p → ((j : ℕ) → at xs j < p) → (j : ℕ) → at (inArray size xs) j < p
+array-below p size xs some h j =
+    ⊎-elim (λ (l : j < length xs). rw (List·getD-append xs (replicate (size - length xs) 0) 0 j l) (h j))
+    (λ (l : length xs ≤ j).
+    let d : ℕ = j - length xs in
+    let e : j ≡ length xs + d = omega arith in
+    let z : at (inArray size xs) j ≡ 0 =
+    ap (at (inArray size xs)) e ∙ getD-append-add xs (replicate (size - length xs) 0) d 0 ∙ zeros-at (size - length xs) d in
+    rw z some) (lt-or-le j (length xs))
+
+all-below : (p : ℕ) (v : ℕ → ℕ) → ((j : ℕ) → v j < p) → (m : ℕ) → allBelow p v m ≡ true
+unfolding allBelow
+all-below p v h zero = refl
+all-below p v h (suc m) = rw (all-below p v h m, lt-ltb (v m) p (h m))
+
+module _ (p : ℕ) (a : State) (h : Fits p a) where
+  pub few : a .start .rounds ≤ 15
+  few = omega (arith, h .run .rounds, rounds-at-most (a .start .items) (h .run .most))
+
+  pub run-formed : runFormed p (runOf a) ≡ true
+  unfolding runFormed
+  run-formed =
+      rw (
+        le-ltb (a .start .items) 1 (h .run .some),
+        le-ltb maxItems (a .start .items) (h .run .most),
+        eq-eqb (a .start .rounds) (roundsOf (a .start .items)) (h .run .rounds),
+        h .run .round,
+        h .run .total,
+      )
+
+  -- the records are well formed
+  pub formed : wellFormed p (runOf a) (passOf p a) ≡ true
+  formed =
+      after-formed p (runOf a) (a .point) run-formed (a .kind) (a .items) (h .pass .kind) (h .pass .within) (h .pass .count) (h .pass .idle)
+
+  pub kind-is : passOf p a .kind ≡ a .kind
+  kind-is = after-kind p (runOf a) (a .kind) (a .point) (a .items)
+
+  pub taken-is : passOf p a .taken ≡ length (a .items)
+  taken-is = after-taken p (runOf a) (a .kind) (a .point) (a .items)
+
+  pub sum-is : isTotal (a .next) ≡ true → passOf p a .total ≡ sumOf (a .items)
+  sum-is e = after-total p (runOf a) (a .kind) (a .point) e (a .items) (h .pass .within) (omega (arith, h .pass .count, h .run .most))
+
+  pub messages-below : 0 < p → allBelow p (λ k. getD (runOf a .messages) k 0) (3 * a .start .rounds) ≡ true
+  messages-below some = all-below p (λ k. getD (runOf a .messages) k 0) (array-below p 45 (a .messages) some (h .run .below)) (3 * a .start .rounds)

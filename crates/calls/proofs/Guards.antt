@@ -1,0 +1,322 @@
+-- The checks of each call are the rows of the table: over any records that stand for a state.
+use mathlib.Core.Path.{_≡_, refl, sym, ap, ap₂, _∙_}
+use mathlib.Core.Bool.{Bool, true, false, cond, not, _&&_, _||_}
+use mathlib.Core.Option.{Option, none, some}
+use Prim.Native.Nat.{ℕ, _-_, _≤_}
+use native.Mathlib.Omega.{arith}
+use lib.Dec.{eqb, leb, ltb}
+use lib.IntN.{ℤ}
+use lib.ListN.{length}
+use borrow.Author.Tests.{le-leb, leb-true, ltb-true, ltb-false}
+use Rattle.refusal.specs.Limit.{maxWeight}
+use Rattle.refusal.specs.Outcome.{Outcome, answered, refused, refusedAt, require}
+use Rattle.field.specs.Total.{inLimits}
+use Rattle.vector.specs.Rounds.{size}
+use Rattle.vector.specs.Slice.{allReduced, isNonzero}
+use Rattle.vector.specs.Item.{plainParts, numberParts}
+use Rattle.vector.specs.declared.item.Item.{Item}
+use Rattle.prover.specs.declared.Mode.{Mode}
+use Rattle.prover.specs.declared.Mode.the-variants.{Small, Full}
+use Rattle.prover.specs.declared.Next.{Next}
+use Rattle.prover.specs.declared.Next.the-variants as next
+use Rattle.prover.specs.declared.Kind.{Kind}
+use Rattle.prover.specs.declared.Kind.the-variants.{Shut, Asked, Change}
+use Rattle.prover.specs.declared.Run.{Run}
+use Rattle.prover.specs.declared.Pass.{Pass}
+use Rattle.prover.specs.Records as records
+use Rattle.prover.specs.Records.{Out}
+use Rattle.prover.specs.Order.{isTotal, isMessage, isEnds, isOpenings, levelAt, foldSize}
+use Rattle.prover.specs.WellFormed.{wellFormed}
+use Rattle.prover.specs.Open.{openNext, opened, noPoints, pointsOf, openKernel, paddedKernel, openCall, openAtCall}
+use Rattle.prover.specs.Take.{takes}
+use Rattle.prover.specs.Calls as calls
+use Rattle.prover.specs.Calls.{withParts, itemPlaces, itemTurn, placesThere, itemCall, fieldItemCall}
+use Rattle.prover.specs.Change.{changeAt, changes, toFullCall}
+use Rattle.prover.specs.Close as close
+use Rattle.prover.specs.Close.{closing, closeCall}
+use Rattle.prover.specs.Full.{bothReduced, lentFolds, messageGiven, messageCall, endsGiven, endsCall}
+use Rattle.prover.specs.Challenge.{isChallenge, challengedSmall, challengedFull, challenged, challengeCall}
+use Rattle.prover.specs.Opening.{openingGiven, openingCall}
+use Rattle.prover.proofs.Facts.{size-32}
+use Rattle.runs.specs.Trip.{reading, numbers, partsIn, sumOf}
+use Rattle.calls.specs.Step.{Lent}
+use Rattle.calls.specs.State.{State, isChange, isFull}
+use Rattle.calls.specs.Table.{Refusal, row, rowAt, isOpen, isSmall, waits, passNext, openingsNext, changeNext, levelNow, long, bothLong, readRows, itemRows, placeRow, totalFits, table}
+use Rattle.calls.specs.declared.Call.the-variants as call
+use Rattle.calls.proofs.Records.{runOf}
+
+-- what a call comes to where the table decides
+abbrev pub decided : {A : Type 0} → Option Refusal → Outcome A → Outcome A
+decided none o = o
+decided (some (k, none)) o = refused k
+decided (some (k, some i)) o = refusedAt k i
+
+-- in full mode a challenge has the buffers
+abbrev pub challengeDoes : ℕ → Run → Pass → ℕ → Lent → Mode → Out
+challengeDoes p r s c l Small = records.out (challengedSmall r s c) (l .f) (l .g)
+challengeDoes p r s c l Full = challengedFull p r s c (l .f) (l .g)
+
+-- a check beside a row with the same test
+pub same-row : {A : Type 0} (b : Bool) (k : ℕ) (rest : Outcome A) (t : Option Refusal) (o : Outcome A) → rest ≡ decided t o
+    → require b k rest ≡ decided (row b k t) o
+same-row true k rest t o e = e
+same-row false k rest t o e = refl
+
+pub like-row : {A : Type 0} (b c : Bool) (k : ℕ) (rest : Outcome A) (t : Option Refusal) (o : Outcome A) → b ≡ c → rest ≡ decided t o
+    → require b k rest ≡ decided (row c k t) o
+like-row b c k rest t o e r = ap (λ x. require x k rest) e ∙ same-row c k rest t o r
+
+-- the tests of what is next, one against the other
+modes : (m : Mode) → records.isSmall m ≡ isSmall m
+modes Small = refl
+modes Full = refl
+
+pub fulls : (m : Mode) → records.isFull m ≡ isFull m
+fulls Small = refl
+fulls Full = refl
+
+pass-next : (m : Mode) (t : Next) → cond (records.isSmall m) (openNext t) false ≡ passNext m t
+pass-next Full t = refl
+pass-next Small next.Total = refl
+pass-next Small next.Message = refl
+pass-next Small next.Challenge = refl
+pass-next Small next.Ends = refl
+pass-next Small next.Openings = refl
+
+openings-next : (m : Bool) (t : Next) (n : ℕ) → cond m (cond (isOpenings t) (ltb 0 n) false) false ≡ (m && openingsNext t n)
+openings-next false t n = refl
+openings-next true next.Total n = refl
+openings-next true next.Message n = refl
+openings-next true next.Challenge n = refl
+openings-next true next.Ends n = refl
+openings-next true next.Openings n = refl
+
+change-next : (m : Mode) (t : Next) (n : ℕ) → cond (records.isSmall m) (changeAt t n) false ≡ changeNext m t n
+change-next Full t n = refl
+change-next Small next.Total n = refl
+change-next Small next.Message n = refl
+change-next Small next.Challenge n = refl
+change-next Small next.Ends n = refl
+change-next Small next.Openings n = refl
+
+message-next : (m : Bool) (t : Next) → cond m (isMessage t) false ≡ (m && waits next.Message t)
+message-next false t = refl
+message-next true next.Total = refl
+message-next true next.Message = refl
+message-next true next.Challenge = refl
+message-next true next.Ends = refl
+message-next true next.Openings = refl
+
+ends-next : (m : Bool) (t : Next) → cond m (isEnds t) false ≡ (m && waits next.Ends t)
+ends-next false t = refl
+ends-next true next.Total = refl
+ends-next true next.Message = refl
+ends-next true next.Challenge = refl
+ends-next true next.Ends = refl
+ends-next true next.Openings = refl
+
+challenge-next : (t : Next) → isChallenge t ≡ waits next.Challenge t
+challenge-next next.Total = refl
+challenge-next next.Message = refl
+challenge-next next.Challenge = refl
+challenge-next next.Ends = refl
+challenge-next next.Openings = refl
+
+pub proof-next : (plain : Bool) (t : Next) → cond plain (isOpenings t) false ≡ (plain && waits next.Openings t)
+proof-next false t = refl
+proof-next true next.Total = refl
+proof-next true next.Message = refl
+proof-next true next.Challenge = refl
+proof-next true next.Ends = refl
+proof-next true next.Openings = refl
+
+opens : (k : Kind) → records.isOpen k ≡ isOpen k
+opens Shut = refl
+opens Asked = refl
+opens Change = refl
+
+changing : (k : Kind) → records.isChange k ≡ isChange k
+changing Shut = refl
+changing Asked = refl
+changing Change = refl
+
+pub level-now : (n i : ℕ) (t : Next) → levelAt n i t Shut ≡ levelNow n i t
+level-now n i next.Total = refl
+level-now n i next.Message = refl
+level-now n i next.Challenge = refl
+level-now n i next.Ends = refl
+level-now n i next.Openings = refl
+
+pub totals : (t : Next) → isTotal t ≡ waits next.Total t
+totals next.Total = refl
+totals next.Message = refl
+totals next.Challenge = refl
+totals next.Ends = refl
+totals next.Openings = refl
+
+pub both-and : (x y : Bool) → cond x y false ≡ (x && y)
+both-and false y = refl
+both-and true y = refl
+
+place-test : (changes here : Bool) → cond changes here true ≡ (not changes || here)
+place-test false here = refl
+place-test true here = refl
+
+fits-test : (first plain inside : Bool) → cond first (cond plain inside true) true ≡ (not (first && plain) || inside)
+fits-test false plain inside = refl
+fits-test true false inside = refl
+fits-test true true inside = refl
+
+module _ (p : ℕ) (a : State) (few : a .start .rounds ≤ 15) where
+  abbrev R : Run
+  R = runOf a
+
+  pub fold-long : foldSize R ≡ long a
+  fold-long = size-32 (a .start .rounds) _ few ∙ ap (size (a .start .rounds)) (level-now (a .start .rounds) (length (a .challenges)) (a .next))
+
+  long-test : (l : Lent) → calls.bothLong R (length (l .f)) (length (l .g)) ≡ bothLong a l
+  long-test l =
+      ap (λ n. cond (leb n (length (l .f))) (leb n (length (l .g))) false) fold-long
+      ∙ both-and (leb (long a) (length (l .f))) (leb (long a) (length (l .g)))
+
+  reduced-test : (l : Lent) → bothReduced p R (l .f) (l .g) ≡ (allReduced p (long a) (l .f) && allReduced p (long a) (l .g))
+  reduced-test l =
+      ap (λ n. cond (allReduced p n (l .f)) (allReduced p n (l .g)) false) fold-long
+      ∙ both-and (allReduced p (long a) (l .f)) (allReduced p (long a) (l .g))
+
+  -- 9 and 16 of a full-mode call
+  reads : (l : Lent) (o : Out) → lentFolds p R (l .f) (l .g) (answered o) ≡ decided (readRows p a l) (answered o)
+  reads l o = like-row _ _ 9 _ _ _ (long-test l) (like-row _ _ 16 _ none _ (reduced-test l) refl)
+
+  module _ (s : Pass) (wf : wellFormed p R s ≡ true) where
+    formed-and : (x y : Bool) → x ≡ y → cond (wellFormed p R s) x false ≡ y
+    formed-and x y e = ap (λ b. cond b x false) wf ∙ e
+
+    full-and : (x y : Bool) → cond (isFull (a .mode)) x false ≡ y → cond (cond (wellFormed p R s) (records.isFull (a .mode)) false) x false ≡ y
+    full-and x y e = ap (λ b. cond b x false) (formed-and _ _ (fulls (a .mode))) ∙ e
+
+    pub open-decided : (l : Lent) → openCall p R s ≡ decided (table p a call.OpenPass l) (answered (opened R noPoints (openKernel R)))
+    unfolding openCall table
+    open-decided l = like-row _ _ 10 _ none _ (formed-and _ _ (pass-next (a .mode) (a .next))) refl
+
+    pub open-at-decided : (b : ℕ) (l : Lent) → openAtCall p R s b ≡ decided (table p a (call.OpenAt b) l) (answered (opened R (pointsOf p b) (paddedKernel R)))
+    unfolding openAtCall table
+    open-at-decided b l =
+        like-row _ _ 10 _ _ _
+        (formed-and _ _ (openings-next (records.isSmall (a .mode)) (a .next) (a .start .rounds) ∙ ap (λ m. m && openingsNext (a .next) (a .start .rounds)) (modes (a .mode))))
+        (same-row (isNonzero p b) 6 _ none _ refl)
+
+    pub to-full-decided : (l : Lent) → toFullCall p R s (l .f) (l .g) ≡ decided (table p a call.ToFull l) (answered (changes R (l .f) (l .g)))
+    unfolding toFullCall table
+    to-full-decided l =
+        like-row _ _ 10 _ _ _ (formed-and _ _ (change-next (a .mode) (a .next) (a .start .rounds)))
+        (like-row _ _ 9 _ none _ (long-test l) refl)
+
+    pub message-decided : (l : Lent) → messageCall p R s (l .f) (l .g) ≡ decided (table p a call.Message l) (answered (messageGiven p R s (l .f) (l .g)))
+    unfolding messageCall table
+    message-decided l =
+        like-row _ _ 10 _ _ _ (full-and _ _ (message-next (isFull (a .mode)) (a .next))) (reads l (messageGiven p R s (l .f) (l .g)))
+
+    pub ends-decided : (l : Lent) → endsCall p R s (l .f) (l .g) ≡ decided (table p a call.Ends l) (answered (endsGiven R s (l .f) (l .g)))
+    unfolding endsCall table
+    ends-decided l =
+        like-row _ _ 10 _ _ _ (full-and _ _ (ends-next (isFull (a .mode)) (a .next))) (reads l (endsGiven R s (l .f) (l .g)))
+
+    pub opening-decided : (b : ℕ) (l : Lent) → openingCall p R s b (l .f) (l .g) ≡ decided (table p a (call.Opening b) l) (answered (openingGiven p R s b (l .f) (l .g)))
+    unfolding openingCall table
+    opening-decided b l =
+        like-row _ _ 10 _ _ _ (full-and _ _ (openings-next (isFull (a .mode)) (a .next) (a .start .rounds)))
+        (same-row (isNonzero p b) 6 _ _ _ (reads l (openingGiven p R s b (l .f) (l .g))))
+
+    challenge-mode : (c : ℕ) (l : Lent) (m : Mode)
+        → challenged p R s c (l .f) (l .g) m ≡ decided (cond (isFull m) (readRows p a l) none) (answered (challengeDoes p R s c l m))
+    challenge-mode c l Small = refl
+    challenge-mode c l Full = reads l (challengedFull p R s c (l .f) (l .g))
+
+    pub challenge-decided : (c : ℕ) (l : Lent)
+        → challengeCall p R s c (l .f) (l .g) ≡ decided (table p a (call.Challenge c) l) (answered (challengeDoes p R s c l (a .mode)))
+    unfolding challengeCall table
+    challenge-decided c l =
+        like-row _ _ 10 _ _ _ (formed-and _ _ (challenge-next (a .next)))
+        (same-row (isNonzero p c) 6 _ _ _ (challenge-mode c l (a .mode)))
+
+    -- the open pass is the state's
+    module _ (kind : s .kind ≡ a .kind) (count : s .taken ≡ length (a .items)) where
+      open-test : cond (wellFormed p R s) (records.isOpen (s .kind)) false ≡ isOpen (a .kind)
+      open-test = formed-and _ _ (ap records.isOpen kind ∙ opens (a .kind))
+
+      wanted-test : ltb (s .taken) (a .start .items) ≡ ltb (length (a .items)) (a .start .items)
+      wanted-test = ap (λ n. ltb n (a .start .items)) count
+
+      place-there : (l : Lent) → placesThere R s (length (l .f)) (length (l .g)) ≡ (not (isChange (a .kind)) || bothLong a l)
+      place-there l =
+          ap₂ (λ b here. cond b here true) (ap records.isChange kind ∙ changing (a .kind)) (long-test l)
+          ∙ place-test (isChange (a .kind)) (bothLong a l)
+
+      places : (l : Lent) (x : Item) → itemPlaces p R s (l .f) (l .g) x ≡ decided (placeRow a l) (answered (takes p R s x (l .f) (l .g)))
+      places l x = like-row _ _ 9 _ none _ (place-there l) refl
+
+      turn : (same : Bool) (rest : Outcome Out) (t : Option Refusal) (o : Outcome Out) → rest ≡ decided t o
+          → itemTurn p R s same rest ≡ decided (itemRows a same t) o
+      turn same rest t o e =
+          like-row _ _ 10 _ _ _ open-test (like-row _ _ 8 _ _ _ wanted-test (same-row same 10 rest t o e))
+
+      plain-item : (z : ℤ) (w : ℕ) (l : Lent)
+          → withParts (plainParts p z w) (refusedAt 5 (a .start .items - 1 - s .taken)) (itemPlaces p R s (l .f) (l .g))
+          ≡ decided (rowAt (leb w maxWeight) 5 (a .start .items - 1 - length (a .items)) (placeRow a l)) (answered (takes p R s (partsIn p (reading z w)) (l .f) (l .g)))
+      unfolding plainParts
+      plain-item z w l = by (ltb maxWeight w) (leb w maxWeight) refl refl
+        where
+          by : (over fits : Bool) → ltb maxWeight w ≡ over → leb w maxWeight ≡ fits
+              → withParts (cond over none (some (partsIn p (reading z w)))) (refusedAt 5 (a .start .items - 1 - s .taken)) (itemPlaces p R s (l .f) (l .g))
+              ≡ decided (rowAt fits 5 (a .start .items - 1 - length (a .items)) (placeRow a l)) (answered (takes p R s (partsIn p (reading z w)) (l .f) (l .g)))
+          by true true o f = absurd (omega (arith, ltb-true maxWeight w o, leb-true w maxWeight f))
+          by true false o f = ap (λ n. refusedAt 5 (a .start .items - 1 - n)) count
+          by false true o f = places l (partsIn p (reading z w))
+          by false false o f = let z : _≡_ {A = Bool} true false = sym (le-leb w maxWeight (ltb-false maxWeight w o)) ∙ f in cc
+
+      pub item-decided : (z : ℤ) (w : ℕ) (l : Lent)
+          → itemCall p R s z w (l .f) (l .g) ≡ decided (table p a (call.Item z w) l) (answered (takes p R s (partsIn p (reading z w)) (l .f) (l .g)))
+      unfolding itemCall table
+      item-decided z w l = turn (a .start .plain) _ _ _ (plain-item z w l)
+
+      field-parts : (x y : ℕ) (l : Lent)
+          → withParts (numberParts p x y) (refused 16) (itemPlaces p R s (l .f) (l .g))
+          ≡ decided (row (ltb x p && ltb y p) 16 (placeRow a l)) (answered (takes p R s (partsIn p (numbers x y)) (l .f) (l .g)))
+      unfolding numberParts
+      field-parts x y l = by (leb p x) (leb p y) (ltb x p) (ltb y p) refl refl refl refl
+        where
+          by : (big bad fine good : Bool) → leb p x ≡ big → leb p y ≡ bad → ltb x p ≡ fine → ltb y p ≡ good
+              → withParts (cond big none (cond bad none (some (partsIn p (numbers x y))))) (refused 16) (itemPlaces p R s (l .f) (l .g))
+              ≡ decided (row (fine && good) 16 (placeRow a l)) (answered (takes p R s (partsIn p (numbers x y)) (l .f) (l .g)))
+          by true bad true good b d f g = absurd (omega (arith, leb-true p x b, ltb-true x p f))
+          by true bad false good b d f g = refl
+          by false true true true b d f g = absurd (omega (arith, leb-true p y d, ltb-true y p g))
+          by false true true false b d f g = refl
+          by false true false good b d f g = refl
+          by false false true true b d f g = places l (partsIn p (numbers x y))
+          by false false true false b d f g = let z : _≡_ {A = Bool} true false = sym (le-leb p y (ltb-false y p g)) ∙ d in cc
+          by false false false good b d f g = let z : _≡_ {A = Bool} true false = sym (le-leb p x (ltb-false x p f)) ∙ b in cc
+
+      pub field-item-decided : (x y : ℕ) (l : Lent)
+          → fieldItemCall p R s x y (l .f) (l .g) ≡ decided (table p a (call.FieldItem x y) l) (answered (takes p R s (partsIn p (numbers x y)) (l .f) (l .g)))
+      unfolding fieldItemCall table
+      field-item-decided x y l = turn (not (a .start .plain)) _ _ _ (field-parts x y l)
+
+      total-test : (isTotal (a .next) ≡ true → s .total ≡ sumOf (a .items)) → close.totalFits p R s ≡ totalFits p a
+      total-test sums = by (isTotal (a .next)) refl (totals (a .next))
+        where
+          by : (first : Bool) → isTotal (a .next) ≡ first → first ≡ waits next.Total (a .next)
+              → cond first (cond (a .start .plain) (inLimits p (s .total)) true) true ≡ totalFits p a
+          by true e w =
+              ap (λ z. cond (a .start .plain) (inLimits p z) true) (sums e)
+              ∙ fits-test true (a .start .plain) (inLimits p (sumOf (a .items)))
+              ∙ ap (λ first. not (first && a .start .plain) || inLimits p (sumOf (a .items))) w
+          by false e w = ap (λ first. not (first && a .start .plain) || inLimits p (sumOf (a .items))) w
+
+      pub close-decided : (isTotal (a .next) ≡ true → s .total ≡ sumOf (a .items)) → (l : Lent)
+          → closeCall p R s ≡ decided (table p a call.Close l) (closing R s (s .kind))
+      unfolding closeCall table
+      close-decided sums l =
+          like-row _ _ 10 _ _ _ open-test
+          (like-row _ _ 8 _ _ _ (ap (λ n. eqb n (a .start .items)) count) (like-row _ _ 7 _ none _ (total-test sums) refl))

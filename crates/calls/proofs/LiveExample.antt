@@ -1,0 +1,55 @@
+-- Document 01's "One trip, whole" is such a run, in small mode, in full mode, and with a change before each of its steps.
+use mathlib.Core.Path.{refl}
+use mathlib.Core.Bool.{true}
+use mathlib.Core.List.{[], _∷_}
+use Prim.Native.Nat.{ℕ, zero, suc, _<_}
+use native.Mathlib.Omega.{arith}
+use lib.IntN.{pos, negsuc}
+use lib.ListN.{replicate}
+use Rattle.field.specs.Total.{inLimits}
+use Rattle.vector.specs.Rounds.{powers, firstFrom}
+use Rattle.prover.specs.Start.{zeroPass}
+use Rattle.runs.specs.Trip.{reading, Trip, itemOf, sumOf}
+use Rattle.calls.specs.Step.{Lent}
+use Rattle.calls.specs.Statement.{startRun}
+use Rattle.calls.specs.Proper.{ItemFits, Valid, AllNonzero, Brings, properRun, AllAnswered}
+use Rattle.calls.proofs.Live.{proper-answered}
+
+abbrev P : ℕ
+P = 2147483647
+
+abbrev trip : Trip
+trip =
+    record {
+      start = record { items = 3; rounds = 2; plain = true; twists = replicate 15 0 };
+      items = reading (negsuc 179) 10 ∷ reading (negsuc 174) 20 ∷ reading (pos 40) 5 ∷ [];
+    }
+
+valid : Valid P trip
+unfolding powers firstFrom inLimits sumOf
+valid = record { some = omega arith; most = omega arith; rounds = refl; whole = refl; items = fits; total = λ e. refl }
+  where
+    fits : (i : ℕ) → i < 3 → ItemFits P true (itemOf trip i)
+    fits zero h = (refl, omega arith, omega arith)
+    fits (suc zero) h = (refl, omega arith, omega arith)
+    fits (suc (suc zero)) h = (refl, omega arith, omega arith)
+    fits (suc (suc (suc i))) h = absurd (omega arith)
+
+-- four places that hold anything
+abbrev lent : ℕ → Lent
+lent x = record { f = replicate 4 x; g = replicate 4 x; file = [] }
+
+brings : (k x : ℕ) → Brings P trip k (2 ∷ 3 ∷ []) (2 ∷ []) (lent x)
+brings k x = record { count = refl; challenges = two; points = one; room = λ h. (omega arith, omega arith) }
+  where
+    two : AllNonzero P (2 ∷ 3 ∷ [])
+    two zero h = refl
+    two (suc zero) h = refl
+    two (suc (suc j)) h = absurd (omega arith)
+
+    one : AllNonzero P (2 ∷ [])
+    one zero h = refl
+    one (suc j) h = absurd (omega arith)
+
+pub trip-answered : (k x : ℕ) → AllAnswered P (startRun (trip .start)) zeroPass (properRun P trip k (2 ∷ 3 ∷ []) (2 ∷ []) (lent x))
+trip-answered k x = proper-answered P (omega arith) trip valid k (2 ∷ 3 ∷ []) (2 ∷ []) (lent x) (brings k x)

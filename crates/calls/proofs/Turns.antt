@@ -1,0 +1,94 @@
+-- The tests of what is next, as what they let in.
+use mathlib.Core.Path.{_≡_, refl, sym}
+use mathlib.Core.Bool.{Bool, true, false, _&&_, _||_, true≢false}
+use mathlib.Core.Option.{Option, none}
+use Prim.Native.Nat.{ℕ}
+use Rattle.prover.specs.declared.Mode.{Mode}
+use Rattle.prover.specs.declared.Mode.the-variants.{Small, Full}
+use Rattle.prover.specs.declared.Next.{Next}
+use Rattle.prover.specs.declared.Next.the-variants as next
+use Rattle.prover.specs.declared.Kind.{Kind}
+use Rattle.prover.specs.declared.Kind.the-variants.{Shut, Asked, Change}
+use Rattle.prover.specs.Order.{isOpenings}
+use Rattle.prover.specs.WellFormed.{kindFits}
+use Rattle.calls.specs.State.{isFull}
+use Rattle.calls.specs.Table.{Refusal, rowAt, isSmall, waits, openingsNext}
+use Rattle.calls.proofs.Steps.{some-none}
+
+-- tests that hold
+pub both : (x y : Bool) → (x && y) ≡ true → (x ≡ true) × (y ≡ true)
+both true y e = (refl, e)
+both false y e = absurd (true≢false (sym e))
+
+pub row-at-passed : (b : Bool) (k i : ℕ) (t : Option Refusal) → rowAt b k i t ≡ none → (b ≡ true) × (t ≡ none)
+row-at-passed true k i t e = (refl, e)
+row-at-passed false k i t e = absurd (some-none e)
+
+-- a pass, openings, a change
+pub pass-kind : (m : Mode) (t : Next) → (isSmall m && (waits next.Total t || (waits next.Message t || waits next.Ends t))) ≡ true
+    → (kindFits Asked m t ≡ true) × (isOpenings t ≡ false)
+pass-kind Full t e = absurd (true≢false (sym e))
+pass-kind Small next.Total e = (refl, refl)
+pass-kind Small next.Message e = (refl, refl)
+pass-kind Small next.Challenge e = absurd (true≢false (sym e))
+pass-kind Small next.Ends e = (refl, refl)
+pass-kind Small next.Openings e = absurd (true≢false (sym e))
+
+pub openings-kind : (m : Mode) (t : Next) (n : ℕ) → (isSmall m && openingsNext t n) ≡ true → (kindFits Asked m t ≡ true) × (isOpenings t ≡ true)
+openings-kind Full t n e = absurd (true≢false (sym e))
+openings-kind Small next.Total n e = absurd (true≢false (sym e))
+openings-kind Small next.Message n e = absurd (true≢false (sym e))
+openings-kind Small next.Challenge n e = absurd (true≢false (sym e))
+openings-kind Small next.Ends n e = absurd (true≢false (sym e))
+openings-kind Small next.Openings n e = (refl, refl)
+
+pub change-kind : (m : Mode) (t : Next) (n : ℕ) → (isSmall m && (waits next.Message t || (waits next.Ends t || openingsNext t n))) ≡ true → kindFits Change m t ≡ true
+change-kind Full t n e = absurd (true≢false (sym e))
+change-kind Small next.Total n e = absurd (true≢false (sym e))
+change-kind Small next.Message n e = refl
+change-kind Small next.Challenge n e = absurd (true≢false (sym e))
+change-kind Small next.Ends n e = refl
+change-kind Small next.Openings n e = refl
+
+-- the test of what is next
+pub waits-for : (t now : Next) → waits t now ≡ true → now ≡ t
+waits-for next.Total next.Total e = refl
+waits-for next.Total next.Message e = absurd (true≢false (sym e))
+waits-for next.Total next.Challenge e = absurd (true≢false (sym e))
+waits-for next.Total next.Ends e = absurd (true≢false (sym e))
+waits-for next.Total next.Openings e = absurd (true≢false (sym e))
+waits-for next.Message next.Total e = absurd (true≢false (sym e))
+waits-for next.Message next.Message e = refl
+waits-for next.Message next.Challenge e = absurd (true≢false (sym e))
+waits-for next.Message next.Ends e = absurd (true≢false (sym e))
+waits-for next.Message next.Openings e = absurd (true≢false (sym e))
+waits-for next.Challenge next.Total e = absurd (true≢false (sym e))
+waits-for next.Challenge next.Message e = absurd (true≢false (sym e))
+waits-for next.Challenge next.Challenge e = refl
+waits-for next.Challenge next.Ends e = absurd (true≢false (sym e))
+waits-for next.Challenge next.Openings e = absurd (true≢false (sym e))
+waits-for next.Ends next.Total e = absurd (true≢false (sym e))
+waits-for next.Ends next.Message e = absurd (true≢false (sym e))
+waits-for next.Ends next.Challenge e = absurd (true≢false (sym e))
+waits-for next.Ends next.Ends e = refl
+waits-for next.Ends next.Openings e = absurd (true≢false (sym e))
+waits-for next.Openings next.Total e = absurd (true≢false (sym e))
+waits-for next.Openings next.Message e = absurd (true≢false (sym e))
+waits-for next.Openings next.Challenge e = absurd (true≢false (sym e))
+waits-for next.Openings next.Ends e = absurd (true≢false (sym e))
+waits-for next.Openings next.Openings e = refl
+
+-- IN FULL MODE no pass is open
+pub full-shut : (k : Kind) (m : Mode) (t : Next) → isFull m ≡ true → kindFits k m t ≡ true → k ≡ Shut
+full-shut Shut m t f h = refl
+full-shut Asked Small t f h = absurd (true≢false (sym f))
+full-shut Asked Full t f h = absurd (true≢false (sym h))
+full-shut Change Small t f h = absurd (true≢false (sym f))
+full-shut Change Full t f h = absurd (true≢false (sym h))
+
+pub challenge-shut : (k : Kind) (m : Mode) → kindFits k m next.Challenge ≡ true → k ≡ Shut
+challenge-shut Shut m h = refl
+challenge-shut Asked Small h = absurd (true≢false (sym h))
+challenge-shut Asked Full h = absurd (true≢false (sym h))
+challenge-shut Change Small h = absurd (true≢false (sym h))
+challenge-shut Change Full h = absurd (true≢false (sym h))

@@ -1,0 +1,106 @@
+-- Document 01, "One trip, whole", as lists of a verifier's calls: readings -180, -175, 40; weights 10, 20, 5; challenges 2, 3; point 2.
+use Prim.Native.Nat.{ℕ}
+use mathlib.Core.Path.{_≡_, refl}
+use mathlib.Core.Bool.{true}
+use mathlib.Core.List.{List, [], _∷_}
+use lib.IntN.{pos, negsuc}
+use lib.ListN.{replicate}
+use Rattle.algebra.specs.Mod.{residue, addMod, subMod, negMod, mulMod, halfOne, halfMod, inverseIn, inverseMod, divMod}
+use Rattle.field.specs.Integer.{image}
+use Rattle.field.specs.Total.{inLimits}
+use Rattle.wire.specs.Number.{num, bytes, numAt, signed, bits}
+use Rattle.wire.specs.Header.{marked}
+use Rattle.wire.specs.Proof.{allBelow, readProof, readProofOf, numbers, proofHeader, proofFile}
+use Rattle.vector.specs.Rounds.{powers, firstFrom}
+use Rattle.vector.specs.Vector.{weight}
+use Rattle.vector.specs.Opening.{opens}
+use Rattle.vector.specs.Slice.{overwrite, fifteen, every}
+use Rattle.vector.specs.Item.{plainParts}
+use Rattle.verifier.specs.declared.Verifier.{Verifier}
+use Rattle.verifier.specs.WellFormed.{inCount, turnFits, wellFormed}
+use Rattle.verifier.specs.Starts.{freshVerifier}
+use Rattle.verifier.specs.Sums.{entering, oneMore}
+use Rattle.verifier.specs.Claims.{closedWith, passedWith, failedNow, hears, finds}
+use Rattle.verifier.specs.Openings.{firstFault, openingFinds}
+use Rattle.verifier.specs.Calls.{passOpen, item, close, messageTurn, allReduced3, message, verdictTurn, verdict, hasRounds, checkOpening}
+use Rattle.verifier.specs.ProofFile.{hearsNext, hearsFirst, endsAgree, compares, afterFile, proof}
+use Rattle.runs.specs.Trip.{Start}
+use Rattle.calls.specs.declared.query.Query.{Query}
+use Rattle.calls.specs.declared.query.Query.the-variants as query
+use Rattle.calls.specs.declared.query.Told.{Told}
+use Rattle.calls.specs.declared.query.Told.the-variants as told
+use Rattle.calls.specs.QueryStep.{ask}
+use Rattle.calls.specs.QueryStatement.{Asked, startVerifier}
+
+abbrev P : ℕ
+P = 2147483647
+
+-- what each call of a list is told
+unfoldable pub toldAll : Verifier → List Asked → List Told
+toldAll v [] = []
+toldAll v (m ∷ ms) = ask P v (m .query) (m .shown) .told ∷ toldAll (ask P v (m .query) (m .shown) .verifier) ms
+
+abbrev start : Start
+start = record { items = 3; rounds = 2; plain = true; twists = replicate 15 0 }
+
+abbrev plainly : Query → Asked
+plainly q = record { query = q; shown = record { file = []; values = [] } }
+
+abbrev file : List ℕ
+file = proofFile 2 (negsuc 5099) (2147482047 ∷ 2147478297 ∷ 2147480147 ∷ 2147457147 ∷ 2147482997 ∷ 200 ∷ 2147483237 ∷ 65 ∷ [])
+
+abbrev withFile : Asked
+withFile = record { query = query.Proof; shown = record { file = file; values = [] } }
+
+abbrev opening : Asked
+opening =
+    record {
+      query = query.CheckOpening 2;
+      shown =
+          record {
+            file = [];
+            values = 2147483277 ∷ 330 ∷ 2147483277 ∷ 2147483197 ∷ 2147483037 ∷ 2147483237 ∷ 70 ∷ 2147483637 ∷ 70 ∷ 60 ∷ 40 ∷ 65 ∷ [];
+          };
+    }
+
+abbrev items : List Asked → List Asked
+items rest = plainly (query.Item (negsuc 179) 10) ∷ plainly (query.Item (negsuc 174) 20) ∷ plainly (query.Item (pos 40) 5) ∷ rest
+
+-- call by call, with a message too early, an item too late and an opening between
+pub trip-told :
+    toldAll (startVerifier start (2 ∷ 3 ∷ []))
+    (plainly (query.Message 2147482047 2147478297 2147480147)
+    ∷ items
+    (plainly (query.Close (negsuc 5099))
+    ∷ plainly (query.Item (pos 40) 5)
+    ∷ plainly (query.Message 2147482047 2147478297 2147480147)
+    ∷ opening
+    ∷ plainly query.Verdict
+    ∷ plainly (query.Message 2147457147 2147482997 200)
+    ∷ plainly query.Verdict
+    ∷ opening
+    ∷ plainly query.Verdict
+    ∷ []))
+    ≡ told.Refused 12
+    ∷ told.Taken
+    ∷ told.Taken
+    ∷ told.Taken
+    ∷ told.Closed
+    ∷ told.Refused 10
+    ∷ told.Passed
+    ∷ told.Yes
+    ∷ told.Refused 12
+    ∷ told.Passed
+    ∷ told.Yes
+    ∷ told.Yes
+    ∷ told.Yes
+    ∷ []
+unfolding toldAll ask item passOpen wellFormed inCount turnFits plainParts oneMore entering freshVerifier fifteen overwrite powers firstFrom weight image residue addMod negMod mulMod close closedWith inLimits message messageTurn allReduced3 hears passedWith failedNow verdict verdictTurn finds checkOpening hasRounds every openingFinds firstFault opens divMod inverseMod inverseIn halfMod halfOne subMod
+trip-told = refl
+
+-- with the proof file, given once
+pub trip-file-told :
+    toldAll (startVerifier start (2 ∷ 3 ∷ [])) (items (withFile ∷ plainly query.Verdict ∷ withFile ∷ []))
+    ≡ told.Taken ∷ told.Taken ∷ told.Taken ∷ told.Yes ∷ told.Yes ∷ told.Refused 10 ∷ []
+unfolding toldAll ask item passOpen wellFormed inCount turnFits plainParts oneMore entering freshVerifier fifteen overwrite powers firstFrom weight image residue addMod negMod mulMod closedWith inLimits hears passedWith failedNow verdict verdictTurn finds proof readProofOf readProof marked allBelow numAt num bytes signed bits proofHeader numbers hearsNext hearsFirst endsAgree compares afterFile
+trip-file-told = refl

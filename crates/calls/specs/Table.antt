@@ -1,0 +1,117 @@
+-- Document 01, "Refused, by place", for the calls of a run: over the state and what the call itself is given. No record is read.
+use Prim.Native.Nat.{ℕ, _+_, _*_, _-_}
+use mathlib.Core.Bool.{Bool, true, false, cond, not, _&&_, _||_}
+use mathlib.Core.Option.{Option, none, some}
+use lib.Dec.{eqb, leb, ltb}
+use lib.ListN.{length}
+use Rattle.refusal.specs.Limit.{maxWeight}
+use Rattle.field.specs.Total.{inLimits}
+use Rattle.vector.specs.Rounds.{size}
+use Rattle.vector.specs.Slice.{allReduced, isNonzero}
+use Rattle.prover.specs.declared.Mode.{Mode}
+use Rattle.prover.specs.declared.Next.{Next}
+use Rattle.prover.specs.declared.Next.the-variants as next
+use Rattle.prover.specs.declared.Kind.{Kind}
+use Rattle.prover.specs.declared.Kind.the-variants.{Shut, Asked, Change}
+use Rattle.runs.specs.Trip.{sumOf}
+use Rattle.calls.specs.declared.Call.{Call}
+use Rattle.calls.specs.declared.Call.the-variants as call
+use Rattle.calls.specs.Step.{Lent}
+use Rattle.calls.specs.State.{State, isChange, isFull}
+
+-- "It carries its number and, for 5 and 13 to 15, the index"
+abbrev pub Refusal : Type 0
+Refusal = ℕ × Option ℕ
+
+-- "Within a place the checks run downward": the number where a check fails, else what follows
+abbrev pub row : Bool → ℕ → Option Refusal → Option Refusal
+row ok k rest = cond ok rest (some (k, none))
+
+abbrev pub rowAt : Bool → ℕ → ℕ → Option Refusal → Option Refusal
+rowAt ok k i rest = cond ok rest (some (k, some i))
+
+abbrev pub isOpen : Kind → Bool
+isOpen Shut = false
+isOpen Asked = true
+isOpen Change = true
+
+abbrev pub isSmall : Mode → Bool
+isSmall m = not (isFull m)
+
+abbrev pub rank : Next → ℕ
+rank next.Total = 0
+rank next.Message = 1
+rank next.Challenge = 2
+rank next.Ends = 3
+rank next.Openings = 4
+
+-- what is next in the run
+abbrev pub waits : Next → Next → Bool
+waits t now = eqb (rank t) (rank now)
+
+-- in small mode, a pass for what is next: openings have a call of their own
+abbrev pub passNext : Mode → Next → Bool
+passNext m t = isSmall m && (waits next.Total t || (waits next.Message t || waits next.Ends t))
+
+-- "openings .. with n = 0" are refused
+abbrev pub openingsNext : Next → ℕ → Bool
+openingsNext t n = waits next.Openings t && ltb 0 n
+
+-- "Before any later pass (round, ends, openings) a small run may change to full"; "a change after the ends, with n = 0" is refused
+abbrev pub changeNext : Mode → Next → ℕ → Bool
+changeNext m t n = isSmall m && (waits next.Message t || (waits next.Ends t || openingsNext t n))
+
+-- the current fold: fold i before message i and its challenge, fold n before the ends, fold 0 after them
+abbrev pub levelNow : ℕ → ℕ → Next → ℕ
+levelNow n i next.Total = 0
+levelNow n i next.Message = i
+levelNow n i next.Challenge = i
+levelNow n i next.Ends = n
+levelNow n i next.Openings = 0
+
+abbrev pub level : State → ℕ
+level a = levelNow (a .start .rounds) (length (a .challenges)) (a .next)
+
+-- how long it is
+abbrev pub long : State → ℕ
+long a = size (a .start .rounds) (level a)
+
+-- 9: "shorter than the fold"
+abbrev pub bothLong : State → Lent → Bool
+bothLong a l = leb (long a) (length (l .f)) && leb (long a) (length (l .g))
+
+-- 16: "in the places a full-mode call reads, a number P or more", after the buffer's length
+abbrev pub readRows : ℕ → State → Lent → Option Refusal
+readRows p a l = row (bothLong a l) 9 (row (allReduced p (long a) (l .f) && allReduced p (long a) (l .g)) 16 none)
+
+-- "item or close with no pass open"; "item beyond L"; an item of the other kind of run is not next
+abbrev pub itemRows : State → Bool → Option Refusal → Option Refusal
+itemRows a kind rest = row (isOpen (a .kind)) 10 (row (ltb (length (a .items)) (a .start .items)) 8 (row kind 10 rest))
+
+-- only a change pass has the buffers
+abbrev pub placeRow : State → Lent → Option Refusal
+placeRow a l = row (not (isChange (a .kind)) || bothLong a l) 9 none
+
+-- 7: "plain total outside its limits", where the pass is the total's
+abbrev pub totalFits : ℕ → State → Bool
+totalFits p a = not (waits next.Total (a .next) && a .start .plain) || inLimits p (sumOf (a .items))
+
+-- THE TABLE: none where the call is answered
+unfoldable pub table : ℕ → State → Call → Lent → Option Refusal
+table p a call.OpenPass l = row (passNext (a .mode) (a .next)) 10 none
+table p a (call.OpenAt b) l = row (isSmall (a .mode) && openingsNext (a .next) (a .start .rounds)) 10 (row (isNonzero p b) 6 none)
+table p a call.ToFull l = row (changeNext (a .mode) (a .next) (a .start .rounds)) 10 (row (bothLong a l) 9 none)
+table p a call.ToSmall l = some (10, none)
+table p a (call.Item r w) l =
+    itemRows a (a .start .plain) (rowAt (leb w maxWeight) 5 (a .start .items - 1 - length (a .items)) (placeRow a l))
+table p a (call.FieldItem x y) l = itemRows a (not (a .start .plain)) (row (ltb x p && ltb y p) 16 (placeRow a l))
+table p a call.Close l =
+    row (isOpen (a .kind)) 10 (row (eqb (length (a .items)) (a .start .items)) 8 (row (totalFits p a) 7 none))
+table p a call.Message l = row (isFull (a .mode) && waits next.Message (a .next)) 10 (readRows p a l)
+table p a (call.Challenge c) l =
+    row (waits next.Challenge (a .next)) 10 (row (isNonzero p c) 6 (cond (isFull (a .mode)) (readRows p a l) none))
+table p a call.Ends l = row (isFull (a .mode) && waits next.Ends (a .next)) 10 (readRows p a l)
+table p a (call.Opening b) l =
+    row (isFull (a .mode) && openingsNext (a .next) (a .start .rounds)) 10 (row (isNonzero p b) 6 (readRows p a l))
+table p a call.WriteProof l =
+    row (a .start .plain && waits next.Openings (a .next)) 10 (row (leb (18 + 12 * a .start .rounds) (length (l .file))) 9 none)
