@@ -1,0 +1,12 @@
+// Document 01's edges, worked out by the proved calls: one line for each, marked * if it is in the starred table, else -.
+mod calls;
+mod limits;
+mod numbers;
+mod output;
+mod trip;
+
+fn main() {
+    trip::lines();
+    numbers::lines();
+    limits::lines();
+}
