@@ -1,0 +1,26 @@
+// Two's complement: a cast would ask that the number is in the lower half.
+ghost use mathlib.Core.Path.{_≡_};
+ghost use Prim.Native.Nat.{_+_, _*_, _<_};
+ghost use Rattle.wire.specs.Number.{signed};
+
+pub fn signed16(v: u32) -> i16
+    requires { ⌜ v < 65536 ⌝ }
+    ensures { λ r. ⌜ r ≡ signed 2 v ⌝ }
+{
+    if v < 32768 {
+        v as i16
+    } else {
+        -1 - ((65535 - v) as i16)
+    }
+}
+
+pub fn signed64(low: u32, high: u32) -> i64
+    ensures { λ r. ⌜ r ≡ signed 8 (high * 4294967296 + low) ⌝ }
+{
+    let bits = (high as u64) * 4294967296 + (low as u64);
+    if bits < 9223372036854775808 {
+        bits as i64
+    } else {
+        -1 - ((18446744073709551615 - bits) as i64)
+    }
+}

@@ -1,0 +1,60 @@
+use mathlib.Core.Bool.{true}
+use mathlib.Core.Path.{_≡_, sym, ap, _∙_}
+use Prim.Native.Nat.{ℕ, _≤_, _<_, _-_}
+use native.Mathlib.Omega.{arith}
+use borrow.Author.Count.{below-more}
+use borrow.Author.Needs.{needs}
+use Rattle.trip.specs.Input.{numberAt}
+use Rattle.vector.proofs.Every.{every-true, every-false}
+use Rattle.vector.specs.Slice.{isNonzero}
+use Rattle.trip.proofs.input.all_nonzero.Statement.{statement}
+use Rattle.trip.proofs.input.all_nonzero.Tie as tie
+
+abbrev Inv-loop : tie.InvT-loop
+Inv-loop numbers count k₀ k = (k ≤ count) × ((j : ℕ) → j < k → isNonzero 2147483647 (numberAt numbers j) ≡ true)
+
+abbrev μ-loop : tie.MeasureT-loop
+μ-loop numbers count k₀ k = count - k
+
+loop-holds : tie.Need-loop-holds Inv-loop μ-loop
+loop-holds c = (omega arith, λ j h. absurd (omega arith))
+
+mul-word : tie.Need-mul-word Inv-loop μ-loop
+mul-word c = search needs
+
+word-requires : tie.Need-word-requires Inv-loop μ-loop
+word-requires c κs = search needs
+
+is-nonzero-requires : tie.Need-is-nonzero-requires Inv-loop μ-loop
+is-nonzero-requires c κs = search needs
+
+returns : tie.Need-returns Inv-loop μ-loop
+returns c = sym (every-false (λ k. isNonzero 2147483647 (numberAt (c .before .before .before .before .before .before .args .numbers .now) k)) (c .before .before .before .before .before .before .args .count) (c .before .before .before .before .loop .k) (omega arith) (ap (isNonzero 2147483647) (sym (c .before .before .word .ensures)) ∙ sym (c .before .is-nonzero .ensures) ∙ c .if1 .left))
+
+add-k : tie.Need-add-k Inv-loop μ-loop
+add-k c = search needs
+
+loop-less : tie.Need-loop-less Inv-loop μ-loop
+loop-less c = search needs
+
+loop-again : tie.Need-loop-again Inv-loop μ-loop
+loop-again c = (omega arith, below-more _ _ (c .before .before .before .before .loop .inv .1) (ap (isNonzero 2147483647) (sym (c .before .before .word .ensures)) ∙ sym (c .before .is-nonzero .ensures) ∙ c .if1 .taken))
+
+returns-2 : tie.Need-returns-2 Inv-loop μ-loop
+returns-2 c = sym (every-true (λ k. isNonzero 2147483647 (numberAt (c .before .before .before .args .numbers .now) k)) (c .before .before .before .args .count) (λ j h. c .before .loop .inv .1 j (omega arith)))
+
+pub all-nonzero-spec : {M : Type 1} → statement M
+all-nonzero-spec =
+    tie.close
+    (tie.spec
+    Inv-loop
+    μ-loop
+    loop-holds
+    mul-word
+    word-requires
+    is-nonzero-requires
+    returns
+    add-k
+    loop-less
+    loop-again
+    returns-2)

@@ -1,0 +1,131 @@
+// The two files, and which of the refusals 1 to 6 they deserve.
+ghost use mathlib.Core.Path.{_≡_};
+ghost use mathlib.Core.Bool.{cond, _&&_};
+ghost use Prim.Native.Nat.{_+_, _*_, _<_, _≤_};
+ghost use lib.Dec.{leb, ltb};
+ghost use lib.ListN.{length};
+ghost use Rattle.io.specs.Counts.{Counts};
+ghost use Rattle.vector.specs.Slice.{every, isNonzero};
+ghost use Rattle.wire.specs.Number.{numAt};
+ghost use Rattle.wire.specs.Log.{logCount, logOf};
+ghost use Rattle.trip.specs.Input.{limit, headedIn, readLimited, readNumbers, readTrip, inputOf, numberAt};
+use field::Field;
+use wire::log::LogRead;
+
+// The program's own limit on L.
+const LIMIT: u32 = 4096;
+
+pub enum Input {
+    // Good files, with L.
+    Items(u32),
+    Refused(u8),
+}
+
+// The first bytes of the file, as many as fit; none where it cannot be opened.
+pub fn read_file(path: &[u8], bytes: &mut [u8]) -> usize
+    ensures { λ r. ⌜ Counts r (now (bytes .exit)) ⌝ }
+{
+    let file = os::open_read(path);
+    if file < 0 {
+        return 0;
+    }
+    let size = io::read_full(file, bytes);
+    libc::close(file);
+    size
+}
+
+pub fn check(log: &[u8], numbers: &[u8]) -> Input
+    ensures { λ r. ⌜ inputOf r ≡ readTrip (readLimited (now (log .entry))) (now (numbers .entry)) ⌝ }
+{
+    match read_log(log) {
+        LogRead::Log(items) => check_numbers(items, numbers),
+        LogRead::Refused(number) => Input::Refused(number),
+        LogRead::RefusedAt(number, _) => Input::Refused(number),
+    }
+}
+
+// The log, held to the program's limit where the format's own limit stands.
+fn read_log(log: &[u8]) -> LogRead
+    ensures { λ r. ⌜ logOf r ≡ readLimited (now (log .entry)) ⌝ }
+{
+    let answer = wire::log::read_log(log);
+    if headed(answer) {} else {
+        return answer;
+    }
+    if over_limit(log) {
+        return LogRead::Refused(refusal::COUNT);
+    }
+    answer
+}
+
+// Whether 1 and 2 are passed.
+fn headed(answer: LogRead) -> bool
+    ensures { λ r. ⌜ r ≡ headedIn (logOf answer) ⌝ }
+{
+    match answer {
+        LogRead::Log(_) => true,
+        LogRead::Refused(number) => number > refusal::VERSION,
+        LogRead::RefusedAt(_, _) => true,
+    }
+}
+
+fn over_limit(log: &[u8]) -> bool
+    ensures { λ r. ⌜ r ≡ (leb 7 (length (now (log .entry))) && ltb limit (logCount (now (log .entry)))) ⌝ }
+{
+    if log.len() < 7 {
+        return false;
+    }
+    wide(log[5]) + 256 * wide(log[6]) > LIMIT
+}
+
+// n challenges and a point.
+fn check_numbers(items: u32, numbers: &[u8]) -> Input
+    ensures { λ r. ⌜ inputOf r ≡ readNumbers items (now (numbers .entry)) ⌝ }
+{
+    let count = vector::sizes::rounds_of(items) as usize + 1;
+    if numbers.len() != 4 * count {
+        return Input::Refused(refusal::SIZE);
+    }
+    if all_nonzero(numbers, count) {
+        return Input::Items(items);
+    }
+    Input::Refused(refusal::ARGUMENT)
+}
+
+fn all_nonzero(numbers: &[u8], count: usize) -> bool
+    requires { ⌜ 4 * count ≤ length (now numbers) ⌝ }
+    ensures { λ r. ⌜ r ≡ every count (λ k. isNonzero 2147483647 (numberAt (now (numbers .entry)) k)) ⌝ }
+{
+    let mut k: usize = 0;
+    while k < count {
+        if vector::slice::is_nonzero(Field::MODULUS, word(numbers, 4 * k)) {} else {
+            return false;
+        }
+        k += 1;
+    }
+    true
+}
+
+// Number k of trip.rvc; zero past its end.
+pub fn number(numbers: &[u8], k: u32) -> u32
+    ensures { λ r. ⌜ r ≡ cond (ltb (length (now (numbers .entry))) (4 * k + 4)) 0 (numberAt (now (numbers .entry)) k) ⌝ }
+{
+    let at = 4 * (k as usize);
+    if numbers.len() < at + 4 {
+        return 0;
+    }
+    word(numbers, at)
+}
+
+fn word(s: &[u8], at: usize) -> u32
+    requires { ⌜ at + 4 ≤ length (now s) ⌝ }
+    ensures { λ r. ⌜ r ≡ numAt 4 (now (s .entry)) at ⌝ }
+{
+    wide(s[at]) + 256 * wide(s[at + 1]) + 65536 * wide(s[at + 2]) + 16777216 * wide(s[at + 3])
+}
+
+fn wide(x: u8) -> u32
+    ensures { λ r. ⌜ (r ≡ x) × (r < 256) ⌝ }
+{
+    x as u32
+}

@@ -1,0 +1,240 @@
+// A whole run of the prover, in small mode until its change.
+ghost use mathlib.Core.Path.{_≡_};
+ghost use Rattle.vector.specs.Slice.{overwrite};
+ghost use Rattle.vector.specs.Item.{plainParts};
+ghost use Rattle.vector.specs.Power.{sizeIn32};
+ghost use Rattle.trip.specs.Items.{zeroPair, orZero, pairAt, fAt, gAt};
+use super::input;
+use field::Field;
+use prover::Answer;
+use prover::Mode;
+use prover::Next;
+use prover::Run;
+use prover::Step;
+use vector::item::Item;
+use vector::item::Parts;
+use vector::slice::write;
+use wire::log::ItemRead;
+
+// Answers as the last call of the run does: the opening, or the ends where n is 0; or as the close of a total that is refused.
+pub fn prove(
+    items: u32,
+    log: &[u8],
+    numbers: &[u8],
+    change: u64,
+    f: &mut [u32],
+    g: &mut [u32],
+) -> Step {
+    let first = pass(Run::start_plain(items), log, f, g);
+    let answer = first.answer;
+    let Answer::Total(_) = answer else {
+        return first;
+    };
+    prove_total(first, log, numbers, change, f, g)
+}
+
+fn prove_total(
+    first: Step,
+    log: &[u8],
+    numbers: &[u8],
+    change: u64,
+    f: &mut [u32],
+    g: &mut [u32],
+) -> Step {
+    let folded = give_messages(first, log, numbers, change, f, g);
+    finish(folded, log, numbers, change, f, g)
+}
+
+fn finish(
+    folded: Step,
+    log: &[u8],
+    numbers: &[u8],
+    change: u64,
+    f: &mut [u32],
+    g: &mut [u32],
+) -> Step {
+    let ended = answer(folded, log, change, f, g);
+    if ended.run.rounds == 0 {
+        return ended;
+    }
+    give_opening(ended, log, numbers, change, f, g)
+}
+
+// Every message, each with its challenge.
+fn give_messages(
+    first: Step,
+    log: &[u8],
+    numbers: &[u8],
+    change: u64,
+    f: &mut [u32],
+    g: &mut [u32],
+) -> Step {
+    let mut step = first;
+    let mut left = first.run.rounds;
+    while left > 0 {
+        left -= 1;
+        step = give_message(step, log, numbers, change, f, g);
+    }
+    step
+}
+
+fn give_message(
+    before: Step,
+    log: &[u8],
+    numbers: &[u8],
+    change: u64,
+    f: &mut [u32],
+    g: &mut [u32],
+) -> Step {
+    let step = answer(before, log, change, f, g);
+    let pass = step.pass;
+    let c = input::number(numbers, step.run.round);
+    step.run.challenge(pass, c, f, g)
+}
+
+// The next message, or the ends.
+fn answer(before: Step, log: &[u8], change: u64, f: &mut [u32], g: &mut [u32]) -> Step {
+    let step = change_mode(before, log, change, f, g);
+    if is_small(step) {
+        return pass(step, log, f, g);
+    }
+    answer_in_full(step, f, g)
+}
+
+fn answer_in_full(step: Step, f: &[u32], g: &[u32]) -> Step {
+    let run = step.run;
+    let pass = step.pass;
+    let next = run.next;
+    match next {
+        Next::Message => run.message(pass, f, g),
+        _ => run.ends(pass, f, g),
+    }
+}
+
+fn give_opening(
+    before: Step,
+    log: &[u8],
+    numbers: &[u8],
+    change: u64,
+    f: &mut [u32],
+    g: &mut [u32],
+) -> Step {
+    let step = change_mode(before, log, change, f, g);
+    let point = input::number(numbers, step.run.rounds);
+    if is_small(step) {
+        return open_by_pass(step, log, point, f, g);
+    }
+    open_in_full(step, log, point, f, g)
+}
+
+fn open_by_pass(step: Step, log: &[u8], point: u32, f: &mut [u32], g: &mut [u32]) -> Step {
+    let pass = step.pass;
+    close(give_items(step.run.open_at(pass, point), log, f, g))
+}
+
+fn open_in_full(step: Step, log: &[u8], point: u32, f: &mut [u32], g: &mut [u32]) -> Step {
+    lend(step.run.rounds, log, f, g);
+    let pass = step.pass;
+    step.run.opening(pass, point, f, g)
+}
+
+// The change to full mode, where it comes before this stage.
+fn change_mode(step: Step, log: &[u8], change: u64, f: &mut [u32], g: &mut [u32]) -> Step {
+    if stage(step.run) != change {
+        return step;
+    }
+    let pass = step.pass;
+    close(give_items(step.run.to_full(pass, f, g), log, f, g))
+}
+
+// The run's stages: its rounds, the ends, the openings.
+fn stage(run: Run) -> u64 {
+    let next = run.next;
+    match next {
+        Next::Openings => run.rounds as u64 + 1,
+        _ => run.round as u64,
+    }
+}
+
+fn is_small(step: Step) -> bool {
+    let run = step.run;
+    let mode = run.mode;
+    match mode {
+        Mode::Small => true,
+        Mode::Full => false,
+    }
+}
+
+// A whole pass for what is next.
+fn pass(step: Step, log: &[u8], f: &mut [u32], g: &mut [u32]) -> Step {
+    let pass = step.pass;
+    close(give_items(step.run.open_pass(pass), log, f, g))
+}
+
+fn close(step: Step) -> Step {
+    let pass = step.pass;
+    step.run.close(pass)
+}
+
+// Last item to first.
+fn give_items(opened: Step, log: &[u8], f: &mut [u32], g: &mut [u32]) -> Step {
+    let mut step = opened;
+    let mut i = opened.run.items;
+    while i > 0 {
+        i -= 1;
+        step = give_item(step, log, i, f, g);
+    }
+    step
+}
+
+fn give_item(step: Step, log: &[u8], i: u32, f: &mut [u32], g: &mut [u32]) -> Step {
+    let ItemRead::Item(reading, weight) = wire::log::log_item(log, i) else {
+        return step;
+    };
+    let pass = step.pass;
+    step.run.item(pass, reading, weight, f, g)
+}
+
+// Fold 0, lent again for the openings.
+fn lend(rounds: u32, log: &[u8], f: &mut [u32], g: &mut [u32])
+    ensures { λ r. ⌜ (now (f .exit) ≡ overwrite (fAt (now (log .entry))) (sizeIn32 rounds 0) (now (f .entry))) × (now (g .exit) ≡ overwrite (gAt (now (log .entry))) (sizeIn32 rounds 0) (now (g .entry))) ⌝ }
+{
+    let size = vector::sizes::size_of(rounds, 0);
+    let mut i: u32 = 0;
+    while i < size {
+        let item = item_at(log, i);
+        write(f, i as usize, item.f);
+        write(g, i as usize, item.g);
+        i += 1;
+    }
+}
+
+// Item i of both vectors; past the log's items it is a zero pair.
+fn item_at(log: &[u8], i: u32) -> Item
+    ensures { λ r. ⌜ r ≡ pairAt 2147483647 (now (log .entry)) i ⌝ }
+{
+    match wire::log::log_item(log, i) {
+        ItemRead::Item(reading, weight) => pair(reading, weight),
+        ItemRead::Nothing => no_item(),
+    }
+}
+
+fn pair(reading: i16, weight: u16) -> Item
+    ensures { λ r. ⌜ r ≡ orZero (plainParts 2147483647 reading weight) ⌝ }
+{
+    match vector::item::plain(Field::MODULUS, reading, weight) {
+        Parts::Item(item) => item,
+        Parts::Refused => no_item(),
+    }
+}
+
+fn no_item() -> Item
+    ensures { λ r. ⌜ r ≡ zeroPair ⌝ }
+{
+    Item {
+        f: 0,
+        g: 0,
+        reading: 0,
+        weight: 0,
+    }
+}

@@ -1,0 +1,84 @@
+// A whole run of the verifier, which is given the log, the challenges, and what the prover's run holds.
+ghost use mathlib.Core.Path.{_≡_};
+ghost use Prim.Native.Nat.{_<_, _≤_};
+ghost use lib.ListN.{length};
+use super::input;
+use prover::Run;
+use verifier::Verdict;
+use verifier::Verifier;
+use wire::log::ItemRead;
+
+pub fn verify(run: Run, log: &[u8], numbers: &[u8]) -> Verdict {
+    let v = start(run.items, run.rounds, numbers);
+    let taken = take_items(v, log);
+    let closed = taken.close(run.total).verifier;
+    hear(closed, run).verdict()
+}
+
+fn start(items: u32, rounds: u32, numbers: &[u8]) -> Verifier {
+    let challenges = challenges(numbers);
+    let n = count(rounds);
+    Verifier::start_plain(items, &challenges[..n]).verifier
+}
+
+// A run has at most fifteen rounds.
+pub fn count(rounds: u32) -> usize
+    ensures { λ r. ⌜ r ≤ 15 ⌝ }
+{
+    if 15 < rounds {
+        return 15;
+    }
+    rounds as usize
+}
+
+fn challenges(numbers: &[u8]) -> [u32; 15]
+    ensures { λ r. ⌜ 15 ≡ length r ⌝ }
+{
+    let mut out = [0u32; 15];
+    let mut k: u32 = 0;
+    while k < 15 {
+        out[k as usize] = input::number(numbers, k);
+        k += 1;
+    }
+    out
+}
+
+// First item to last.
+fn take_items(fresh: Verifier, log: &[u8]) -> Verifier {
+    let mut v = fresh;
+    let items = fresh.items;
+    let mut i: u32 = 0;
+    while i < items {
+        v = take_item(v, log, i);
+        i += 1;
+    }
+    v
+}
+
+fn take_item(v: Verifier, log: &[u8], i: u32) -> Verifier {
+    match wire::log::log_item(log, i) {
+        ItemRead::Item(reading, weight) => v.item(reading, weight).verifier,
+        ItemRead::Nothing => v,
+    }
+}
+
+// The run's messages in order.
+fn hear(closed: Verifier, run: Run) -> Verifier {
+    let mut v = closed;
+    let messages = run.messages;
+    let n = count(run.rounds);
+    let mut i: usize = 0;
+    while i < n {
+        v = hear_message(v, messages, i);
+        i += 1;
+    }
+    v
+}
+
+fn hear_message(v: Verifier, messages: [u32; 45], i: usize) -> Verifier
+    requires { ⌜ i < 15 ⌝ }
+{
+    let at = 3 * i;
+    v.message(messages[at], messages[at + 1], messages[at + 2])
+        .verifier
+}
