@@ -1,0 +1,200 @@
+//! Runs the programs of a folder against the reference. The first difference ends it.
+
+use crate::generate::script::Script;
+use crate::generate::trip_files::{trip_files, TripFiles};
+use crate::generate::{large_list, list, list_without_run};
+use crate::random::Random;
+use crate::replay::encode;
+use crate::report::Report;
+use crate::text::hex;
+use crate::{edges, rules, trip};
+use std::fs::{self, File};
+use std::path::{Path, PathBuf};
+use std::process::{Command, Stdio};
+
+const LISTS_PER_TRIP: u64 = 5;
+const LISTS_IN_BATCH: u64 = 50;
+
+/// `count` trips, each in three modes, and five times as many lists.
+pub fn compare(programs: &Path, seed: u64, count: u64) -> Result<String, String> {
+    let programs =
+        programs.canonicalize().map_err(|error| format!("{}: {error}", programs.display()))?;
+    let scratch = std::env::temp_dir().join(format!("reference-compare-{}", std::process::id()));
+    fs::create_dir_all(&scratch).map_err(|error| error.to_string())?;
+    let compared = compare_all(&programs, &scratch, seed, count);
+    fs::remove_dir_all(&scratch).ok();
+    compared.map_err(|difference| format!("seed {seed}\n{difference}"))
+}
+
+fn compare_all(programs: &Path, scratch: &Path, seed: u64, count: u64) -> Result<String, String> {
+    let mut report = Report::default();
+    for (name, expected) in [("edges", edges::output()), ("rules", rules::example())] {
+        let program = programs.join(name);
+        if program.exists() {
+            let got = stdout_of(&mut Command::new(program), Stdio::null())?;
+            same_text(name, &expected, &got)?;
+            report.programs += 1;
+        }
+    }
+    compare_usage(programs, scratch)?;
+    let mut random = Random::new(seed);
+    for k in 0..count {
+        let files = trip_files(&mut random);
+        let change = random.below(files.rounds as u64 + 4);
+        let folder = scratch.join(format!("trip-{k}"));
+        compare_trip(programs, &folder, &files, change, &mut report)
+            .map_err(|difference| format!("trip {k}\n{}{difference}", describe(&files)))?;
+    }
+    let batches = (count * LISTS_PER_TRIP).div_ceil(LISTS_IN_BATCH);
+    for batch in 0..batches {
+        let mut script = Script::new(seed ^ (batch + 1) << 32);
+        list_without_run(&mut script);
+        (1..LISTS_IN_BATCH).for_each(|_| list(&mut script));
+        compare_script(programs, scratch, &script, &mut report)
+            .map_err(|difference| format!("batch {batch}\n{difference}"))?;
+    }
+    for items in [8_191, 32_768] {
+        let mut script = Script::new(seed ^ items as u64);
+        large_list(&mut script, items);
+        compare_script(programs, scratch, &script, &mut report)
+            .map_err(|difference| format!("list of {items} items\n{difference}"))?;
+    }
+    report.finish()
+}
+
+fn compare_trip(
+    programs: &Path,
+    folder: &PathBuf,
+    files: &TripFiles,
+    change: u64,
+    report: &mut Report,
+) -> Result<(), String> {
+    fs::create_dir_all(folder).map_err(|error| error.to_string())?;
+    for (name, bytes) in [("trip.rvl", &files.log), ("trip.rvc", &files.numbers)] {
+        if let Some(bytes) = bytes {
+            fs::write(folder.join(name), bytes).map_err(|error| error.to_string())?;
+        }
+    }
+    let expected = trip::output_of_folder(folder);
+    let change = change.to_string();
+    for arguments in [&[][..], &["full"], &["change", &change]] {
+        let mut command = Command::new(programs.join("trip"));
+        let got = stdout_of(command.args(arguments).current_dir(folder), Stdio::null())?;
+        same_text(&format!("trip {}", arguments.join(" ")), &expected, &got)?;
+    }
+    fs::remove_dir_all(folder).ok();
+    report.count_trip(&expected);
+    Ok(())
+}
+
+/// Arguments that `trip` does not know: a usage line beside the output, and no output.
+fn compare_usage(programs: &Path, folder: &Path) -> Result<(), String> {
+    let unknown = ["other", "change", "change x", "full 1"];
+    for arguments in unknown {
+        let mut command = Command::new(programs.join("trip"));
+        let command = command.args(arguments.split(' ')).current_dir(folder);
+        let output = command.output().map_err(|error| error.to_string())?;
+        if !output.stdout.is_empty() || output.stderr.is_empty() {
+            return Err(format!("trip {arguments}: wants a usage line on standard error alone"));
+        }
+    }
+    Ok(())
+}
+
+fn compare_script(
+    programs: &Path,
+    scratch: &Path,
+    script: &Script,
+    report: &mut Report,
+) -> Result<(), String> {
+    let input = scratch.join("calls");
+    let mut bytes: Vec<u8> = script.records.iter().flat_map(encode).collect();
+    // A last partial record is ignored.
+    bytes.extend(&encode(&[8, 0, 0, 0])[..15]);
+    fs::write(&input, bytes).map_err(|error| error.to_string())?;
+    let records = File::open(&input).map_err(|error| error.to_string())?;
+    let got = stdout_of(&mut Command::new(programs.join("replay")), Stdio::from(records))?;
+    if got != script.answers.concat() {
+        return Err(first_difference(script, &got));
+    }
+    report.count_script(script);
+    Ok(())
+}
+
+fn stdout_of(command: &mut Command, input: Stdio) -> Result<String, String> {
+    let name = command.get_program().to_string_lossy().to_string();
+    let output = command.stdin(input).output();
+    let output = output.map_err(|error| format!("{name}: {error}"))?;
+    if output.status.code().is_none() {
+        return Err(format!("{name}: ended by a signal"));
+    }
+    String::from_utf8(output.stdout).map_err(|_| format!("{name}: output is not text"))
+}
+
+fn same_text(name: &str, expected: &str, got: &str) -> Result<(), String> {
+    if expected == got {
+        return Ok(());
+    }
+    let (mut wanted, mut given) = (expected.lines(), got.lines());
+    let mut line = 1;
+    loop {
+        match (wanted.next(), given.next()) {
+            (Some(a), Some(b)) if a == b => line += 1,
+            (None, None) => return Err(format!("{name}: another end of the last line")),
+            (a, b) => {
+                let [a, b] = [a, b].map(|text| text.unwrap_or("(no more lines)"));
+                return Err(format!("{name}, line {line}\n  reference: {a}\n  program:   {b}"));
+            }
+        }
+    }
+}
+
+/// The call whose answer differs, with the calls before it in its list.
+fn first_difference(script: &Script, got: &str) -> String {
+    let mut rest = got;
+    let answers = script.answers.iter();
+    let place = answers.take_while(|answer| match rest.strip_prefix(answer.as_str()) {
+        Some(after) => {
+            rest = after;
+            true
+        }
+        None => false,
+    });
+    let place = place.count();
+    if place == script.answers.len() {
+        return format!("replay: more output than calls: {}", shortened(rest));
+    }
+    let number = script.lists.iter().rposition(|&start| start <= place).unwrap_or(0);
+    let first = script.lists[number].max(place.saturating_sub(30));
+    let mut text = format!("list {number}, call {place} of the batch, with those before it:\n");
+    for k in first..=place {
+        let answer = if k < place { shortened(&script.answers[k]) } else { String::new() };
+        text += &format!("  {:?} {answer}\n", script.records[k]);
+    }
+    let lines = script.answers[place].lines().count().max(1);
+    let given: Vec<&str> = rest.lines().take(lines).collect();
+    text + &format!(
+        "  reference: {}\n  program:   {}",
+        shortened(&script.answers[place]),
+        shortened(&given.join("\n"))
+    )
+}
+
+fn shortened(text: &str) -> String {
+    let text = text.trim_end().replace('\n', " | ");
+    match text.len() > 400 {
+        true => format!("{} ..", &text[..400]),
+        false => text,
+    }
+}
+
+fn describe(files: &TripFiles) -> String {
+    let part = |name: &str, bytes: &Option<Vec<u8>>| match bytes {
+        Some(bytes) => {
+            let shown = hex(&bytes[..bytes.len().min(100)]);
+            format!("{name}, {} bytes: {shown}\n", bytes.len())
+        }
+        None => format!("{name} is missing\n"),
+    };
+    part("trip.rvl", &files.log) + &part("trip.rvc", &files.numbers)
+}

@@ -1,0 +1,201 @@
+//! Files of the three kinds, whole and damaged, read by every call that takes one.
+
+use super::noise;
+use super::rule_list::random_matrix;
+use super::script::Script;
+use crate::field::P;
+use crate::files::{write_log, write_matrix, write_proof, Proof};
+use crate::random::Random;
+
+pub fn files(script: &mut Script) {
+    for _ in 0..script.random.between(2, 5) {
+        let kind = script.random.below(3);
+        let random = &mut script.random;
+        let mut bytes = match kind {
+            0 => log(random),
+            1 => proof(random),
+            _ => matrix(random),
+        };
+        if random.chance(350) {
+            damage(random, &mut bytes);
+        }
+        if random.chance(50) {
+            damage(random, &mut bytes);
+        }
+        script.fill_file(&bytes);
+        // Mostly the calls of its own kind, sometimes those of another.
+        let read_as = if script.random.chance(50) { script.random.below(3) } else { kind };
+        match read_as {
+            0 => read_log(script),
+            1 => read_proof(script),
+            _ => read_matrix(script),
+        }
+    }
+    claims(script);
+}
+
+fn log(random: &mut Random) -> Vec<u8> {
+    let count = random.below(13);
+    let mut items: Vec<_> = (0..count).map(|_| (random.reading(), random.weight())).collect();
+    if count > 0 && random.chance(250) {
+        for _ in 0..random.between(1, 2) {
+            items[random.below(count) as usize].1 = random.pick(&[1_441, 1_442, 32_768, 65_535]);
+        }
+    }
+    write_log(&items)
+}
+
+fn proof(random: &mut Random) -> Vec<u8> {
+    let rounds = random.pick(&[0, 1, 2, 3, 4, 14, 15, 16, 255 / 12]);
+    let mut numbers: Vec<u64> = (0..3 * rounds + 2).map(|_| random.field()).collect();
+    if random.chance(200) {
+        numbers[random.below(3 * rounds + 2) as usize] = random.pick(&[P, P + 1, u32::MAX as u64]);
+    }
+    let limit = crate::field::TOTAL_LIMIT;
+    let total = match random.below(4) {
+        0 => random.pick(&[limit, limit + 1, -limit, -limit - 1, i32::MAX as i64, i32::MIN as i64]),
+        _ => random.below(2 * limit as u64) as i64 - limit,
+    };
+    let messages = numbers[2..].chunks(3).map(|three| [three[0], three[1], three[2]]).collect();
+    write_proof(&Proof { total, messages, ends: (numbers[0], numbers[1]) })
+}
+
+fn matrix(random: &mut Random) -> Vec<u8> {
+    let rounds = random.pick(&[0, 1, 2, 3, 4, 15, 16, 200]);
+    let mut matrix = random_matrix(random, rounds, 20);
+    let count = matrix.entries.len() as u64;
+    if count > 0 && random.chance(600) {
+        for _ in 0..random.between(1, 3) {
+            let place = random.below(count) as usize;
+            let entry = &mut matrix.entries[place];
+            let over = (1u32 << rounds.min(15)) as u16;
+            match random.below(8) {
+                0 => entry.row = random.pick(&[over, 65_535]),
+                1 => entry.column = random.pick(&[over, 65_535]),
+                2 => entry.value = random.pick(&[0, P as u32, P as u32 + 1, u32::MAX]),
+                3 => entry.row = 0,
+                4 => entry.column = 0,
+                // Two faults in one entry.
+                5 => (entry.row, entry.column) = (0, over),
+                6 => (entry.row, entry.value) = (0, random.pick(&[0, P as u32])),
+                _ => matrix.entries.swap(place, random.below(count) as usize),
+            }
+        }
+    }
+    write_matrix(&matrix)
+}
+
+/// One change of a file's header, length or any byte.
+pub fn damage(random: &mut Random, bytes: &mut Vec<u8>) {
+    let length = bytes.len() as u64;
+    let mut set = |place: u64, value: u64| {
+        if let Some(byte) = bytes.get_mut(place as usize) {
+            *byte = value as u8;
+        }
+    };
+    match random.below(9) {
+        0 => set(random.below(3), random.below(256)),
+        1 => set(random.between(3, 4), random.below(4)),
+        2 => set(5, random.below(256)),
+        3 => set(6, random.below(256)),
+        4 => set(7, random.below(256)),
+        5 => bytes.truncate(random.below(12) as usize),
+        6 => bytes.truncate(random.below(length + 1) as usize),
+        7 => bytes.extend((0..random.between(1, 12)).map(|_| random.below(256) as u8)),
+        _ => set(random.below(length.max(1)), random.below(256)),
+    }
+}
+
+/// An index of an item that is there, or just is not, or cannot be.
+fn index(script: &mut Script, size: u64) -> u64 {
+    let held = script.tool.file.len() as u64 / size;
+    match script.random.below(10) {
+        0 => script.random.pick(&[u32::MAX as u64, 1 << 30, 1 << 29, 65_536]),
+        _ => script.random.below(held + 2),
+    }
+}
+
+fn read_log(script: &mut Script) {
+    script.call(52, 0, 0);
+    for _ in 0..4 {
+        let item = index(script, 4);
+        script.call(53, item, 0);
+    }
+}
+
+fn read_proof(script: &mut Script) {
+    script.call(54, 0, 0);
+    for _ in 0..4 {
+        let round = index(script, 12);
+        script.call(55, round, 0);
+    }
+}
+
+fn read_matrix(script: &mut Script) {
+    script.call(56, 0, 0);
+    for _ in 0..4 {
+        let entry = index(script, 8);
+        script.call(57, entry, 0);
+    }
+    let size = 1u64 << script.tool.file.get(5).map_or(0, |&rounds| rounds.min(7));
+    let random = &mut script.random;
+    let length = match random.below(5) {
+        0 => random.pick(&[0, size - 1, size + 1]).min(128),
+        _ => size,
+    };
+    let mut z: Vec<u64> = (0..length).map(|_| random.field()).collect();
+    if length > 0 && random.chance(200) {
+        z[random.below(length) as usize] = random.pick(&[P, u32::MAX as u64]);
+    }
+    let places = random.pick(&[0, size - 1, size, size, size + 1, 4_096]);
+    let spare = random.below(3);
+    script.fill_scratch(&z);
+    script.call(3, places, spare);
+    script.call(58, 0, 0);
+    script.call(5, size + 1, 0);
+}
+
+fn claims(script: &mut Script) {
+    for _ in 0..3 {
+        let random = &mut script.random;
+        let rounds = random.below(4);
+        let length = match random.below(5) {
+            0 => random.below(10),
+            _ => 1 << rounds,
+        };
+        let mut cz: Vec<u64> = (0..length).map(|_| random.field()).collect();
+        if length > 0 && random.chance(200) {
+            cz[random.below(length) as usize] = random.any();
+        }
+        let rounds =
+            if random.chance(150) { random.pick(&[15, 16, u32::MAX as u64]) } else { rounds };
+        let v = if random.chance(300) { random.any() } else { random.usable() };
+        script.fill_scratch(&cz);
+        script.call(59, rounds, v);
+    }
+}
+
+/// What the tool itself turns away, and how much it holds.
+pub fn tool_limits(script: &mut Script) {
+    let length = script.random.between(126, 131);
+    script.fill_scratch(&vec![1; length as usize]);
+    script.call(11, 3, 0);
+    script.call(31, 3, script.tool.scratch.len() as u64 + 1);
+    script.call(31, 3, u32::MAX as u64);
+    if script.random.chance(200) {
+        let bytes: Vec<u8> = (0..1_026).map(|k| k as u8).collect();
+        script.fill_file(&bytes);
+        script.call(53, 254, 0);
+        script.call(57, 126, 0);
+        script.call(57, 127, 0);
+    }
+    script.call(51, 256, 0);
+    for op in [5, 7, 24] {
+        for a in [256, 257, 4_097, u32::MAX as u64] {
+            script.call(op, if op == 5 { a.max(4_097) } else { a }, 0);
+        }
+    }
+    script.call(15, 65_536, 0);
+    script.call(33, 0, 65_536);
+    noise::only(script, 10);
+}

@@ -1,0 +1,114 @@
+//! What one run is meant to be: its trip, its challenges, when it changes mode, how unruly it is.
+
+use crate::random::Random;
+use crate::vector::{rounds_of, rule_twists};
+
+#[derive(Clone, Copy, Debug, PartialEq)]
+pub enum Kind {
+    Plain,
+    Twisted,
+    /// With v.
+    Rule(u64),
+}
+
+pub struct Plan {
+    pub kind: Kind,
+    /// As a record gives them: a reading in 16 bits and a weight, or two field numbers.
+    pub items: Vec<(u64, u64)>,
+    pub twists: Vec<u64>,
+    pub challenges: Vec<u64>,
+    /// 0 to n - 1 a round, n the ends, n + 1 the openings, above them never.
+    pub change_before: usize,
+    pub openings: usize,
+    /// What a rule check claims in place of the total.
+    pub claim: Option<u64>,
+    /// Permille of random calls, of dumps and of items from another trip.
+    pub noise: u64,
+    pub dumps: u64,
+    pub strays: u64,
+}
+
+impl Plan {
+    pub fn random(random: &mut Random) -> Plan {
+        let items = match random.below(20) {
+            0..=6 => random.between(1, 4),
+            7..=13 => random.between(5, 20),
+            14..=16 => (1 << random.between(1, 6)) + random.below(3) - 1,
+            _ => random.between(21, 70),
+        };
+        let items = items as usize;
+        match random.below(3) {
+            0 => {
+                let trip = field_items(random, items);
+                Plan::of(random, Kind::Twisted, trip)
+            }
+            _ => {
+                let trip = plain_items(random, items);
+                Plan::of(random, Kind::Plain, trip)
+            }
+        }
+    }
+
+    /// A run of many items, with nothing random inserted: it changes mode at the first round whose
+    /// fold fits the tool's buffers.
+    pub fn large(random: &mut Random, items: usize) -> Plan {
+        let trip = (0..items).map(|_| (random.below(1 << 16), random.below(30)));
+        let trip = trip.collect();
+        let mut plan = Plan::of(random, Kind::Plain, trip);
+        plan.change_before = rounds_of(items).saturating_sub(12);
+        (plan.openings, plan.noise, plan.strays) = (0, 0, 0);
+        plan.dumps = 1;
+        plan
+    }
+
+    pub fn of(random: &mut Random, kind: Kind, items: Vec<(u64, u64)>) -> Plan {
+        let rounds = rounds_of(items.len());
+        let twists = match kind {
+            Kind::Plain => vec![1; rounds],
+            Kind::Twisted => (0..rounds).map(|_| random.usable()).collect(),
+            Kind::Rule(v) => rule_twists(rounds, v),
+        };
+        Plan {
+            kind,
+            items,
+            twists,
+            challenges: (0..rounds).map(|_| random.usable()).collect(),
+            change_before: match random.below(4) {
+                0 => 0,
+                1 => rounds + 2,
+                _ => random.below(rounds as u64 + 2) as usize,
+            },
+            openings: random.below(3) as usize,
+            claim: None,
+            noise: random.pick(&[0, 0, 20, 80, 250]),
+            dumps: random.pick(&[0, 50, 300, 1_000]),
+            strays: random.pick(&[0, 0, 0, 100]),
+        }
+    }
+
+    pub fn plain(&self) -> bool {
+        self.kind == Kind::Plain
+    }
+
+    /// A trip whose total is out of its limits is made small enough.
+    pub fn calm(&mut self) {
+        for item in &mut self.items {
+            item.1 = item.1.min(5);
+        }
+        self.strays = 0;
+    }
+}
+
+pub fn plain_items(random: &mut Random, count: usize) -> Vec<(u64, u64)> {
+    let extreme = count > 16 && random.chance(400);
+    let reading = random.pick(&[i16::MIN, i16::MAX]);
+    let item = |random: &mut Random| match extreme && !random.chance(20) {
+        true => (reading as u16 as u64, 1_440),
+        false => (random.reading() as u16 as u64, random.weight() as u64),
+    };
+    (0..count).map(|_| item(random)).collect()
+}
+
+pub fn field_items(random: &mut Random, count: usize) -> Vec<(u64, u64)> {
+    (0..count).map(|_| (random.field(), random.field())).collect()
+}

@@ -1,0 +1,72 @@
+//! Records as they are written, with the reference's answer to each.
+
+use crate::random::Random;
+use crate::replay::{Record, Tool, PLACES};
+
+pub struct Script {
+    pub tool: Tool,
+    pub random: Random,
+    pub records: Vec<Record>,
+    pub answers: Vec<String>,
+    /// Where each list begins.
+    pub lists: Vec<usize>,
+}
+
+impl Script {
+    pub fn new(seed: u64) -> Script {
+        let (records, answers, lists) = (Vec::new(), Vec::new(), Vec::new());
+        Script { tool: Tool::default(), random: Random::new(seed), records, answers, lists }
+    }
+
+    pub fn begin_list(&mut self) {
+        self.lists.push(self.records.len());
+    }
+
+    pub fn call3(&mut self, op: u32, a: u64, b: u64, c: u64) -> &str {
+        let record = [op, a as u32, b as u32, c as u32];
+        let answer = self.tool.step(record);
+        self.records.push(record);
+        self.answers.push(answer);
+        self.answers.last().unwrap().trim_end()
+    }
+
+    pub fn call(&mut self, op: u32, a: u64, b: u64) -> &str {
+        self.call3(op, a, b, 0)
+    }
+
+    pub fn fill_scratch(&mut self, numbers: &[u64]) {
+        self.call(1, 0, 0);
+        for &number in numbers {
+            self.call(2, number, 0);
+        }
+    }
+
+    pub fn fill_file(&mut self, bytes: &[u8]) {
+        self.call(50, 0, 0);
+        for &byte in bytes {
+            self.call(51, byte as u64, 0);
+        }
+    }
+
+    /// Lends at least `size` places of both buffers where it can; now and then it forgets.
+    pub fn lend(&mut self, size: usize) {
+        let short = self.tool.lent.0 < size || self.tool.lent.1 < size;
+        if short && !self.random.chance(60) {
+            let spare = self.random.below(3);
+            let places = (size as u64 + spare).min(PLACES as u64);
+            self.call(3, places, places);
+        }
+    }
+
+    pub fn dump(&mut self) {
+        let places = match &self.tool.run {
+            Some(run) => run.size().min(40) as u64 + 2,
+            None => 2,
+        };
+        let places = match self.random.below(4) {
+            0 => self.random.below(places),
+            _ => places,
+        };
+        self.call(5, places, 0);
+    }
+}

@@ -1,0 +1,83 @@
+//! The second program: document 01 by its definitions, apart from the proved one.
+
+mod compare;
+mod edges;
+mod field;
+mod files;
+mod generate;
+mod make;
+mod prover;
+mod random;
+mod random_runs;
+mod refusal;
+mod replay;
+mod report;
+mod rules;
+mod selftest;
+mod stack;
+mod state;
+mod table;
+mod text;
+mod trip;
+mod vector;
+mod verifier;
+
+use std::io::{self, Read, Write};
+use std::path::Path;
+use std::process::ExitCode;
+
+const USAGE: &str = "usage:
+  reference trip FOLDER      what `trip` prints for trip.rvl and trip.rvc of the folder
+  reference replay           the call-list tool, from standard input to standard output
+  reference edges            the edges of document 01
+  reference rules            two small rule checks, one with a failing row, and refusals
+  reference make FOLDER      writes trip.rvl and trip.rvc from two lines on standard input:
+                               READING:WEIGHT items, as in -180:10 -175:20 40:5
+                               the challenges and then the point, as in 2 3 2
+  reference compare PROGRAMS [SEED] [COUNT]
+                             compares the folder's trip, replay, edges and rules with this program
+                             on COUNT trips and five times as many lists (default 1 and 500)
+  reference selftest         checks this program against document 01's example and itself
+";
+
+fn main() -> ExitCode {
+    let arguments: Vec<String> = std::env::args().skip(1).collect();
+    let words: Vec<&str> = arguments.iter().map(String::as_str).collect();
+    match answer(&words) {
+        Ok(text) => {
+            io::stdout().write_all(text.as_bytes()).ok();
+            ExitCode::SUCCESS
+        }
+        Err(text) => {
+            eprintln!("{}", text.trim_end());
+            ExitCode::FAILURE
+        }
+    }
+}
+
+fn answer(words: &[&str]) -> Result<String, String> {
+    let number = |word: &str| word.parse::<u64>().map_err(|_| USAGE.to_string());
+    match words {
+        ["trip", folder] => Ok(trip::output_of_folder(Path::new(folder))),
+        ["replay"] => Ok(replay::output(&input()?)),
+        ["edges"] => Ok(edges::output()),
+        ["rules"] => Ok(rules::example()),
+        ["make", folder] => {
+            let text = String::from_utf8(input()?).map_err(|error| error.to_string())?;
+            make::make(Path::new(folder), &text).map(|()| String::new())
+        }
+        ["compare", programs] => compare::compare(Path::new(programs), 1, 500),
+        ["compare", programs, seed] => compare::compare(Path::new(programs), number(seed)?, 500),
+        ["compare", programs, seed, count] => {
+            compare::compare(Path::new(programs), number(seed)?, number(count)?)
+        }
+        ["selftest"] => selftest::run(),
+        _ => Err(USAGE.to_string()),
+    }
+}
+
+fn input() -> Result<Vec<u8>, String> {
+    let mut bytes = Vec::new();
+    io::stdin().read_to_end(&mut bytes).map_err(|error| error.to_string())?;
+    Ok(bytes)
+}

@@ -1,0 +1,94 @@
+//! The prover's abstract state: what follows from its start and the answered calls alone.
+
+use crate::refusal::Refusal;
+use crate::table;
+use crate::vector::{rounds_of, rule_twists};
+
+#[derive(Clone, Copy, Debug, PartialEq)]
+pub enum Mode {
+    Small,
+    Full,
+}
+
+#[derive(Clone, Copy, Debug, PartialEq)]
+pub enum Next {
+    Total,
+    Message(usize),
+    Challenge(usize),
+    Ends,
+    Openings,
+}
+
+/// What an open pass works towards.
+#[derive(Clone, Copy, Debug, PartialEq)]
+pub enum Aim {
+    Total,
+    Message(usize),
+    Ends,
+    Opening(u64),
+    /// A change of mode that writes the fold of this level.
+    Change(usize),
+}
+
+/// The vectors of the items answered in this pass; places not yet taken are zero.
+#[derive(Clone)]
+pub struct Pass {
+    pub aim: Aim,
+    pub taken: usize,
+    pub f: Vec<u64>,
+    pub g: Vec<u64>,
+    pub plain_total: i64,
+}
+
+#[derive(Clone)]
+pub struct Run {
+    pub plain: bool,
+    pub items: usize,
+    pub rounds: usize,
+    pub twists: Vec<u64>,
+    pub mode: Mode,
+    pub next: Next,
+    pub pass: Option<Pass>,
+    pub challenges: Vec<u64>,
+    pub total: i64,
+    pub messages: Vec<[u64; 3]>,
+    pub ends: Option<(u64, u64)>,
+}
+
+impl Run {
+    pub fn start_plain(items: u64) -> Result<Run, Refusal> {
+        table::start(items)?;
+        let items = items as usize;
+        Ok(Run::fresh(true, items, vec![1; rounds_of(items)]))
+    }
+
+    pub fn start_twisted(items: u64, twists: &[u64]) -> Result<Run, Refusal> {
+        table::start_twisted(items, twists)?;
+        Ok(Run::fresh(false, items as usize, twists.to_vec()))
+    }
+
+    pub fn start_rule(rounds: u64, v: u64) -> Result<Run, Refusal> {
+        table::start_rule(rounds, v)?;
+        Ok(Run::fresh(false, 1 << rounds, rule_twists(rounds as usize, v)))
+    }
+
+    fn fresh(plain: bool, items: usize, twists: Vec<u64>) -> Run {
+        Run {
+            plain,
+            items,
+            rounds: rounds_of(items),
+            twists,
+            mode: Mode::Small,
+            next: Next::Total,
+            pass: None,
+            challenges: Vec::new(),
+            total: 0,
+            messages: Vec::new(),
+            ends: None,
+        }
+    }
+
+    pub fn size(&self) -> usize {
+        1 << self.rounds
+    }
+}
