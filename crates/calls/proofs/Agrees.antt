@@ -1,12 +1,12 @@
 -- What holds of a state whose answered calls brought the trip's items and kept the buffers.
-use mathlib.Core.Path.{_≡_, refl, sym, ap, ap₂, subst}
+use mathlib.Core.Path.{_≡_, refl, sym, ap, ap₂, subst, _∙_}
 use mathlib.Core.Bool.{Bool, true, false}
 use mathlib.Core.List.{List, [], _∷_, _++_}
-use Prim.Native.Nat.{ℕ, zero, suc, _+_, _-_, _^_, _<_, _≤_}
+use Prim.Native.Nat.{ℕ, zero, suc, _+_, _*_, _-_, _^_, _<_, _≤_}
 use native.Mathlib.Omega.{arith}
-use lib.ListN.{length, List·getD-append}
+use lib.ListN.{length, length-append, List·getD-append}
 use lib.Seq.{getD-append-seam}
-use borrow.Author.Tests.{le-ltb, ltb-true, eqb-true}
+use borrow.Author.Tests.{ltb-true, eqb-true}
 use Rattle.vector.specs.Vector.{at}
 use Rattle.vector.specs.Rounds.{size}
 use Rattle.vector.specs.Fold.{combine, fold, endValue}
@@ -68,12 +68,13 @@ old-challenges cs c j l = List·getD-append cs (c ∷ []) 0 j l
 pub new-challenge : (cs : List ℕ) (c : ℕ) → at (cs ++ c ∷ []) (length cs) ≡ c
 new-challenge cs c = getD-append-seam cs c [] 0
 
--- padding is zero
-pub f-zero : (p : ℕ) (T : Trip) (j : ℕ) → T .start .items ≤ j → vectorF p T j ≡ 0
-f-zero p T j h = rw (le-ltb j (T .start .items) h)
-
-pub g-zero : (p : ℕ) (T : Trip) (j : ℕ) → T .start .items ≤ j → vectorG p T j ≡ 0
-g-zero p T j h = rw (le-ltb j (T .start .items) h)
+-- three numbers a message
+pub length-messages : (p : ℕ) (T : Trip) (cs : List ℕ) (k : ℕ) → length (messagesTo p T cs k) ≡ 3 * k
+unfolding messagesTo
+length-messages p T cs zero = refl
+length-messages p T cs (suc k) =
+    length-append (messagesTo p T cs k) (messageAt p T cs k .even ∷ messageAt p T cs k .cross ∷ messageAt p T cs k .odd ∷ [])
+    ∙ omega (arith, length-messages p T cs k)
 
 module _ (p : ℕ) (its : List Raw) (a : State) (h : Fits p a) where
   abbrev T : Trip

@@ -44,7 +44,7 @@ use Rattle.calls.proofs.Records.{runOf, passOf}
 use Rattle.calls.proofs.Guards.{challengeDoes, totals}
 use Rattle.calls.proofs.Steps.{some-none, row-passed, closeStep, does, settled}
 use Rattle.calls.proofs.Fits.{Fits, few, kind-is}
-use Rattle.calls.proofs.Turns.{both, row-at-passed, waits-for}
+use Rattle.calls.proofs.Turns.{both, row-at-passed, waits-for, not-so}
 use Rattle.calls.proofs.Refusals.{refused-with, Inv, goes, step-is, inv-step, asked-level}
 use Rattle.calls.proofs.Agrees.{tripAt, Agrees, pass-taken, round-most}
 use Rattle.calls.proofs.Rights.{right, item-written-so}
@@ -172,10 +172,6 @@ module _ (p : ℕ) (large : maxWeight < p) (through : Bool) (its : List Raw) whe
         f = taken-first p n c (passLevel a) (s .points) (vectorF p T) (vectorG p T) (few p a h) (t .0) (taken a) (kernelOf s) (t .1);
         g = taken-second p n c (passLevel a) (s .points) (vectorF p T) (vectorG p T) (few p a h) (t .0) (taken a) (kernelOf s) (t .1);
       })
-    where
-      not-so : (b : Bool) → not b ≡ true → b ≡ false
-      not-so true e = absurd (true≢false (sym e))
-      not-so false e = refl
 
   holds-at : (a : State) (r : Run) (s : Pass) → Inv p large a r s → Agrees p through its a → Holds p through (tripAt its a) a s
   holds-at a r s i g =

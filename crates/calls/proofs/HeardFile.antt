@@ -1,10 +1,10 @@
 -- The run's proof file reads as the run's total, messages and end values.
-use mathlib.Core.Path.{_≡_, refl, sym, ap, subst, _∙_}
+use mathlib.Core.Path.{_≡_, sym, ap, subst, _∙_}
 use mathlib.Core.Bool.{true}
 use mathlib.Core.List.{List, [], _∷_, _++_}
 use Prim.Native.Nat.{ℕ, zero, suc, _+_, _*_, _^_, _≤_, _<_}
 use native.Mathlib.Omega.{arith}
-use lib.ListN.{length, getD, length-append, List·getD-append}
+use lib.ListN.{length, getD, List·getD-append}
 use lib.Seq.{take-all, getD-append-add}
 use borrow.Author.Tests.{leb-true}
 use Rattle.algebra.specs.Mod.{residue}
@@ -22,6 +22,7 @@ use Rattle.verifier.proofs.PlainFiles.{Lists}
 use Rattle.runs.specs.Trip.{Trip, itemOf, vectorF, vectorG, totalOf}
 use Rattle.calls.specs.Meaning.{messageAt, messagesTo, proofOfTrip}
 use Rattle.calls.proofs.HeardTrip.{Fine, below-suc, end-f, end-g}
+use Rattle.calls.proofs.Agrees.{length-messages}
 
 pub record ReadsTrip (p : ℕ) (T : Trip) (cs file : List ℕ) : Type 0 where
   pub total : proofTotal file ≡ totalOf T
@@ -46,18 +47,13 @@ same-message : {a b c : ℕ} {m : Message} → a ≡ m .even → b ≡ m .cross 
 same-message {m = m} x y z = rw (x, y, z)
 
 module _ (p : ℕ) (T : Trip) (cs : List ℕ) where
-  length-messages : (k : ℕ) → length (messagesTo p T cs k) ≡ 3 * k
-  unfolding messagesTo
-  length-messages zero = refl
-  length-messages (suc k) = length-append (messagesTo p T cs k) _ ∙ omega (arith, length-messages k)
-
   lists-messages : (k : ℕ) → Lists k (messageAt p T cs) (messagesTo p T cs k)
   unfolding messagesTo
   lists-messages zero r h = absurd (omega arith)
   lists-messages (suc k) r h =
       let xs = messagesTo p T cs k in
       let m = messageAt p T cs k in
-      let long = length-messages k in
+      let long = length-messages p T cs k in
       below-suc
       (λ r.
       (getD (messagesTo p T cs (suc k)) (3 * r) 0 ≡ messageAt p T cs r .even)
@@ -106,7 +102,7 @@ module _ (p : ℕ) (T : Trip) (cs : List ℕ) where
           fits = word;
           most = few;
           limits = leb-true _ _ limits;
-          room = omega (arith, length-messages n);
+          room = omega (arith, length-messages p T cs n);
           messages = numbers-below;
           end-f = subst (λ x. x < p) (end-f p large T enough fine few cs listed) (below _);
           end-g = subst (λ x. x < p) (end-g p large T enough fine few cs listed) (below _);
@@ -115,7 +111,7 @@ module _ (p : ℕ) (T : Trip) (cs : List ℕ) where
     reads : ReadsAs p (proofOfTrip p T cs) n (totalOf T) ms endF endG
     reads =
         subst (λ xs. ReadsAs p (proofFile n (totalOf T) (xs ++ endF ∷ endG ∷ [])) n (totalOf T) ms endF endG)
-        (take-all (3 * n) ms (omega (arith, length-messages n))) (reads-back p n (totalOf T) ms endF endG writable)
+        (take-all (3 * n) ms (omega (arith, length-messages p T cs n))) (reads-back p n (totalOf T) ms endF endG writable)
 
     pub file-reads : ReadsTrip p T cs (proofOfTrip p T cs)
     file-reads =

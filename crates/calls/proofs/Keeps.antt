@@ -56,6 +56,10 @@ small-change : (h q : ℕ) (m : Mode) (o through : Bool) → isSmall m ≡ true 
 small-change h q Small o through s = refl
 small-change h q Full o through s = absurd (true≢false (sym s))
 
+is-full : (m : Mode) → isFull m ≡ true → m ≡ Full
+is-full Full e = refl
+is-full Small e = absurd (true≢false (sym e))
+
 full-some : (h q : ℕ) (k : Kind) (o through : Bool) → knownIn h q Full k o through ≡ cond o h 0
 full-some h q Shut o through = refl
 full-some h q Asked o through = refl
@@ -237,9 +241,6 @@ module _ (p : ℕ) (large : maxWeight < p) (through : Bool) (its : List Raw) (a 
   message-kept et even cross odd e =
       ap₂ _++_ (g .messages ∙ ap (λ t. messagesTo p T (a .challenges) (givenAt (length (a .challenges)) t)) et) (ap numbersIn e)
 
-  total-kept : (t : Next) → waits next.Total (a .next) ≡ false → a .start .plain ≡ true → waits next.Total t ≡ false → a .total ≡ totalOf T
-  total-kept t was plain now = g .total plain was
-
   small-message : a .next ≡ next.Message → isSmall (a .mode) ≡ true → (even cross odd : ℕ) → answer.Message even cross odd ≡ reply p T (a .challenges) (roundMessage (length (a .challenges))) .answer
       → Agrees p through its (afterMessage even cross odd)
   small-message et s even cross odd e =
@@ -350,20 +351,12 @@ module _ (p : ℕ) (large : maxWeight < p) (through : Bool) (its : List Raw) (a 
       ap (λ m. knownIn (long b) (taken b / 2 ^ level b) m (b .kind) (waits next.Openings (b .next)) through) (em ∙ is-full (a .mode) f)
       ∙ full-some (long b) (taken b / 2 ^ level b) (b .kind) (waits next.Openings (b .next)) through
       ∙ ap (λ o. cond o (long b) 0) w
-    where
-      is-full : (m : Mode) → isFull m ≡ true → m ≡ Full
-      is-full Full e = refl
-      is-full Small e = absurd (true≢false (sym e))
 
   full-none : (b : State) → b .mode ≡ a .mode → isFull (a .mode) ≡ true → waits next.Openings (b .next) ≡ true → known through b ≡ long b
   full-none b em f w =
       ap (λ m. knownIn (long b) (taken b / 2 ^ level b) m (b .kind) (waits next.Openings (b .next)) through) (em ∙ is-full (a .mode) f)
       ∙ full-some (long b) (taken b / 2 ^ level b) (b .kind) (waits next.Openings (b .next)) through
       ∙ ap (λ o. cond o (long b) 0) w
-    where
-      is-full : (m : Mode) → isFull m ≡ true → m ≡ Full
-      is-full Full e = refl
-      is-full Small e = absurd (true≢false (sym e))
 
   pub full-message : a .next ≡ next.Message → isFull (a .mode) ≡ true → AsLeft p T a l → (even cross odd : ℕ)
       → answer.Message even cross odd ≡ reply p T (a .challenges) (roundMessage (length (a .challenges))) .answer

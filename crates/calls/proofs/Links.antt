@@ -37,7 +37,7 @@ use Rattle.calls.specs.Meaning.{Question, total, roundMessage, ends, ope
 use Rattle.calls.specs.Statement.{fileAfter, Answers}
 use Rattle.calls.proofs.Steps.{row-passed}
 use Rattle.calls.proofs.Turns.{both}
-use Rattle.calls.proofs.Agrees.{message-before, messages-before}
+use Rattle.calls.proofs.Agrees.{message-before, messages-before, length-messages}
 use Rattle.calls.proofs.Hits.{Hit, message-round, isLate, late, all-challenges}
 use Rattle.calls.proofs.AnswerParts.{totalIn, messageIn, fieldTotalIn, isPlain}
 
@@ -115,11 +115,6 @@ is-write a call.WriteProof e = refl
 file-left : (p : ℕ) (T : Trip) (a : State) (c : Call) (l : Lent) (t : Option Refusal) (o : Result) → t ≡ none → Answers p T a c l t o → o .lent .file ≡ fileAfter p T a c (l .file)
 file-left p T a c l none o e h = h .file
 file-left p T a c l (some k) o e h = cc
-
-length-messages : (p : ℕ) (T : Trip) (cs : List ℕ) (k : ℕ) → length (messagesTo p T cs k) ≡ 3 * k
-unfolding messagesTo
-length-messages p T cs zero = refl
-length-messages p T cs (suc k) = length-append (messagesTo p T cs k) (messageAt p T cs k .even ∷ messageAt p T cs k .cross ∷ messageAt p T cs k .odd ∷ []) ∙ omega (arith, length-messages p T cs k)
 
 length-proof : (p : ℕ) (T : Trip) (cs : List ℕ) → length (proofOfTrip p T cs) ≡ 18 + 12 * T .start .rounds
 length-proof p T cs =

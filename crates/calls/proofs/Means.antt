@@ -39,7 +39,7 @@ use Rattle.runs.proofs.PassRecord.{after-kind, after-points}
 use Rattle.runs.proofs.PassTrip.{after-dot, after-sum}
 use Rattle.runs.proofs.CloseLaws.{closed-message, closed-ends, closed-opening}
 use Rattle.calls.specs.declared.Call.the-variants as call
-use Rattle.calls.specs.Step.{Lent, Result}
+use Rattle.calls.specs.Step.{Lent}
 use Rattle.calls.specs.State.{State, isFull}
 use Rattle.calls.specs.Table.{isOpen, waits, long, bothLong, readRows, table}
 use Rattle.calls.specs.Meaning.{Reply, reply, roundMessage, ends, openingAt, closeAsks, foldF, foldG, messagesTo, proofOfTrip}
@@ -74,9 +74,6 @@ replied s = record { answer = s .answer; values = s .values }
 
 abbrev pub repliedOut : Out → Reply
 repliedOut o = record { answer = o .answer; values = o .values }
-
-abbrev pub repliedBy : Result → Reply
-repliedBy o = record { answer = o .answer; values = o .values }
 
 module _ (p : ℕ) (large : maxWeight < p) (through : Bool) (its : List Raw) (a : State) (h : Fits p a) where
   abbrev T : Trip

@@ -32,7 +32,7 @@ use Rattle.prover.specs.Opening.{openingGiven}
 use Rattle.prover.specs.Challenge.{challengedFull}
 use Rattle.runs.specs.Trip.{reading, numbers, partsIn, Start}
 use Rattle.runs.specs.Passes.{passAfter}
-use Rattle.runs.proofs.RunBounds.{bounds}
+use Rattle.runs.proofs.RunFacts.{bounds}
 use Rattle.runs.proofs.PassRecord.{takes-answer}
 use Rattle.runs.proofs.PassKernel.{after-levels}
 use Rattle.calls.specs.declared.Call.{Call}
@@ -45,7 +45,7 @@ use Rattle.calls.proofs.Records.{runOf, passOf}
 use Rattle.calls.proofs.Guards.{challengeDoes, totals}
 use Rattle.calls.proofs.Steps.{some-none, closeStep, does, settled, steps}
 use Rattle.calls.proofs.Fits.{Fits, few, run-formed, formed, kind-is, taken-is, sum-is, messages-below}
-use Rattle.calls.proofs.Turns.{both}
+use Rattle.calls.proofs.Turns.{both, not-so}
 use Rattle.calls.proofs.Follows.{Follows, positive, no-items, open-follows, open-at-follows, to-full-follows, item-follows, field-item-follows, close-follows, message-follows, ends-follows, challenge-follows}
 
 close-answered : (r : Run) (s : Pass) (t : Next) (k : Kind) → isAnswered (closeStep r s t k .answer) ≡ true
@@ -170,10 +170,6 @@ module _ (p : ℕ) (large : maxWeight < p) where
       let K : Kernel = kernelOf (passAfter p (runOf a) Asked (a .point) (a .items)) in
       subst (λ k. Counted (passLevel a) (taken a) (kernelOf (passAfter p (runOf a) k (a .point) (a .items)))) (sym ek)
       (counted (passLevel a) (taken a) K (subst (λ i. Levelled i (taken a) K) level (subst (λ t. Levelled (levelOf (runOf a) Asked) t K) t l)))
-    where
-      not-so : (b : Bool) → not b ≡ true → b ≡ false
-      not-so true e = absurd (true≢false (sym e))
-      not-so false e = refl
 
   pub counts-hold : (a : State) (r : Run) (s : Pass) → Inv a r s → CountsHold a s
   counts-hold a r s i e =

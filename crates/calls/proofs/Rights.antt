@@ -16,6 +16,7 @@ use Rattle.vector.specs.Rounds.{size}
 use Rattle.vector.specs.Fold.{fold, foldWith}
 use Rattle.vector.specs.Slice.{isNonzero}
 use Rattle.vector.proofs.Rounds.{size-all}
+use Rattle.vector.proofs.Padding.{padded-zero}
 use Rattle.prover.specs.declared.Mode.{Mode}
 use Rattle.prover.specs.declared.Mode.the-variants.{Small, Full}
 use Rattle.prover.specs.declared.Next.{Next}
@@ -51,7 +52,7 @@ use Rattle.calls.proofs.Guards.{fulls, challengeDoes}
 use Rattle.calls.proofs.Steps.{row-passed, closeStep, does}
 use Rattle.calls.proofs.Fits.{Fits, formed, kind-is}
 use Rattle.calls.proofs.Turns.{both, row-at-passed, waits-for}
-use Rattle.calls.proofs.Agrees.{tripAt, Agrees, f-zero, g-zero}
+use Rattle.calls.proofs.Agrees.{tripAt, Agrees}
 use Rattle.calls.proofs.Means.{replied, close-meant, message-meant, ends-meant, opening-meant, lent-full, file-meant}
 use Rattle.calls.proofs.Effects.{nothing-written, padded-so, item-so, challenge-so}
 
@@ -82,8 +83,8 @@ module _ (p : ℕ) (large : maxWeight < p) (through : Bool) (its : List Raw) (a 
       record {
         answer = refl;
         values = refl;
-        f = padded-so p its a h (vectorF p T) (f-zero p T) (l .f) (b .0);
-        g = padded-so p its a h (vectorG p T) (g-zero p T) (l .g) (b .1);
+        f = padded-so p its a h (vectorF p T) (padded-zero p (a .start .items) _) (l .f) (b .0);
+        g = padded-so p its a h (vectorG p T) (padded-zero p (a .start .items) _) (l .g) (b .1);
         file = refl;
       }
 

@@ -1,6 +1,6 @@
 -- The tests of what is next, as what they let in.
 use mathlib.Core.Path.{_≡_, refl, sym}
-use mathlib.Core.Bool.{Bool, true, false, _&&_, _||_, true≢false}
+use mathlib.Core.Bool.{Bool, true, false, not, _&&_, _||_, true≢false}
 use mathlib.Core.Option.{Option, none}
 use Prim.Native.Nat.{ℕ}
 use Rattle.prover.specs.declared.Mode.{Mode}
@@ -19,6 +19,10 @@ use Rattle.calls.proofs.Steps.{some-none}
 pub both : (x y : Bool) → (x && y) ≡ true → (x ≡ true) × (y ≡ true)
 both true y e = (refl, e)
 both false y e = absurd (true≢false (sym e))
+
+pub not-so : (b : Bool) → not b ≡ true → b ≡ false
+not-so true e = absurd (true≢false (sym e))
+not-so false e = refl
 
 pub row-at-passed : (b : Bool) (k i : ℕ) (t : Option Refusal) → rowAt b k i t ≡ none → (b ≡ true) × (t ≡ none)
 row-at-passed true k i t e = (refl, e)

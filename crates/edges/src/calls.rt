@@ -1,17 +1,17 @@
 // Calls of a run in small mode, which use no buffer.
 use prover::Step;
 
-pub fn opened(s: Step) -> Step {
+pub(crate) fn opened(s: Step) -> Step {
     let pass = s.pass;
     s.run.open_pass(pass)
 }
 
-pub fn opened_at(s: Step, point: u32) -> Step {
+pub(crate) fn opened_at(s: Step, point: u32) -> Step {
     let pass = s.pass;
     s.run.open_at(pass, point)
 }
 
-pub fn given(s: Step, reading: i16, weight: u16) -> Step {
+pub(crate) fn given(s: Step, reading: i16, weight: u16) -> Step {
     let pass = s.pass;
     let mut f = [0u32; 1];
     let mut g = [0u32; 1];
@@ -19,7 +19,7 @@ pub fn given(s: Step, reading: i16, weight: u16) -> Step {
 }
 
 // The same item again and again.
-pub fn repeated(first: Step, reading: i16, weight: u16, count: u32) -> Step {
+pub(crate) fn repeated(first: Step, reading: i16, weight: u16, count: u32) -> Step {
     let mut s = first;
     let mut left = count;
     while left > 0 {
@@ -29,12 +29,12 @@ pub fn repeated(first: Step, reading: i16, weight: u16, count: u32) -> Step {
     s
 }
 
-pub fn closed(s: Step) -> Step {
+pub(crate) fn closed(s: Step) -> Step {
     let pass = s.pass;
     s.run.close(pass)
 }
 
-pub fn challenged(s: Step, c: u32) -> Step {
+pub(crate) fn challenged(s: Step, c: u32) -> Step {
     let pass = s.pass;
     let mut f = [0u32; 1];
     let mut g = [0u32; 1];

@@ -14,7 +14,7 @@ use prover::Run;
 use prover::Step;
 use verifier::Verifier;
 
-pub fn lines() {
+pub(crate) fn lines() {
     weight(1440);
     weight(1441);
     computed(32767, 0);

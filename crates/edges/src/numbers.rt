@@ -11,7 +11,7 @@ use prover::Answer;
 use prover::Run;
 use prover::Step;
 
-pub fn lines() {
+pub(crate) fn lines() {
     reading(-32768);
     reading(-1);
     half(Field::ONE);

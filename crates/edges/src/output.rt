@@ -1,16 +1,16 @@
 // What a line is made of.
 use libc::STDOUT_FILENO;
 
-pub fn text(bytes: &[u8]) {
+pub(crate) fn text(bytes: &[u8]) {
     io::write_all(STDOUT_FILENO, bytes);
 }
 
-pub fn number(x: u32) {
+pub(crate) fn number(x: u32) {
     text(b" ");
     io::print_decimal(STDOUT_FILENO, x as u64);
 }
 
-pub fn signed(x: i64) {
+pub(crate) fn signed(x: i64) {
     if field::integer::is_negative(x) {
         text(b" -");
     } else {
@@ -19,22 +19,22 @@ pub fn signed(x: i64) {
     io::print_decimal(STDOUT_FILENO, field::integer::magnitude(x));
 }
 
-pub fn three(a: u32, b: u32, c: u32) {
+pub(crate) fn three(a: u32, b: u32, c: u32) {
     number(a);
     number(b);
     number(c);
 }
 
-pub fn taken() {
+pub(crate) fn taken() {
     text(b" taken");
 }
 
-pub fn refused(k: u8) {
+pub(crate) fn refused(k: u8) {
     text(b" refused");
     number(k as u32);
 }
 
 // An answer that no line should have.
-pub fn other() {
+pub(crate) fn other() {
     text(b" other");
 }

@@ -19,7 +19,7 @@ const SECOND: u32 = 3;
 
 const POINT: u32 = 2;
 
-pub fn lines() {
+pub(crate) fn lines() {
     let total = passed(opened(Run::start_plain(3)));
     let first = passed(opened(total));
     message(0, first);

@@ -8,7 +8,7 @@ use prover::Next;
 use prover::Pass;
 use prover::Run;
 
-pub fn buffers(p: Prover, a: u32, f: &[u32], g: &[u32]) {
+pub(crate) fn buffers(p: Prover, a: u32, f: &[u32], g: &[u32]) {
     if a > 4096 {
         print::bad();
         return;
@@ -77,7 +77,7 @@ fn entry(level: u32, value: u32) {
     io::print_decimal(libc::STDOUT_FILENO, value as u64);
 }
 
-pub fn proof(l: Lists, proof: &[u8]) {
+pub(crate) fn proof(l: Lists, proof: &[u8]) {
     let n = within_bytes(l.proof, proof);
     print::text(b"proof");
     print::number(n as u64);

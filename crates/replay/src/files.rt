@@ -11,7 +11,7 @@ use wire::matrix::EntryRead;
 use wire::matrix::MatrixRead;
 use wire::proof::ProofRead;
 
-pub fn call(s: State, op: u32, a: u32, file: &mut [u8]) -> State {
+pub(crate) fn call(s: State, op: u32, a: u32, file: &mut [u8]) -> State {
     if op < 52 {
         return state::with_lists(s, fill(s.lists, op, a, file));
     }

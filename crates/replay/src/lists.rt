@@ -5,7 +5,7 @@ use super::state::Lists;
 use vector::slice::write;
 
 // A count of first places, or of all where that is less.
-pub fn within(n: usize, values: &[u32]) -> usize
+pub(crate) fn within(n: usize, values: &[u32]) -> usize
     ensures { λ r. ⌜ Counts r (now (values .entry)) ⌝ }
 {
     if values.len() < n {
@@ -15,7 +15,7 @@ pub fn within(n: usize, values: &[u32]) -> usize
 }
 
 // The same of bytes.
-pub fn within_bytes(n: usize, bytes: &[u8]) -> usize
+pub(crate) fn within_bytes(n: usize, bytes: &[u8]) -> usize
     ensures { λ r. ⌜ Counts r (now (bytes .entry)) ⌝ }
 {
     if bytes.len() < n {
@@ -25,12 +25,12 @@ pub fn within_bytes(n: usize, bytes: &[u8]) -> usize
 }
 
 // The scratch list's numbers.
-pub fn held(l: Lists, scratch: &[u32]) -> &[u32] {
+pub(crate) fn held(l: Lists, scratch: &[u32]) -> &[u32] {
     let n = within(l.held, scratch);
     &scratch[..n]
 }
 
-pub fn keep(l: Lists, op: u32, a: u32, b: u32, scratch: &mut [u32]) -> Lists {
+pub(crate) fn keep(l: Lists, op: u32, a: u32, b: u32, scratch: &mut [u32]) -> Lists {
     if op == 1 {
         return empty(l);
     }
@@ -88,16 +88,16 @@ fn proof_length(l: Lists, a: u32) -> Lists {
     with_proof(l, a as usize)
 }
 
-pub fn with_proof(l: Lists, proof: usize) -> Lists {
+pub(crate) fn with_proof(l: Lists, proof: usize) -> Lists {
     Lists { proof, ..l }
 }
 
-pub fn with_file(l: Lists, file: usize) -> Lists {
+pub(crate) fn with_file(l: Lists, file: usize) -> Lists {
     Lists { file, ..l }
 }
 
 // Place b of f or g becomes c.
-pub fn place(a: u32, b: u32, c: u32, f: &mut [u32], g: &mut [u32]) {
+pub(crate) fn place(a: u32, b: u32, c: u32, f: &mut [u32], g: &mut [u32]) {
     if a > 1 {
         print::bad();
         return;
@@ -113,7 +113,7 @@ pub fn place(a: u32, b: u32, c: u32, f: &mut [u32], g: &mut [u32]) {
     write(g, b as usize, c);
 }
 
-pub fn proof_byte(a: u32, b: u32, proof: &mut [u8]) {
+pub(crate) fn proof_byte(a: u32, b: u32, proof: &mut [u8]) {
     if a >= 256 {
         print::bad();
         return;
@@ -125,7 +125,7 @@ pub fn proof_byte(a: u32, b: u32, proof: &mut [u8]) {
     set(proof, a as usize, b as u8);
 }
 
-pub fn set(bytes: &mut [u8], at: usize, x: u8) {
+pub(crate) fn set(bytes: &mut [u8], at: usize, x: u8) {
     if at < bytes.len() {
         bytes[at] = x;
     }

@@ -6,21 +6,21 @@ use prover::Step;
 use verifier::Opened;
 use verifier::Verdict;
 
-pub fn text(bytes: &[u8]) {
+pub(crate) fn text(bytes: &[u8]) {
     io::write_all(STDOUT_FILENO, bytes);
 }
 
-pub fn line(bytes: &[u8]) {
+pub(crate) fn line(bytes: &[u8]) {
     text(bytes);
     text(b"\n");
 }
 
-pub fn number(x: u64) {
+pub(crate) fn number(x: u64) {
     text(b" ");
     io::print_decimal(STDOUT_FILENO, x);
 }
 
-pub fn signed(x: i64) {
+pub(crate) fn signed(x: i64) {
     if field::integer::is_negative(x) {
         text(b" -");
     } else {
@@ -29,7 +29,7 @@ pub fn signed(x: i64) {
     io::print_decimal(STDOUT_FILENO, field::integer::magnitude(x));
 }
 
-pub fn hex(bytes: &[u8]) {
+pub(crate) fn hex(bytes: &[u8]) {
     let mut i: usize = 0;
     while i < bytes.len() {
         digits(bytes[i]);
@@ -42,7 +42,7 @@ fn digits(byte: u8) {
 }
 
 // A line of a label and the numbers of a slice.
-pub fn list(label: &[u8], values: &[u32]) {
+pub(crate) fn list(label: &[u8], values: &[u32]) {
     text(label);
     let mut i: usize = 0;
     while i < values.len() {
@@ -53,7 +53,7 @@ pub fn list(label: &[u8], values: &[u32]) {
 }
 
 // The first n numbers of a slice.
-pub fn first(label: &[u8], n: usize, values: &[u32]) {
+pub(crate) fn first(label: &[u8], n: usize, values: &[u32]) {
     let k = within(n, values);
     list(label, &values[..k]);
 }
@@ -62,28 +62,28 @@ fn wide(x: u32) -> u64 {
     x as u64
 }
 
-pub fn bad() {
+pub(crate) fn bad() {
     line(b"tool bad");
 }
 
-pub fn full() {
+pub(crate) fn full() {
     line(b"tool full");
 }
 
-pub fn one(label: &[u8], x: u32) {
+pub(crate) fn one(label: &[u8], x: u32) {
     text(label);
     number(x as u64);
     text(b"\n");
 }
 
-pub fn two(label: &[u8], x: u32, y: u32) {
+pub(crate) fn two(label: &[u8], x: u32, y: u32) {
     text(label);
     number(x as u64);
     number(y as u64);
     text(b"\n");
 }
 
-pub fn three(label: &[u8], x: u32, y: u32, z: u32) {
+pub(crate) fn three(label: &[u8], x: u32, y: u32, z: u32) {
     text(label);
     number(x as u64);
     number(y as u64);
@@ -91,16 +91,16 @@ pub fn three(label: &[u8], x: u32, y: u32, z: u32) {
     text(b"\n");
 }
 
-pub fn refused(k: u8) {
+pub(crate) fn refused(k: u8) {
     one(b"refused", k as u32);
 }
 
-pub fn refused_at(k: u8, i: u32) {
+pub(crate) fn refused_at(k: u8, i: u32) {
     two(b"refused", k as u32, i);
 }
 
 // A prover's answer; an opening's values stand beside it.
-pub fn step(step: Step) {
+pub(crate) fn step(step: Step) {
     let answer = step.answer;
     if let Answer::Opening = answer {
         opening(step);
@@ -157,7 +157,7 @@ fn values_of(rounds: u32) -> usize {
     6 * (rounds as usize)
 }
 
-pub fn judge_answer(answer: verifier::Answer) {
+pub(crate) fn judge_answer(answer: verifier::Answer) {
     match answer {
         verifier::Answer::Started => line(b"started"),
         verifier::Answer::Taken => line(b"taken"),
@@ -169,7 +169,7 @@ pub fn judge_answer(answer: verifier::Answer) {
     }
 }
 
-pub fn verdict(verdict: Verdict) {
+pub(crate) fn verdict(verdict: Verdict) {
     match verdict {
         Verdict::Yes => line(b"yes"),
         Verdict::No(round) => one(b"no", round),
@@ -177,7 +177,7 @@ pub fn verdict(verdict: Verdict) {
     }
 }
 
-pub fn opened(opened: Opened) {
+pub(crate) fn opened(opened: Opened) {
     match opened {
         Opened::Yes => line(b"yes"),
         Opened::NoF(j) => one(b"no f", j),

@@ -14,7 +14,7 @@ use prover::Pass;
 use prover::Run;
 use prover::Step;
 
-pub fn call(
+pub(crate) fn call(
     s: State,
     op: u32,
     a: u32,

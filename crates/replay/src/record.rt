@@ -12,7 +12,7 @@ pub enum Record {
     End,
 }
 
-pub fn next() -> Record {
+pub(crate) fn next() -> Record {
     let mut bytes = [0u8; 16];
     let size = io::read_full(STDIN_FILENO, &mut bytes);
     if size < 16 {

@@ -7,7 +7,7 @@ use super::state::State;
 use r1cs::Claimed;
 use r1cs::Multiplied;
 
-pub fn call(s: State, op: u32, a: u32, b: u32, f: &mut [u32], scratch: &[u32], file: &[u8]) {
+pub(crate) fn call(s: State, op: u32, a: u32, b: u32, f: &mut [u32], scratch: &[u32], file: &[u8]) {
     let z = held(s.lists, scratch);
     if op == 58 {
         let n = within(s.lists.flent, f);

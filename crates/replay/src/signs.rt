@@ -3,7 +3,7 @@ ghost use mathlib.Core.Path.{_≡_};
 ghost use Prim.Native.Nat.{_+_, _*_, _<_};
 ghost use Rattle.wire.specs.Number.{signed};
 
-pub fn signed16(v: u32) -> i16
+pub(crate) fn signed16(v: u32) -> i16
     requires { ⌜ v < 65536 ⌝ }
     ensures { λ r. ⌜ r ≡ signed 2 v ⌝ }
 {
@@ -14,7 +14,7 @@ pub fn signed16(v: u32) -> i16
     }
 }
 
-pub fn signed64(low: u32, high: u32) -> i64
+pub(crate) fn signed64(low: u32, high: u32) -> i64
     ensures { λ r. ⌜ r ≡ signed 8 (high * 4294967296 + low) ⌝ }
 {
     let bits = (high as u64) * 4294967296 + (low as u64);

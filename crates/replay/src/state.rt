@@ -31,7 +31,7 @@ pub struct State {
     pub judge: Judge,
 }
 
-pub fn fresh() -> State {
+pub(crate) fn fresh() -> State {
     State {
         lists: no_lists(),
         prover: no_prover(),
@@ -70,14 +70,14 @@ fn no_judge() -> Judge {
     }
 }
 
-pub fn with_lists(s: State, lists: Lists) -> State {
+pub(crate) fn with_lists(s: State, lists: Lists) -> State {
     State { lists, ..s }
 }
 
-pub fn with_prover(s: State, prover: Prover) -> State {
+pub(crate) fn with_prover(s: State, prover: Prover) -> State {
     State { prover, ..s }
 }
 
-pub fn with_judge(s: State, judge: Judge) -> State {
+pub(crate) fn with_judge(s: State, judge: Judge) -> State {
     State { judge, ..s }
 }

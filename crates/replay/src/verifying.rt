@@ -11,7 +11,15 @@ use verifier::Answer;
 use verifier::Step;
 use verifier::Verifier;
 
-pub fn call(s: State, op: u32, a: u32, b: u32, c: u32, scratch: &[u32], proof: &[u8]) -> State {
+pub(crate) fn call(
+    s: State,
+    op: u32,
+    a: u32,
+    b: u32,
+    c: u32,
+    scratch: &[u32],
+    proof: &[u8],
+) -> State {
     if op < 33 {
         return state::with_judge(s, start(s.judge, op, a, b, held(s.lists, scratch)));
     }

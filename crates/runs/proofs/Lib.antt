@@ -1,10 +1,9 @@
-pub mod RunBounds
+pub mod RunFacts
 pub mod PassRecord
 pub mod PassKernel
 pub mod PassTotal
 pub mod PassFormed
 pub mod PassTrip
-pub mod RunFacts
 pub mod CloseLaws
 pub mod LevelReached
 pub mod Places

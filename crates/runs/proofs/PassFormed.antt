@@ -23,7 +23,7 @@ use Rattle.prover.specs.Open.{newPass, noPoints, pointsOf, paddedKernel}
 use Rattle.runs.specs.Trip.{Raw, partsIn}
 use Rattle.runs.specs.Passes.{passAfter}
 use Rattle.runs.specs.Items.{AllWithin}
-use Rattle.runs.proofs.RunBounds.{bounds}
+use Rattle.runs.proofs.RunFacts.{bounds}
 use Rattle.runs.proofs.PassRecord.{takes-still, after-kind, after-taken}
 use Rattle.runs.proofs.PassKernel.{after-counts, after-room}
 use Rattle.runs.proofs.PassTotal.{after-bound}

@@ -25,7 +25,7 @@ use Rattle.prover.specs.Take.{entering, enteredItem}
 use Rattle.runs.specs.Trip.{Raw, partsIn}
 use Rattle.runs.specs.Passes.{openedPass, passAfter}
 use Rattle.runs.specs.Items.{pairsOf}
-use Rattle.runs.proofs.RunBounds.{Bounds, bounds}
+use Rattle.runs.proofs.RunFacts.{Bounds, bounds}
 use Rattle.runs.proofs.PassRecord.{takes-kernel, after-kind, after-points, after-entering}
 
 pub pairs-length : (p : ℕ) (r : Run) (xs : List Raw) → length (pairsOf p r xs) ≡ length xs

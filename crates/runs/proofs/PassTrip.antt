@@ -25,7 +25,7 @@ use Rattle.prover.specs.WellFormed.{runFormed}
 use Rattle.runs.specs.Trip.{Raw, numbers, partsIn, Trip, itemOf, entersAs, vectorF, vectorG, sumOf, totalOf}
 use Rattle.runs.specs.Passes.{startOf, openedPass, passAfter, Gives}
 use Rattle.runs.specs.Items.{pairsOf, AllWithin, ownTrip}
-use Rattle.runs.proofs.RunBounds.{Bounds, bounds}
+use Rattle.runs.proofs.RunFacts.{Bounds, bounds}
 use Rattle.runs.proofs.PassRecord.{takes-dot, opened-new, after-points, after-entering}
 use Rattle.runs.proofs.PassKernel.{pairs-length, after-kernel}
 use Rattle.runs.proofs.PassTotal.{after-total}

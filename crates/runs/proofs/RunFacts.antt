@@ -25,11 +25,14 @@ change-level n i Challenge = refl
 change-level n i Ends = refl
 change-level n i Openings = refl
 
+pub shut-formed : (p : ℕ) (r : Run) → runFormed p r ≡ true → wellFormed p r shutPass ≡ true
+unfolding wellFormed passFormed
+shut-formed p r h = rw (h, le-ltb (r .items) 0 (omega arith))
+
 module _ (p : ℕ) (r : Run) (ok : runFormed p r ≡ true) where
   -- its facts, with no pass open
   pub run-facts : Formed r shutPass
-  unfolding wellFormed passFormed
-  run-facts = formed p r shutPass (rw (ok, le-ltb (r .items) 0 (omega arith)) refl)
+  run-facts = formed p r shutPass (shut-formed p r ok)
 
   pub run-level : (k : Kind) → levelOf r k ≤ r .rounds
   run-level k = level-at-most (r .rounds) (r .round) (r .next) k (run-facts .round)
@@ -42,3 +45,17 @@ module _ (p : ℕ) (r : Run) (ok : runFormed p r ≡ true) where
 
   pub run-fold : foldSize r ≡ size (r .rounds) (levelOf r Change)
   run-fold = size-32 (r .rounds) (levelOf r Shut) (run-facts .few) ∙ ap (size (r .rounds)) (change-level (r .rounds) (r .round) (r .next))
+
+-- the same as one record
+pub record Bounds (r : Run) : Type 0 where
+  pub some : 1 ≤ r .items
+  pub most : r .items ≤ 32768
+  pub few : r .rounds ≤ 15
+  pub enough : r .items ≤ 2 ^ r .rounds
+  pub level : (k : Kind) → levelOf r k ≤ r .rounds
+  pub padding : padding r ≡ 2 ^ r .rounds - r .items
+
+pub bounds : (p : ℕ) (r : Run) → runFormed p r ≡ true → Bounds r
+bounds p r ok =
+    let f = run-facts p r ok in
+    record { some = f .some; most = f .most; few = f .few; enough = run-items p r ok; level = run-level p r ok; padding = run-padding p r ok }

@@ -15,7 +15,7 @@ enum Number {
     Nothing,
 }
 
-pub fn read() -> Plan {
+pub(crate) fn read() -> Plan {
     let count = os::arg_count();
     let mut word = io::buffer();
     let size = os::arg(1, &mut word);

@@ -22,7 +22,7 @@ pub enum Input {
 }
 
 // The first bytes of the file, as many as fit; none where it cannot be opened.
-pub fn read_file(path: &[u8], bytes: &mut [u8]) -> usize
+pub(crate) fn read_file(path: &[u8], bytes: &mut [u8]) -> usize
     ensures { λ r. ⌜ Counts r (now (bytes .exit)) ⌝ }
 {
     let file = os::open_read(path);
@@ -34,7 +34,7 @@ pub fn read_file(path: &[u8], bytes: &mut [u8]) -> usize
     size
 }
 
-pub fn check(log: &[u8], numbers: &[u8]) -> Input
+pub(crate) fn check(log: &[u8], numbers: &[u8]) -> Input
     ensures { λ r. ⌜ inputOf r ≡ readTrip (readLimited (now (log .entry))) (now (numbers .entry)) ⌝ }
 {
     match read_log(log) {
@@ -107,7 +107,7 @@ fn all_nonzero(numbers: &[u8], count: usize) -> bool
 }
 
 // Number k of trip.rvc; zero past its end.
-pub fn number(numbers: &[u8], k: u32) -> u32
+pub(crate) fn number(numbers: &[u8], k: u32) -> u32
     ensures { λ r. ⌜ r ≡ cond (ltb (length (now (numbers .entry))) (4 * k + 4)) 0 (numberAt (now (numbers .entry)) k) ⌝ }
 {
     let at = 4 * (k as usize);

@@ -5,26 +5,26 @@ use libc::STDERR_FILENO;
 use libc::STDOUT_FILENO;
 use prover::Step;
 
-pub fn usage() {
+pub(crate) fn usage() {
     io::write_all(STDERR_FILENO, b"usage: trip [full | change K]\n");
 }
 
-pub fn refused(k: u8) {
+pub(crate) fn refused(k: u8) {
     text(b"refused");
     number(k as u32);
     text(b"\n");
 }
 
-pub fn accepted() {
+pub(crate) fn accepted() {
     text(b"accepted\n");
 }
 
-pub fn rejected() {
+pub(crate) fn rejected() {
     text(b"rejected\n");
 }
 
 // A run that gave its ends, and the values of its opening.
-pub fn report(step: Step) {
+pub(crate) fn report(step: Step) {
     let run = step.run;
     let messages = run.messages;
     let values = step.values;

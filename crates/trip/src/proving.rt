@@ -17,7 +17,7 @@ use vector::slice::write;
 use wire::log::ItemRead;
 
 // Answers as the last call of the run does: the opening, or the ends where n is 0; or as the close of a total that is refused.
-pub fn prove(
+pub(crate) fn prove(
     items: u32,
     log: &[u8],
     numbers: &[u8],

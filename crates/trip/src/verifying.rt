@@ -8,7 +8,7 @@ use verifier::Verdict;
 use verifier::Verifier;
 use wire::log::ItemRead;
 
-pub fn verify(run: Run, log: &[u8], numbers: &[u8]) -> Verdict {
+pub(crate) fn verify(run: Run, log: &[u8], numbers: &[u8]) -> Verdict {
     let v = start(run.items, run.rounds, numbers);
     let taken = take_items(v, log);
     let closed = taken.close(run.total).verifier;
@@ -22,7 +22,7 @@ fn start(items: u32, rounds: u32, numbers: &[u8]) -> Verifier {
 }
 
 // A run has at most fifteen rounds.
-pub fn count(rounds: u32) -> usize
+pub(crate) fn count(rounds: u32) -> usize
     ensures { λ r. ⌜ r ≤ 15 ⌝ }
 {
     if 15 < rounds {
