@@ -75,8 +75,8 @@ module _ (r : ℤ) (w : ℕ) (fr : SFits w16 r) (fw : Fits w16 w) where
   pub product-fits : SFits w64 (r *ℤ pos w)
   product-fits = small-fits _ (omega (arith, product-abs))
 
-  pub sum-fits : (t : ℤ) → natAbs t ≤ 2 ^ 62 → SFits w64 (t +ℤ r *ℤ pos w)
-  sum-fits t h = small-fits _ (omega (arith, product-abs, natAbs-add t (r *ℤ pos w)))
+pub sum-fits : (t z : ℤ) → natAbs t ≤ 2 ^ 62 → natAbs z ≤ 2 ^ 61 → SFits w64 (t +ℤ z)
+sum-fits t z h k = small-fits _ (omega (arith, natAbs-add t z))
 
 -- the two tests of a limit m
 pub over-limit : (m : ℕ) (z : ℤ) → ltZ (pos m) z ≡ true → leb (natAbs z) m ≡ false

@@ -13,7 +13,7 @@ use Rattle.algebra.specs.Mod.{base, residue, addMod, negMod, mulMod}
 use Rattle.algebra.proofs.Congruence.{residue-small, residue-zero}
 use Rattle.refusal.specs.Limit.{maxItems, maxWeight}
 use Rattle.field.specs.Integer.{image}
-use Rattle.field.specs.Total.{Item, product, plainTotal, plusItem, limit, inLimits}
+use Rattle.field.specs.Total.{Item, product, plainTotal, plus, limit, inLimits}
 use Rattle.field.proofs.Integers.{image-step, neg-small}
 use Rattle.field.proofs.Signed.{natAbs-add, natAbs-mul}
 
@@ -36,21 +36,21 @@ total-bound (more {i = i} {is = is} g gs) =
     omega (arith, total-bound gs, product-bound i g, natAbs-add (plainTotal is) (product i))
 
 -- one more item, within the bound, is added exactly
-pub plus-exact : (t r : ℤ) (w : ℕ) → natAbs t ≤ 2 ^ 62 → plusItem t r w ≡ t +ℤ r *ℤ pos w
-unfolding plusItem
-plus-exact t r w h = ap (λ b. cond b (t +ℤ r *ℤ pos w) t) (le-leb (natAbs t) (2 ^ 62) h)
+pub plus-exact : (t z : ℤ) → natAbs t ≤ 2 ^ 62 → natAbs z ≤ 2 ^ 61 → plus t z ≡ t +ℤ z
+unfolding plus
+plus-exact t z h k = rw (le-leb (natAbs t) (2 ^ 62) h, le-leb (natAbs z) (2 ^ 61) k)
 
--- the sum that a loop of `plusItem` keeps
+-- the sum that a loop of `plus` keeps
 unfoldable pub summed : List Item → ℤ
 summed [] = pos 0
-summed (i ∷ is) = plusItem (summed is) (i .reading) (i .weight)
+summed (i ∷ is) = plus (summed is) (product i)
 
 pub summed-exact : {is : List Item} → AllGood is → length is ≤ maxItems → summed is ≡ plainTotal is
 unfolding summed plainTotal
 summed-exact none h = refl
 summed-exact (more {i = i} {is = is} g gs) h =
-    ap (λ t. plusItem t (i .reading) (i .weight)) (summed-exact gs (omega arith))
-    ∙ plus-exact (plainTotal is) (i .reading) (i .weight) (omega (arith, total-bound gs))
+    ap (λ t. plus t (product i)) (summed-exact gs (omega arith))
+    ∙ plus-exact (plainTotal is) (product i) (omega (arith, total-bound gs)) (omega (arith, product-bound i g))
 
 -- the same sum, modulo p
 unfoldable pub totalMod : ℕ → List Item → ℕ

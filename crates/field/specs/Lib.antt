@@ -1,4 +1,5 @@
 pub mod Integer
 pub mod Total
 pub mod Number
+pub mod Modulus
 pub mod Examples

@@ -12,6 +12,13 @@ pub fn widen(x: i16) -> i64
     x as i64
 }
 
+// A reading times its weight.
+pub fn product(reading: i16, weight: u16) -> i64
+    ensures { λ r. ⌜ r ≡ reading *ℤ pos weight ⌝ }
+{
+    widen(reading) * (weight as i64)
+}
+
 pub fn is_negative(x: i64) -> bool
     ensures { λ r. ⌜ r ≡ ltZ x (pos 0) ⌝ }
 {

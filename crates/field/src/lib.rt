@@ -2,8 +2,9 @@
 ghost use mathlib.Core.Path.{_≡_};
 ghost use lib.IntN.{pos};
 ghost use Rattle.algebra.specs.Mod.{addMod, subMod, negMod, mulMod, halfMod, inverseMod};
-ghost use Rattle.field.specs.Integer.{bySign};
-ghost use Rattle.field.specs.Number.{checked};
+ghost use Rattle.field.specs.Integer.{image, bySign};
+ghost use Rattle.field.specs.Modulus.{modulus};
+ghost use Rattle.field.specs.Number.{checked, checkedNonzero};
 
 pub mod integer;
 pub mod modular;
@@ -28,11 +29,28 @@ impl Field {
     pub fn new(x: u32) -> Checked
         ensures { λ r. ⌜ r ≡ checked 2147483647 x ⌝ }
     {
-        if x < Field::MODULUS {
+        Field::new_in(Field::MODULUS, x)
+    }
+
+    // A number handed in to a call whose modulus is p.
+    pub fn new_in(p: u32, x: u32) -> Checked
+        ensures { λ r. ⌜ r ≡ checked p x ⌝ }
+    {
+        if x < p {
             Checked::Number(Field { value: x })
         } else {
             Checked::Unreduced
         }
+    }
+
+    // A challenge, a twist, v or a point: from 1 to p - 1.
+    pub fn nonzero_in(p: u32, x: u32) -> Checked
+        ensures { λ r. ⌜ r ≡ checkedNonzero p x ⌝ }
+    {
+        if x == 0 {
+            return Checked::Unreduced;
+        }
+        Field::new_in(p, x)
     }
 
     pub fn to_u32(self) -> u32
@@ -45,8 +63,14 @@ impl Field {
     pub fn from_reading(r: i16) -> Field
         ensures { λ x. ⌜ pos (x .value) ≡ bySign 2147483647 r ⌝ }
     {
+        Field::from_reading_in(Field::MODULUS, r)
+    }
+
+    pub fn from_reading_in(p: u32, r: i16) -> Field
+        ensures { λ x. ⌜ x .value ≡ image p r ⌝ }
+    {
         Field {
-            value: integer::image(Field::MODULUS, integer::widen(r)),
+            value: integer::image(p, integer::widen(r)),
         }
     }
 
@@ -97,4 +121,11 @@ impl Field {
             value: modular::invert(Field::MODULUS, self.value),
         }
     }
+}
+
+// The modulus of every call.
+pub fn modulus() -> u32
+    ensures { λ r. ⌜ r ≡ modulus ⌝ }
+{
+    Field::MODULUS
 }

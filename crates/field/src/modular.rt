@@ -1,21 +1,38 @@
 // Arithmetic modulo p, total for every p: a modulus of 0 is read as 1. Arguments need not be reduced; results are.
 ghost use mathlib.Core.Path.{_≡_};
 ghost use Rattle.algebra.specs.Mod.{residue, addMod, subMod, negMod, mulMod, halfMod, inverseMod};
-ghost use Rattle.field.specs.Number.{isReduced};
+ghost use Prim.Native.Nat.{_<_};
 
-pub fn is_reduced(p: u32, x: u32) -> bool
-    ensures { λ r. ⌜ r ≡ isReduced p x ⌝ }
+// 2^31 is 1 modulo 2^31 - 1.
+fn mersenne(x: u64) -> u32
+    ensures { λ r. ⌜ r ≡ residue 2147483647 x ⌝ }
 {
-    x < p
+    let y = x % 2147483648 + x / 2147483648;
+    let z = y % 2147483648 + y / 2147483648;
+    if z < 2147483647 {
+        return z as u32;
+    }
+    (z - 2147483647) as u32
+}
+
+// In two steps, so that the compiler does not make one hardware division of this and the known modulus.
+fn other(p: u32, x: u64) -> u32
+    requires { ⌜ 0 < p ⌝ }
+    ensures { λ r. ⌜ r ≡ residue p x ⌝ }
+{
+    let m = p as u64;
+    let half = x / 2 % m;
+    ((half * 2 + x % 2) % m) as u32
 }
 
 pub fn reduce(p: u32, x: u64) -> u32
     ensures { λ r. ⌜ r ≡ residue p x ⌝ }
 {
-    if p == 0 {
-        return 0;
+    match p {
+        2147483647 => mersenne(x),
+        0 => 0,
+        _ => other(p, x),
     }
-    (x % (p as u64)) as u32
 }
 
 pub fn add(p: u32, a: u32, b: u32) -> u32

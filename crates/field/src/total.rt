@@ -1,7 +1,7 @@
 // The plain total in an i64, tested against both of its limits.
 ghost use mathlib.Core.Path.{_≡_};
 ghost use lib.IntN.{pos};
-ghost use Rattle.field.specs.Total.{limit, inLimits, plusItem};
+ghost use Rattle.field.specs.Total.{limit, inLimits, plus};
 use super::integer;
 
 // The largest total; its negative is the least.
@@ -28,12 +28,15 @@ pub fn within(p: u32, total: i64) -> bool
     true
 }
 
-// The total with one more item.
-pub fn plus_item(total: i64, reading: i16, weight: u16) -> i64
-    ensures { λ r. ⌜ r ≡ plusItem total reading weight ⌝ }
+// The total with the worth of one more item.
+pub fn plus(total: i64, worth: i64) -> i64
+    ensures { λ r. ⌜ r ≡ plus total worth ⌝ }
 {
     if 4611686018427387904 < integer::magnitude(total) {
         return total;
     }
-    total + integer::widen(reading) * (weight as i64)
+    if 2305843009213693952 < integer::magnitude(worth) {
+        return total;
+    }
+    total + worth
 }

@@ -1,3 +1,4 @@
 pub mod Number
 pub mod Limit
 pub mod Outcome
+pub mod Check

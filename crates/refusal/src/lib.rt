@@ -2,6 +2,7 @@
 ghost use mathlib.Core.Path.{_≡_};
 ghost use Rattle.refusal.specs.Number as number;
 ghost use Rattle.refusal.specs.Limit as limit;
+ghost use Rattle.refusal.specs.Check.{passed};
 
 pub const HEADER: u8 = 1;
 
@@ -72,4 +73,19 @@ pub fn limits() -> [u32; 4]
     ensures { λ r. ⌜ r ≡ limit.limits ⌝ }
 {
     [MAX_ITEMS, MAX_ROUNDS, MAX_WEIGHT, MAX_TOTAL]
+}
+
+// The answer of one check, taken by `let else`.
+pub enum Check {
+    Passed,
+    Failed,
+}
+
+pub fn pass_if(ok: bool) -> Check
+    ensures { λ r. ⌜ passed r ≡ ok ⌝ }
+{
+    if ok {
+        return Check::Passed;
+    }
+    Check::Failed
 }

@@ -10,7 +10,7 @@ use Rattle.vector.specs.Vector.{Vector, at, dot, weight}
 use Rattle.vector.specs.Fold.{combine, fold, foldWith}
 use Rattle.vector.specs.Message.{messageOf}
 use Rattle.vector.specs.Opening.{evaluate}
-use Rattle.vector.specs.Slice.{foldSlice, messageSlice, dotSlice, evaluateSlice, fifteen}
+use Rattle.vector.specs.Slice.{foldSlice, messageSlice, evaluateSlice, fifteen}
 use Rattle.vector.proofs.Sums.{sum-same}
 use Rattle.vector.proofs.Messages.{message-same}
 use Rattle.vector.proofs.Horner.{evaluate-same}
@@ -42,12 +42,6 @@ module _ (p : ℕ) (fs gs : List ℕ) (f g : Vector) where
   unfolding messageSlice
   message-holds h l m =
       rw (both-have (2 * h) (length fs) (length gs) (l .long) (m .long)) (message-same p h (at fs) f (at gs) g (l .same) (m .same))
-
-  pub dot-holds : (n : ℕ) → Holds fs n f → Holds gs n g → dotSlice p n fs gs ≡ dot p n f g
-  unfolding dotSlice
-  dot-holds n l m =
-      rw (both-have n (length fs) (length gs) (l .long) (m .long))
-      (ap (residue p) (sum-same n (λ i. at fs i * at gs i) (λ i. f i * g i) (λ k h. ap₂ _*_ (l .same k h) (m .same k h))))
 
 pub evaluate-holds : (p n : ℕ) (xs : List ℕ) (v : Vector) (x : ℕ) → Holds xs n v → evaluateSlice p n xs x ≡ evaluate p n v x
 unfolding evaluateSlice

@@ -6,7 +6,6 @@ pub mod Opening
 pub mod Stack
 pub mod Kernel
 pub mod KernelView
-pub mod Item
 pub mod Power
 pub mod Slice
 pub mod Twist

@@ -3,10 +3,11 @@
 use Prim.Native.Nat.{ℕ, zero, suc, _*_}
 use mathlib.Core.Bool.{Bool, true, cond, _&&_}
 use mathlib.Core.List.{List}
-use lib.Dec.{leb, ltb}
+use lib.Dec.{leb}
 use lib.ListN.{length, set, replicate}
 use Rattle.field.specs.Number.{isReduced}
-use Rattle.vector.specs.Vector.{Vector, at, dot}
+pub use Rattle.field.specs.Number.{isNonzero}
+use Rattle.vector.specs.Vector.{Vector, at}
 use Rattle.vector.specs.Fold.{combine, foldOnceWith}
 use Rattle.vector.specs.Message.{Message, messageOf}
 use Rattle.vector.specs.Opening.{evaluate}
@@ -33,10 +34,6 @@ unfoldable pub messageSlice : ℕ → ℕ → List ℕ → List ℕ → Message
 messageSlice p h fs gs =
     cond (bothHave (2 * h) fs gs) (messageOf p h (at fs) (at gs)) (record { even = 0; cross = 0; odd = 0 })
 
--- the scalar product of the first n places; zero where a slice is shorter
-unfoldable pub dotSlice : ℕ → ℕ → List ℕ → List ℕ → ℕ
-dotSlice p n fs gs = cond (bothHave n fs gs) (dot p n (at fs) (at gs)) 0
-
 -- the first n places as a polynomial at x; zero where the slice is shorter
 unfoldable pub evaluateSlice : ℕ → ℕ → List ℕ → ℕ → ℕ
 evaluateSlice p n xs x = cond (leb n (length xs)) (evaluate p n (at xs) x) 0
@@ -49,10 +46,6 @@ every (suc m) test = every m test && test m
 -- the first m places are below p; a place that the slice lacks counts as 0
 abbrev pub allReduced : ℕ → ℕ → List ℕ → Bool
 allReduced p m xs = every m (λ k. isReduced p (at xs k))
-
--- "1 to P-1", of challenges, twists and points
-abbrev pub isNonzero : ℕ → ℕ → Bool
-isNonzero p x = ltb 0 x && isReduced p x
 
 -- the first m places are from 1 to p - 1; a place that the slice lacks counts as 0
 abbrev pub allNonzero : ℕ → ℕ → List ℕ → Bool

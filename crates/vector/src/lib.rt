@@ -1,6 +1,5 @@
 // Folds, messages, evaluations and weights of vectors of numbers modulo p, in slices that the caller lends, and the kernel of a small
 // pass.
-pub mod item;
 pub mod kernel;
 pub mod sizes;
 pub mod slice;

@@ -1,7 +1,7 @@
 // The first places of a slice as a vector of numbers modulo p.
 ghost use mathlib.Core.Path.{_≡_};
 ghost use lib.ListN.{set};
-ghost use Rattle.vector.specs.Slice.{foldSlice, messageIn, messageSlice, dotSlice, evaluateSlice, allReduced, isNonzero, allNonzero, fifteen};
+ghost use Rattle.vector.specs.Slice.{foldSlice, messageIn, messageSlice, evaluateSlice, allReduced, allNonzero, fifteen};
 use super::Message;
 
 // In place: the first `half` places become the fold of the first 2 `half`.
@@ -47,24 +47,6 @@ pub fn message(p: u32, f: &[u32], g: &[u32], half: usize) -> Message
     Message { even, cross, odd }
 }
 
-pub fn dot(p: u32, f: &[u32], g: &[u32], n: usize) -> u32
-    ensures { λ r. ⌜ r ≡ dotSlice p n (now (f .entry)) (now (g .entry)) ⌝ }
-{
-    if f.len() < n {
-        return 0;
-    }
-    if g.len() < n {
-        return 0;
-    }
-    let mut total: u32 = 0;
-    let mut i: usize = 0;
-    while i < n {
-        total = field::modular::add_mul(p, total, f[i], g[i]);
-        i += 1;
-    }
-    total
-}
-
 // By Horner's rule, from the last item.
 pub fn evaluate(p: u32, v: &[u32], n: usize, x: u32) -> u32
     ensures { λ r. ⌜ r ≡ evaluateSlice p n (now (v .entry)) x ⌝ }
@@ -95,16 +77,6 @@ pub fn all_reduced(p: u32, v: &[u32], m: usize) -> bool
         i += 1;
     }
     true
-}
-
-// A challenge, a twist or a point: from 1 to p - 1.
-pub fn is_nonzero(p: u32, x: u32) -> bool
-    ensures { λ r. ⌜ r ≡ isNonzero p x ⌝ }
-{
-    if x == 0 {
-        return false;
-    }
-    x < p
 }
 
 pub fn all_nonzero(p: u32, v: &[u32], m: usize) -> bool

@@ -1,27 +1,26 @@
-use Prim.Native.Nat.{_<_, _%_}
 use mathlib.Core.Path.{_≡_, sym, ap, _∙_}
-use native.Mathlib.Nat.{mod-lt, pos-of-ne-zero}
-use native.Mathlib.Omega.{arith}
-use Rattle.algebra.proofs.Congruence.{residue-of}
+use borrow.Author.Needs.{needs}
 use Rattle.algebra.specs.Mod.{residue}
 use Rattle.field.proofs.Reduction.{residue-none}
-use borrow.Author.Needs.{needs}
 use Rattle.field.proofs.modular.reduce.Statement.{statement}
 use Rattle.field.proofs.modular.reduce.Tie as tie
 
+mersenne-requires : tie.Need-mersenne-requires
+mersenne-requires c κs = search needs
+
+other-requires : tie.Need-other-requires
+other-requires c κs = search needs
+
 returns : tie.Need-returns
-returns c = sym (ap (λ q. residue q (c .before .args .x)) (c .if1 .taken) ∙ residue-none (c .before .args .x))
-
-rem-result : tie.Need-rem-result
-rem-result c = search needs
-
-cast-result : tie.Need-cast-result
-cast-result c =
-    let pos : 0 < c .before .args .p = omega (arith, pos-of-ne-zero (c .if1 .left)) in
-    record { fits = omega (arith, mod-lt (c .before .args .x) pos) }
+returns c = c .mersenne .ensures ∙ sym (ap (λ q. residue q (c .before .before .args .x)) (c .before .match .keys1))
 
 returns-2 : tie.Need-returns-2
-returns-2 c = sym (residue-of _ (pos-of-ne-zero (c .if1 .left)) _)
+returns-2 c = sym (ap (λ q. residue q (c .before .args .x)) (c .match .keys2) ∙ residue-none (c .before .args .x))
+
+returns-3 : tie.Need-returns-3
+returns-3 c = search needs
 
 pub reduce-spec : {M : Type 1} → statement M
-reduce-spec = tie.close (tie.spec returns rem-result cast-result returns-2)
+reduce-spec =
+    tie.close
+    (tie.spec mersenne-requires other-requires returns returns-2 returns-3)
