@@ -25,8 +25,8 @@ refuse-requires c κs = search needs
 returns : tie.Need-returns
 unfolding challengeCall
 returns c =
-    let s = c .before .before .before .before .before .before .args in
-    rw (c .refuse .ensures) (sym (number-turn 2147483647 (s .self) (s .pass) (now (s .f)) (now (s .g)) (challengeTurn 2147483647 (s .self) (s .pass)) (isNonzero 2147483647 (s .c)) (challenged 2147483647 (s .self) (s .pass) (s .c) (now (s .f)) (now (s .g)) (s .self .mode)) (sym (c .before .before .before .challenge-next .ensures) ∙ ap passed (c .before .enum-told2 .given .1))))
+    let s = c@args in
+    rw (c@refuse .ensures) (sym (number-turn 2147483647 (s .self) (s .pass) (now (s .f)) (now (s .g)) (challengeTurn 2147483647 (s .self) (s .pass)) (isNonzero 2147483647 (s .c)) (challenged 2147483647 (s .self) (s .pass) (s .c) (now (s .f)) (now (s .g)) (s .self .mode)) (sym (c@challenge-next .ensures) ∙ ap passed (c@enum-told2 .given .1))))
 
 number-ok-requires : tie.Need-number-ok-requires
 number-ok-requires c κs = search needs
@@ -43,22 +43,22 @@ refuse-requires-2 c κs = search needs
 returns-2 : tie.Need-returns-2
 unfolding challengeCall
 returns-2 c =
-    let s = c .before .before .before .before .before .before .before .before .before .args in
-    rw (c .refuse2 .ensures) (sym (number-bad 2147483647 (s .self) (s .pass) (now (s .f)) (now (s .g)) (challengeTurn 2147483647 (s .self) (s .pass)) (isNonzero 2147483647 (s .c)) (challenged 2147483647 (s .self) (s .pass) (s .c) (now (s .f)) (now (s .g)) (s .self .mode)) (sym (c .before .before .before .before .before .before .challenge-next .ensures) ∙ ap passed (c .before .before .before .before .enum-told .given .1)) (sym (c .before .before .before .number-ok .ensures) ∙ ap passed (c .before .enum-told4 .given .1))))
+    let s = c@args in
+    rw (c@refuse2 .ensures) (sym (number-bad 2147483647 (s .self) (s .pass) (now (s .f)) (now (s .g)) (challengeTurn 2147483647 (s .self) (s .pass)) (isNonzero 2147483647 (s .c)) (challenged 2147483647 (s .self) (s .pass) (s .c) (now (s .f)) (now (s .g)) (s .self .mode)) (sym (c@challenge-next .ensures) ∙ ap passed (c@enum-told .given .1)) (sym (c@number-ok .ensures) ∙ ap passed (c@enum-told4 .given .1))))
 
 is-small-requires : tie.Need-is-small-requires
 is-small-requires c κs = search needs
 
 challenge-small-requires : tie.Need-challenge-small-requires
 challenge-small-requires c κs =
-    let s = c .before .before .before .before .before .before .before .before .before .before .args in
-    challenge-round 2147483647 (s .self) (s .pass) (sym (c .before .before .before .before .before .before .before .challenge-next .ensures) ∙ ap passed (c .before .before .before .before .before .enum-told .given .1)) .few
+    let s = c@args in
+    challenge-round 2147483647 (s .self) (s .pass) (sym (c@challenge-next .ensures) ∙ ap passed (c@enum-told .given .1)) .few
 
 returns-3 : tie.Need-returns-3
 unfolding challengeCall
 returns-3 c =
-    let s = c .before .before .before .before .before .before .before .before .before .before .before .args in
-    rw (c .challenge-small .ensures) (sym (number-good 2147483647 (s .self) (s .pass) (now (s .f)) (now (s .g)) (challengeTurn 2147483647 (s .self) (s .pass)) (isNonzero 2147483647 (s .c)) (challenged 2147483647 (s .self) (s .pass) (s .c) (now (s .f)) (now (s .g)) (s .self .mode)) (sym (c .before .before .before .before .before .before .before .before .challenge-next .ensures) ∙ ap passed (c .before .before .before .before .before .before .enum-told .given .1)) (sym (c .before .before .before .before .before .number-ok .ensures) ∙ ap passed (c .before .before .before .enum-told3 .given .1)) ∙ ap (leaves (s .self) (s .pass) (now (s .f)) (now (s .g))) (mode-small 2147483647 (s .self) (s .pass) (now (s .f)) (now (s .g)) (s .c) (s .self .mode) (sym (c .before .before .is-small .ensures) ∙ c .before .if1 .taken))))
+    let s = c@args in
+    rw (c@challenge-small .ensures) (sym (number-good 2147483647 (s .self) (s .pass) (now (s .f)) (now (s .g)) (challengeTurn 2147483647 (s .self) (s .pass)) (isNonzero 2147483647 (s .c)) (challenged 2147483647 (s .self) (s .pass) (s .c) (now (s .f)) (now (s .g)) (s .self .mode)) (sym (c@challenge-next .ensures) ∙ ap passed (c@enum-told .given .1)) (sym (c@number-ok .ensures) ∙ ap passed (c@enum-told3 .given .1)) ∙ ap (leaves (s .self) (s .pass) (now (s .f)) (now (s .g))) (mode-small 2147483647 (s .self) (s .pass) (now (s .f)) (now (s .g)) (s .c) (s .self .mode) (sym (c@is-small .ensures) ∙ c@if1 .taken))))
 
 both-long-requires : tie.Need-both-long-requires
 both-long-requires c κs = search needs
@@ -75,8 +75,8 @@ refuse-requires-3 c κs = search needs
 returns-4 : tie.Need-returns-4
 unfolding challengeCall
 returns-4 c =
-    let s = c .before .before .before .before .before .before .before .before .before .before .before .before .before .before .args in
-    rw (c .refuse3 .ensures) (sym (number-good 2147483647 (s .self) (s .pass) (now (s .f)) (now (s .g)) (challengeTurn 2147483647 (s .self) (s .pass)) (isNonzero 2147483647 (s .c)) (challenged 2147483647 (s .self) (s .pass) (s .c) (now (s .f)) (now (s .g)) (s .self .mode)) (sym (c .before .before .before .before .before .before .before .before .before .before .before .challenge-next .ensures) ∙ ap passed (c .before .before .before .before .before .before .before .before .before .enum-told .given .1)) (sym (c .before .before .before .before .before .before .before .before .number-ok .ensures) ∙ ap passed (c .before .before .before .before .before .before .enum-told3 .given .1)) ∙ ap (leaves (s .self) (s .pass) (now (s .f)) (now (s .g))) (mode-full 2147483647 (s .self) (s .pass) (now (s .f)) (now (s .g)) (s .c) (s .self .mode) (sym (c .before .before .before .before .before .is-small .ensures) ∙ c .before .before .before .before .if1 .left)) ∙ lent-short 2147483647 (s .self) (s .pass) (now (s .f)) (now (s .g)) (answered (challengedFull 2147483647 (s .self) (s .pass) (s .c) (now (s .f)) (now (s .g)))) (sym (c .before .before .before .both-long .ensures) ∙ ap passed (c .before .enum-told6 .given .1))))
+    let s = c@args in
+    rw (c@refuse3 .ensures) (sym (number-good 2147483647 (s .self) (s .pass) (now (s .f)) (now (s .g)) (challengeTurn 2147483647 (s .self) (s .pass)) (isNonzero 2147483647 (s .c)) (challenged 2147483647 (s .self) (s .pass) (s .c) (now (s .f)) (now (s .g)) (s .self .mode)) (sym (c@challenge-next .ensures) ∙ ap passed (c@enum-told .given .1)) (sym (c@number-ok .ensures) ∙ ap passed (c@enum-told3 .given .1)) ∙ ap (leaves (s .self) (s .pass) (now (s .f)) (now (s .g))) (mode-full 2147483647 (s .self) (s .pass) (now (s .f)) (now (s .g)) (s .c) (s .self .mode) (sym (c@is-small .ensures) ∙ c@if1 .left)) ∙ lent-short 2147483647 (s .self) (s .pass) (now (s .f)) (now (s .g)) (answered (challengedFull 2147483647 (s .self) (s .pass) (s .c) (now (s .f)) (now (s .g)))) (sym (c@both-long .ensures) ∙ ap passed (c@enum-told6 .given .1))))
 
 both-reduced-requires : tie.Need-both-reduced-requires
 both-reduced-requires c κs = search needs
@@ -99,13 +99,13 @@ same-length-2 c = search needs
 returns-5 : tie.Need-returns-5
 unfolding challengeCall
 returns-5 c =
-    let s = c .before .before .before .before .before .before .before .before .before .before .before .before .before .before .before .before .before .before .before .args in
-    rw (c .refuse4 .ensures) (sym (number-good 2147483647 (s .self) (s .pass) (now (s .f)) (now (s .g)) (challengeTurn 2147483647 (s .self) (s .pass)) (isNonzero 2147483647 (s .c)) (challenged 2147483647 (s .self) (s .pass) (s .c) (now (s .f)) (now (s .g)) (s .self .mode)) (sym (c .before .before .before .before .before .before .before .before .before .before .before .before .before .before .before .before .challenge-next .ensures) ∙ ap passed (c .before .before .before .before .before .before .before .before .before .before .before .before .before .before .enum-told .given .1)) (sym (c .before .before .before .before .before .before .before .before .before .before .before .before .before .number-ok .ensures) ∙ ap passed (c .before .before .before .before .before .before .before .before .before .before .before .enum-told3 .given .1)) ∙ ap (leaves (s .self) (s .pass) (now (s .f)) (now (s .g))) (mode-full 2147483647 (s .self) (s .pass) (now (s .f)) (now (s .g)) (s .c) (s .self .mode) (sym (c .before .before .before .before .before .before .before .before .before .before .is-small .ensures) ∙ c .before .before .before .before .before .before .before .before .before .if1 .left)) ∙ lent-unreduced 2147483647 (s .self) (s .pass) (now (s .f)) (now (s .g)) (answered (challengedFull 2147483647 (s .self) (s .pass) (s .c) (now (s .f)) (now (s .g)))) (sym (c .before .before .before .before .before .before .before .before .both-long .ensures) ∙ ap passed (c .before .before .before .before .before .before .enum-told5 .given .1)) (sym (c .before .before .before .both-reduced .ensures) ∙ ap passed (c .before .enum-told8 .given .1))))
+    let s = c@args in
+    rw (c@refuse4 .ensures) (sym (number-good 2147483647 (s .self) (s .pass) (now (s .f)) (now (s .g)) (challengeTurn 2147483647 (s .self) (s .pass)) (isNonzero 2147483647 (s .c)) (challenged 2147483647 (s .self) (s .pass) (s .c) (now (s .f)) (now (s .g)) (s .self .mode)) (sym (c@challenge-next .ensures) ∙ ap passed (c@enum-told .given .1)) (sym (c@number-ok .ensures) ∙ ap passed (c@enum-told3 .given .1)) ∙ ap (leaves (s .self) (s .pass) (now (s .f)) (now (s .g))) (mode-full 2147483647 (s .self) (s .pass) (now (s .f)) (now (s .g)) (s .c) (s .self .mode) (sym (c@is-small .ensures) ∙ c@if1 .left)) ∙ lent-unreduced 2147483647 (s .self) (s .pass) (now (s .f)) (now (s .g)) (answered (challengedFull 2147483647 (s .self) (s .pass) (s .c) (now (s .f)) (now (s .g)))) (sym (c@both-long .ensures) ∙ ap passed (c@enum-told5 .given .1)) (sym (c@both-reduced .ensures) ∙ ap passed (c@enum-told8 .given .1))))
 
 challenge-full-requires : tie.Need-challenge-full-requires
 challenge-full-requires c κs =
-    let s = c .before .before .before .before .before .before .before .before .before .before .before .before .before .before .before .before .before .before .before .before .args in
-    challenge-round 2147483647 (s .self) (s .pass) (sym (c .before .before .before .before .before .before .before .before .before .before .before .before .before .before .before .before .before .challenge-next .ensures) ∙ ap passed (c .before .before .before .before .before .before .before .before .before .before .before .before .before .before .before .enum-told .given .1)) .few
+    let s = c@args in
+    challenge-round 2147483647 (s .self) (s .pass) (sym (c@challenge-next .ensures) ∙ ap passed (c@enum-told .given .1)) .few
 
 same-length-3 : tie.Need-same-length-3
 same-length-3 c = search needs
@@ -116,8 +116,8 @@ same-length-4 c = search needs
 returns-6 : tie.Need-returns-6
 unfolding challengeCall
 returns-6 c =
-    let s = c .before .before .before .before .before .before .before .before .before .before .before .before .before .before .before .before .before .before .before .before .before .before .before .before .before .args in
-    c .before .before .before .before .challenge-full .ensures ∙ sym (number-good 2147483647 (s .self) (s .pass) (now (s .f)) (now (s .g)) (challengeTurn 2147483647 (s .self) (s .pass)) (isNonzero 2147483647 (s .c)) (challenged 2147483647 (s .self) (s .pass) (s .c) (now (s .f)) (now (s .g)) (s .self .mode)) (sym (c .before .before .before .before .before .before .before .before .before .before .before .before .before .before .before .before .before .before .before .before .before .before .challenge-next .ensures) ∙ ap passed (c .before .before .before .before .before .before .before .before .before .before .before .before .before .before .before .before .before .before .before .before .enum-told .given .1)) (sym (c .before .before .before .before .before .before .before .before .before .before .before .before .before .before .before .before .before .before .before .number-ok .ensures) ∙ ap passed (c .before .before .before .before .before .before .before .before .before .before .before .before .before .before .before .before .before .enum-told3 .given .1)) ∙ ap (leaves (s .self) (s .pass) (now (s .f)) (now (s .g))) (mode-full 2147483647 (s .self) (s .pass) (now (s .f)) (now (s .g)) (s .c) (s .self .mode) (sym (c .before .before .before .before .before .before .before .before .before .before .before .before .before .before .before .before .is-small .ensures) ∙ c .before .before .before .before .before .before .before .before .before .before .before .before .before .before .before .if1 .left)) ∙ lent-read 2147483647 (s .self) (s .pass) (now (s .f)) (now (s .g)) (answered (challengedFull 2147483647 (s .self) (s .pass) (s .c) (now (s .f)) (now (s .g)))) (sym (c .before .before .before .before .before .before .before .before .before .before .before .before .before .before .both-long .ensures) ∙ ap passed (c .before .before .before .before .before .before .before .before .before .before .before .before .enum-told5 .given .1)) (sym (c .before .before .before .before .before .before .before .before .before .both-reduced .ensures) ∙ ap passed (c .before .before .before .before .before .before .before .enum-told7 .given .1)))
+    let s = c@args in
+    c@challenge-full .ensures ∙ sym (number-good 2147483647 (s .self) (s .pass) (now (s .f)) (now (s .g)) (challengeTurn 2147483647 (s .self) (s .pass)) (isNonzero 2147483647 (s .c)) (challenged 2147483647 (s .self) (s .pass) (s .c) (now (s .f)) (now (s .g)) (s .self .mode)) (sym (c@challenge-next .ensures) ∙ ap passed (c@enum-told .given .1)) (sym (c@number-ok .ensures) ∙ ap passed (c@enum-told3 .given .1)) ∙ ap (leaves (s .self) (s .pass) (now (s .f)) (now (s .g))) (mode-full 2147483647 (s .self) (s .pass) (now (s .f)) (now (s .g)) (s .c) (s .self .mode) (sym (c@is-small .ensures) ∙ c@if1 .left)) ∙ lent-read 2147483647 (s .self) (s .pass) (now (s .f)) (now (s .g)) (answered (challengedFull 2147483647 (s .self) (s .pass) (s .c) (now (s .f)) (now (s .g)))) (sym (c@both-long .ensures) ∙ ap passed (c@enum-told5 .given .1)) (sym (c@both-reduced .ensures) ∙ ap passed (c@enum-told7 .given .1)))
 
 pub challenge-spec : {M : Type 1} → statement M
 challenge-spec =

@@ -32,8 +32,8 @@ refuse-requires c κs = search needs
 returns : tie.Need-returns
 unfolding fieldItemCall
 returns c =
-    let s = c .before .before .before .before .before .before .args in
-    rw (c .refuse .ensures) (sym (item-shut 2147483647 (s .self) (s .pass) (not (s .self .plain)) (numberParts 2147483647 (s .a) (s .b)) (refused number.vector) (now (s .f)) (now (s .g)) (sym (c .before .before .before .pass-open .ensures) ∙ ap passed (c .before .enum-told2 .given .1))))
+    let s = c@args in
+    rw (c@refuse .ensures) (sym (item-shut 2147483647 (s .self) (s .pass) (not (s .self .plain)) (numberParts 2147483647 (s .a) (s .b)) (refused number.vector) (now (s .f)) (now (s .g)) (sym (c@pass-open .ensures) ∙ ap passed (c@enum-told2 .given .1))))
 
 item-wanted-requires : tie.Need-item-wanted-requires
 item-wanted-requires c κs = search needs
@@ -50,8 +50,8 @@ refuse-requires-2 c κs = search needs
 returns-2 : tie.Need-returns-2
 unfolding fieldItemCall
 returns-2 c =
-    let s = c .before .before .before .before .before .before .before .before .before .args in
-    rw (c .refuse2 .ensures) (sym (item-beyond 2147483647 (s .self) (s .pass) (not (s .self .plain)) (numberParts 2147483647 (s .a) (s .b)) (refused number.vector) (now (s .f)) (now (s .g)) (sym (c .before .before .before .before .before .before .pass-open .ensures) ∙ ap passed (c .before .before .before .before .enum-told .given .1)) (sym (c .before .before .before .item-wanted .ensures) ∙ ap passed (c .before .enum-told4 .given .1))))
+    let s = c@args in
+    rw (c@refuse2 .ensures) (sym (item-beyond 2147483647 (s .self) (s .pass) (not (s .self .plain)) (numberParts 2147483647 (s .a) (s .b)) (refused number.vector) (now (s .f)) (now (s .g)) (sym (c@pass-open .ensures) ∙ ap passed (c@enum-told .given .1)) (sym (c@item-wanted .ensures) ∙ ap passed (c@enum-told4 .given .1))))
 
 is-twisted-requires : tie.Need-is-twisted-requires
 is-twisted-requires c κs = search needs
@@ -68,8 +68,8 @@ refuse-requires-3 c κs = search needs
 returns-3 : tie.Need-returns-3
 unfolding fieldItemCall
 returns-3 c =
-    let s = c .before .before .before .before .before .before .before .before .before .before .before .before .args in
-    rw (c .refuse3 .ensures) (sym (item-other 2147483647 (s .self) (s .pass) (not (s .self .plain)) (numberParts 2147483647 (s .a) (s .b)) (refused number.vector) (now (s .f)) (now (s .g)) (sym (c .before .before .before .before .before .before .before .before .before .pass-open .ensures) ∙ ap passed (c .before .before .before .before .before .before .before .enum-told .given .1)) (sym (c .before .before .before .before .before .before .item-wanted .ensures) ∙ ap passed (c .before .before .before .before .enum-told3 .given .1)) (sym (c .before .before .before .is-twisted .ensures) ∙ ap passed (c .before .enum-told6 .given .1))))
+    let s = c@args in
+    rw (c@refuse3 .ensures) (sym (item-other 2147483647 (s .self) (s .pass) (not (s .self .plain)) (numberParts 2147483647 (s .a) (s .b)) (refused number.vector) (now (s .f)) (now (s .g)) (sym (c@pass-open .ensures) ∙ ap passed (c@enum-told .given .1)) (sym (c@item-wanted .ensures) ∙ ap passed (c@enum-told3 .given .1)) (sym (c@is-twisted .ensures) ∙ ap passed (c@enum-told6 .given .1))))
 
 numbers-requires : tie.Need-numbers-requires
 numbers-requires c κs = search needs
@@ -86,8 +86,8 @@ refuse-requires-4 c κs = search needs
 returns-4 : tie.Need-returns-4
 unfolding fieldItemCall
 returns-4 c =
-    let s = c .before .before .before .before .before .before .before .before .before .before .before .before .before .before .before .args in
-    rw (c .refuse4 .ensures) (sym (item-bad 2147483647 (s .self) (s .pass) (not (s .self .plain)) (numberParts 2147483647 (s .a) (s .b)) (refused number.vector) (now (s .f)) (now (s .g)) (sym (c .before .before .before .before .before .before .before .before .before .before .before .before .pass-open .ensures) ∙ ap passed (c .before .before .before .before .before .before .before .before .before .before .enum-told .given .1)) (sym (c .before .before .before .before .before .before .before .before .before .item-wanted .ensures) ∙ ap passed (c .before .before .before .before .before .before .before .enum-told3 .given .1)) (sym (c .before .before .before .before .before .before .is-twisted .ensures) ∙ ap passed (c .before .before .before .before .enum-told5 .given .1)) (sym (c .before .before .before .numbers .ensures) ∙ ap partsOf (c .before .enum-told7 .given .1))))
+    let s = c@args in
+    rw (c@refuse4 .ensures) (sym (item-bad 2147483647 (s .self) (s .pass) (not (s .self .plain)) (numberParts 2147483647 (s .a) (s .b)) (refused number.vector) (now (s .f)) (now (s .g)) (sym (c@pass-open .ensures) ∙ ap passed (c@enum-told .given .1)) (sym (c@item-wanted .ensures) ∙ ap passed (c@enum-told3 .given .1)) (sym (c@is-twisted .ensures) ∙ ap passed (c@enum-told5 .given .1)) (sym (c@numbers .ensures) ∙ ap partsOf (c@enum-told7 .given .1))))
 
 places-there-requires : tie.Need-places-there-requires
 places-there-requires c κs = search needs
@@ -104,14 +104,14 @@ refuse-requires-5 c κs = search needs
 returns-5 : tie.Need-returns-5
 unfolding fieldItemCall
 returns-5 c =
-    let s = c .before .before .before .before .before .before .before .before .before .before .before .before .before .before .before .before .before .before .before .args in
-    rw (c .refuse5 .ensures) (sym (item-short 2147483647 (s .self) (s .pass) (not (s .self .plain)) (numberParts 2147483647 (s .a) (s .b)) (refused number.vector) (now (s .f)) (now (s .g)) (sym (c .before .before .before .before .before .before .before .before .before .before .before .before .before .before .before .before .pass-open .ensures) ∙ ap passed (c .before .before .before .before .before .before .before .before .before .before .before .before .before .before .enum-told .given .1)) (sym (c .before .before .before .before .before .before .before .before .before .before .before .before .before .item-wanted .ensures) ∙ ap passed (c .before .before .before .before .before .before .before .before .before .before .before .enum-told3 .given .1)) (sym (c .before .before .before .before .before .before .before .before .before .before .is-twisted .ensures) ∙ ap passed (c .before .before .before .before .before .before .before .before .enum-told5 .given .1)) _ (sym (c .before .before .before .before .before .before .before .numbers .ensures) ∙ ap partsOf (c .before .before .before .before .before .x .given .1)) (sym (c .before .before .before .places-there .ensures) ∙ ap passed (c .before .enum-told9 .given .1))))
+    let s = c@args in
+    rw (c@refuse5 .ensures) (sym (item-short 2147483647 (s .self) (s .pass) (not (s .self .plain)) (numberParts 2147483647 (s .a) (s .b)) (refused number.vector) (now (s .f)) (now (s .g)) (sym (c@pass-open .ensures) ∙ ap passed (c@enum-told .given .1)) (sym (c@item-wanted .ensures) ∙ ap passed (c@enum-told3 .given .1)) (sym (c@is-twisted .ensures) ∙ ap passed (c@enum-told5 .given .1)) _ (sym (c@numbers .ensures) ∙ ap partsOf (c@x .given .1)) (sym (c@places-there .ensures) ∙ ap passed (c@enum-told9 .given .1))))
 
 take-requires : tie.Need-take-requires
 take-requires c κs =
-    let s = c .before .before .before .before .before .before .before .before .before .before .before .before .before .before .before .before .before .before .before .before .args in
-    let h = formed 2147483647 (s .self) (s .pass) (holds _ _ (sym (c .before .before .before .before .before .before .before .before .before .before .before .before .before .before .before .before .before .pass-open .ensures) ∙ ap passed (c .before .before .before .before .before .before .before .before .before .before .before .before .before .before .before .enum-told .given .1)) .0) in
-    (h .few, h .round, h .most, ltb-true _ _ (sym (c .before .before .before .before .before .before .before .before .before .before .before .before .before .before .item-wanted .ensures) ∙ ap passed (c .before .before .before .before .before .before .before .before .before .before .before .before .enum-told3 .given .1)))
+    let s = c@args in
+    let h = formed 2147483647 (s .self) (s .pass) (holds _ _ (sym (c@pass-open .ensures) ∙ ap passed (c@enum-told .given .1)) .0) in
+    (h .few, h .round, h .most, ltb-true _ _ (sym (c@item-wanted .ensures) ∙ ap passed (c@enum-told3 .given .1)))
 
 same-length : tie.Need-same-length
 same-length c = search needs
@@ -122,8 +122,8 @@ same-length-2 c = search needs
 returns-6 : tie.Need-returns-6
 unfolding fieldItemCall
 returns-6 c =
-    let s = c .before .before .before .before .before .before .before .before .before .before .before .before .before .before .before .before .before .before .before .before .before .before .before .before .before .args in
-    c .before .before .before .before .take .ensures ∙ sym (item-taken 2147483647 (s .self) (s .pass) (not (s .self .plain)) (numberParts 2147483647 (s .a) (s .b)) (refused number.vector) (now (s .f)) (now (s .g)) (sym (c .before .before .before .before .before .before .before .before .before .before .before .before .before .before .before .before .before .before .before .before .before .before .pass-open .ensures) ∙ ap passed (c .before .before .before .before .before .before .before .before .before .before .before .before .before .before .before .before .before .before .before .before .enum-told .given .1)) (sym (c .before .before .before .before .before .before .before .before .before .before .before .before .before .before .before .before .before .before .before .item-wanted .ensures) ∙ ap passed (c .before .before .before .before .before .before .before .before .before .before .before .before .before .before .before .before .before .enum-told3 .given .1)) (sym (c .before .before .before .before .before .before .before .before .before .before .before .before .before .before .before .before .is-twisted .ensures) ∙ ap passed (c .before .before .before .before .before .before .before .before .before .before .before .before .before .before .enum-told5 .given .1)) _ (sym (c .before .before .before .before .before .before .before .before .before .before .before .before .before .numbers .ensures) ∙ ap partsOf (c .before .before .before .before .before .before .before .before .before .before .before .x .given .1)) (sym (c .before .before .before .before .before .before .before .before .before .places-there .ensures) ∙ ap passed (c .before .before .before .before .before .before .before .enum-told8 .given .1)))
+    let s = c@args in
+    c@take .ensures ∙ sym (item-taken 2147483647 (s .self) (s .pass) (not (s .self .plain)) (numberParts 2147483647 (s .a) (s .b)) (refused number.vector) (now (s .f)) (now (s .g)) (sym (c@pass-open .ensures) ∙ ap passed (c@enum-told .given .1)) (sym (c@item-wanted .ensures) ∙ ap passed (c@enum-told3 .given .1)) (sym (c@is-twisted .ensures) ∙ ap passed (c@enum-told5 .given .1)) _ (sym (c@numbers .ensures) ∙ ap partsOf (c@x .given .1)) (sym (c@places-there .ensures) ∙ ap passed (c@enum-told8 .given .1)))
 
 pub field-item-spec : {M : Type 1} → statement M
 field-item-spec =

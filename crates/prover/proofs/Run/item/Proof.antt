@@ -33,8 +33,8 @@ refuse-requires c κs = search needs
 returns : tie.Need-returns
 unfolding itemCall
 returns c =
-    let s = c .before .before .before .before .before .before .args in
-    rw (c .refuse .ensures) (sym (item-shut 2147483647 (s .self) (s .pass) (s .self .plain) (plainParts 2147483647 (s .reading) (s .weight)) (refusedAt number.weight (nextIndex (s .self) (s .pass))) (now (s .f)) (now (s .g)) (sym (c .before .before .before .pass-open .ensures) ∙ ap passed (c .before .enum-told2 .given .1))))
+    let s = c@args in
+    rw (c@refuse .ensures) (sym (item-shut 2147483647 (s .self) (s .pass) (s .self .plain) (plainParts 2147483647 (s .reading) (s .weight)) (refusedAt number.weight (nextIndex (s .self) (s .pass))) (now (s .f)) (now (s .g)) (sym (c@pass-open .ensures) ∙ ap passed (c@enum-told2 .given .1))))
 
 item-wanted-requires : tie.Need-item-wanted-requires
 item-wanted-requires c κs = search needs
@@ -51,8 +51,8 @@ refuse-requires-2 c κs = search needs
 returns-2 : tie.Need-returns-2
 unfolding itemCall
 returns-2 c =
-    let s = c .before .before .before .before .before .before .before .before .before .args in
-    rw (c .refuse2 .ensures) (sym (item-beyond 2147483647 (s .self) (s .pass) (s .self .plain) (plainParts 2147483647 (s .reading) (s .weight)) (refusedAt number.weight (nextIndex (s .self) (s .pass))) (now (s .f)) (now (s .g)) (sym (c .before .before .before .before .before .before .pass-open .ensures) ∙ ap passed (c .before .before .before .before .enum-told .given .1)) (sym (c .before .before .before .item-wanted .ensures) ∙ ap passed (c .before .enum-told4 .given .1))))
+    let s = c@args in
+    rw (c@refuse2 .ensures) (sym (item-beyond 2147483647 (s .self) (s .pass) (s .self .plain) (plainParts 2147483647 (s .reading) (s .weight)) (refusedAt number.weight (nextIndex (s .self) (s .pass))) (now (s .f)) (now (s .g)) (sym (c@pass-open .ensures) ∙ ap passed (c@enum-told .given .1)) (sym (c@item-wanted .ensures) ∙ ap passed (c@enum-told4 .given .1))))
 
 is-plain-requires : tie.Need-is-plain-requires
 is-plain-requires c κs = search needs
@@ -69,8 +69,8 @@ refuse-requires-3 c κs = search needs
 returns-3 : tie.Need-returns-3
 unfolding itemCall
 returns-3 c =
-    let s = c .before .before .before .before .before .before .before .before .before .before .before .before .args in
-    rw (c .refuse3 .ensures) (sym (item-other 2147483647 (s .self) (s .pass) (s .self .plain) (plainParts 2147483647 (s .reading) (s .weight)) (refusedAt number.weight (nextIndex (s .self) (s .pass))) (now (s .f)) (now (s .g)) (sym (c .before .before .before .before .before .before .before .before .before .pass-open .ensures) ∙ ap passed (c .before .before .before .before .before .before .before .enum-told .given .1)) (sym (c .before .before .before .before .before .before .item-wanted .ensures) ∙ ap passed (c .before .before .before .before .enum-told3 .given .1)) (sym (c .before .before .before .is-plain .ensures) ∙ ap passed (c .before .enum-told6 .given .1))))
+    let s = c@args in
+    rw (c@refuse3 .ensures) (sym (item-other 2147483647 (s .self) (s .pass) (s .self .plain) (plainParts 2147483647 (s .reading) (s .weight)) (refusedAt number.weight (nextIndex (s .self) (s .pass))) (now (s .f)) (now (s .g)) (sym (c@pass-open .ensures) ∙ ap passed (c@enum-told .given .1)) (sym (c@item-wanted .ensures) ∙ ap passed (c@enum-told3 .given .1)) (sym (c@is-plain .ensures) ∙ ap passed (c@enum-told6 .given .1))))
 
 plain-requires : tie.Need-plain-requires
 plain-requires c κs = search needs
@@ -82,10 +82,10 @@ enum-told-7 : tie.Need-enum-told-7
 enum-told-7 c = search needs
 
 sub-refuse-at : tie.Need-sub-refuse-at
-sub-refuse-at c = omega (arith, ltb-true (c .before .before .before .before .before .before .before .before .before .before .before .before .before .before .before .args .pass .taken) (c .before .before .before .before .before .before .before .before .before .before .before .before .before .before .before .args .self .items) (sym (c .before .before .before .before .before .before .before .before .before .item-wanted .ensures) ∙ ap passed (c .before .before .before .before .before .before .before .enum-told3 .given .1)))
+sub-refuse-at c = omega (arith, ltb-true (c@args .pass .taken) (c@args .self .items) (sym (c@item-wanted .ensures) ∙ ap passed (c@enum-told3 .given .1)))
 
 sub-refuse-at-2 : tie.Need-sub-refuse-at-2
-sub-refuse-at-2 c = omega (arith, ltb-true (c .before .before .before .before .before .before .before .before .before .before .before .before .before .before .before .before .args .pass .taken) (c .before .before .before .before .before .before .before .before .before .before .before .before .before .before .before .before .args .self .items) (sym (c .before .before .before .before .before .before .before .before .before .before .item-wanted .ensures) ∙ ap passed (c .before .before .before .before .before .before .before .before .enum-told3 .given .1)))
+sub-refuse-at-2 c = omega (arith, ltb-true (c@args .pass .taken) (c@args .self .items) (sym (c@item-wanted .ensures) ∙ ap passed (c@enum-told3 .given .1)))
 
 refuse-at-requires : tie.Need-refuse-at-requires
 refuse-at-requires c κs = search needs
@@ -93,10 +93,10 @@ refuse-at-requires c κs = search needs
 returns-4 : tie.Need-returns-4
 unfolding itemCall
 returns-4 c =
-    let s = c .before .before .before .before .before .before .before .before .before .before .before .before .before .before .before .before .before .args in
-    let u : toZ w16 (ofZ w16 (s .reading)) ≡ s .reading = toZ-ofZ {w = w16} (c .before .before .before .before .before .before .before .before .before .before .before .before .before .before .before .before .before .fits .reading) in
-    let w = simp u at (c .before .before .before .before .before .plain .ensures) in
-    rw (c .refuse-at .ensures) (sym (item-bad 2147483647 (s .self) (s .pass) (s .self .plain) (plainParts 2147483647 (s .reading) (s .weight)) (refusedAt number.weight (nextIndex (s .self) (s .pass))) (now (s .f)) (now (s .g)) (sym (c .before .before .before .before .before .before .before .before .before .before .before .before .before .before .pass-open .ensures) ∙ ap passed (c .before .before .before .before .before .before .before .before .before .before .before .before .enum-told .given .1)) (sym (c .before .before .before .before .before .before .before .before .before .before .before .item-wanted .ensures) ∙ ap passed (c .before .before .before .before .before .before .before .before .before .enum-told3 .given .1)) (sym (c .before .before .before .before .before .before .before .before .is-plain .ensures) ∙ ap passed (c .before .before .before .before .before .before .enum-told5 .given .1)) (sym w ∙ ap partsOf (c .before .before .before .enum-told7 .given .1))))
+    let s = c@args in
+    let u : toZ w16 (ofZ w16 (s .reading)) ≡ s .reading = toZ-ofZ {w = w16} (c@fits .reading) in
+    let w = simp u at (c@plain .ensures) in
+    rw (c@refuse-at .ensures) (sym (item-bad 2147483647 (s .self) (s .pass) (s .self .plain) (plainParts 2147483647 (s .reading) (s .weight)) (refusedAt number.weight (nextIndex (s .self) (s .pass))) (now (s .f)) (now (s .g)) (sym (c@pass-open .ensures) ∙ ap passed (c@enum-told .given .1)) (sym (c@item-wanted .ensures) ∙ ap passed (c@enum-told3 .given .1)) (sym (c@is-plain .ensures) ∙ ap passed (c@enum-told5 .given .1)) (sym w ∙ ap partsOf (c@enum-told7 .given .1))))
 
 places-there-requires : tie.Need-places-there-requires
 places-there-requires c κs = search needs
@@ -113,16 +113,16 @@ refuse-requires-4 c κs = search needs
 returns-5 : tie.Need-returns-5
 unfolding itemCall
 returns-5 c =
-    let s = c .before .before .before .before .before .before .before .before .before .before .before .before .before .before .before .before .before .before .before .args in
-    let u : toZ w16 (ofZ w16 (s .reading)) ≡ s .reading = toZ-ofZ {w = w16} (c .before .before .before .before .before .before .before .before .before .before .before .before .before .before .before .before .before .before .before .fits .reading) in
-    let w = simp u at (c .before .before .before .before .before .before .before .plain .ensures) in
-    rw (c .refuse4 .ensures) (sym (item-short 2147483647 (s .self) (s .pass) (s .self .plain) (plainParts 2147483647 (s .reading) (s .weight)) (refusedAt number.weight (nextIndex (s .self) (s .pass))) (now (s .f)) (now (s .g)) (sym (c .before .before .before .before .before .before .before .before .before .before .before .before .before .before .before .before .pass-open .ensures) ∙ ap passed (c .before .before .before .before .before .before .before .before .before .before .before .before .before .before .enum-told .given .1)) (sym (c .before .before .before .before .before .before .before .before .before .before .before .before .before .item-wanted .ensures) ∙ ap passed (c .before .before .before .before .before .before .before .before .before .before .before .enum-told3 .given .1)) (sym (c .before .before .before .before .before .before .before .before .before .before .is-plain .ensures) ∙ ap passed (c .before .before .before .before .before .before .before .before .enum-told5 .given .1)) _ (sym w ∙ ap partsOf (c .before .before .before .before .before .x .given .1)) (sym (c .before .before .before .places-there .ensures) ∙ ap passed (c .before .enum-told9 .given .1))))
+    let s = c@args in
+    let u : toZ w16 (ofZ w16 (s .reading)) ≡ s .reading = toZ-ofZ {w = w16} (c@fits .reading) in
+    let w = simp u at (c@plain .ensures) in
+    rw (c@refuse4 .ensures) (sym (item-short 2147483647 (s .self) (s .pass) (s .self .plain) (plainParts 2147483647 (s .reading) (s .weight)) (refusedAt number.weight (nextIndex (s .self) (s .pass))) (now (s .f)) (now (s .g)) (sym (c@pass-open .ensures) ∙ ap passed (c@enum-told .given .1)) (sym (c@item-wanted .ensures) ∙ ap passed (c@enum-told3 .given .1)) (sym (c@is-plain .ensures) ∙ ap passed (c@enum-told5 .given .1)) _ (sym w ∙ ap partsOf (c@x .given .1)) (sym (c@places-there .ensures) ∙ ap passed (c@enum-told9 .given .1))))
 
 take-requires : tie.Need-take-requires
 take-requires c κs =
-    let s = c .before .before .before .before .before .before .before .before .before .before .before .before .before .before .before .before .before .before .before .before .args in
-    let h = formed 2147483647 (s .self) (s .pass) (holds _ _ (sym (c .before .before .before .before .before .before .before .before .before .before .before .before .before .before .before .before .before .pass-open .ensures) ∙ ap passed (c .before .before .before .before .before .before .before .before .before .before .before .before .before .before .before .enum-told .given .1)) .0) in
-    (h .few, h .round, h .most, ltb-true _ _ (sym (c .before .before .before .before .before .before .before .before .before .before .before .before .before .before .item-wanted .ensures) ∙ ap passed (c .before .before .before .before .before .before .before .before .before .before .before .before .enum-told3 .given .1)))
+    let s = c@args in
+    let h = formed 2147483647 (s .self) (s .pass) (holds _ _ (sym (c@pass-open .ensures) ∙ ap passed (c@enum-told .given .1)) .0) in
+    (h .few, h .round, h .most, ltb-true _ _ (sym (c@item-wanted .ensures) ∙ ap passed (c@enum-told3 .given .1)))
 
 same-length : tie.Need-same-length
 same-length c = search needs
@@ -133,10 +133,10 @@ same-length-2 c = search needs
 returns-6 : tie.Need-returns-6
 unfolding itemCall
 returns-6 c =
-    let s = c .before .before .before .before .before .before .before .before .before .before .before .before .before .before .before .before .before .before .before .before .before .before .before .before .before .args in
-    let u : toZ w16 (ofZ w16 (s .reading)) ≡ s .reading = toZ-ofZ {w = w16} (c .before .before .before .before .before .before .before .before .before .before .before .before .before .before .before .before .before .before .before .before .before .before .before .before .before .fits .reading) in
-    let w = simp u at (c .before .before .before .before .before .before .before .before .before .before .before .before .before .plain .ensures) in
-    c .before .before .before .before .take .ensures ∙ sym (item-taken 2147483647 (s .self) (s .pass) (s .self .plain) (plainParts 2147483647 (s .reading) (s .weight)) (refusedAt number.weight (nextIndex (s .self) (s .pass))) (now (s .f)) (now (s .g)) (sym (c .before .before .before .before .before .before .before .before .before .before .before .before .before .before .before .before .before .before .before .before .before .before .pass-open .ensures) ∙ ap passed (c .before .before .before .before .before .before .before .before .before .before .before .before .before .before .before .before .before .before .before .before .enum-told .given .1)) (sym (c .before .before .before .before .before .before .before .before .before .before .before .before .before .before .before .before .before .before .before .item-wanted .ensures) ∙ ap passed (c .before .before .before .before .before .before .before .before .before .before .before .before .before .before .before .before .before .enum-told3 .given .1)) (sym (c .before .before .before .before .before .before .before .before .before .before .before .before .before .before .before .before .is-plain .ensures) ∙ ap passed (c .before .before .before .before .before .before .before .before .before .before .before .before .before .before .enum-told5 .given .1)) _ (sym w ∙ ap partsOf (c .before .before .before .before .before .before .before .before .before .before .before .x .given .1)) (sym (c .before .before .before .before .before .before .before .before .before .places-there .ensures) ∙ ap passed (c .before .before .before .before .before .before .before .enum-told8 .given .1)))
+    let s = c@args in
+    let u : toZ w16 (ofZ w16 (s .reading)) ≡ s .reading = toZ-ofZ {w = w16} (c@fits .reading) in
+    let w = simp u at (c@plain .ensures) in
+    c@take .ensures ∙ sym (item-taken 2147483647 (s .self) (s .pass) (s .self .plain) (plainParts 2147483647 (s .reading) (s .weight)) (refusedAt number.weight (nextIndex (s .self) (s .pass))) (now (s .f)) (now (s .g)) (sym (c@pass-open .ensures) ∙ ap passed (c@enum-told .given .1)) (sym (c@item-wanted .ensures) ∙ ap passed (c@enum-told3 .given .1)) (sym (c@is-plain .ensures) ∙ ap passed (c@enum-told5 .given .1)) _ (sym w ∙ ap partsOf (c@x .given .1)) (sym (c@places-there .ensures) ∙ ap passed (c@enum-told8 .given .1)))
 
 pub item-spec : {M : Type 1} → statement M
 item-spec =

@@ -19,7 +19,7 @@ refuse-requires : tie.Need-refuse-requires
 refuse-requires c κs = search needs
 
 returns : tie.Need-returns
-returns c = rw (c .refuse .ensures) (ap (leaves (c .before .before .before .before .args .self) (c .before .before .before .before .args .pass) [] []) (sym (open-at-order 2147483647 (c .before .before .before .before .args .self) (c .before .before .before .before .args .pass) (c .before .before .before .before .args .point) (sym (c .before .before .before .may-open-at .ensures) ∙ ap passed (c .before .enum-told2 .given .1)))))
+returns c = rw (c@refuse .ensures) (ap (leaves (c@args .self) (c@args .pass) [] []) (sym (open-at-order 2147483647 (c@args .self) (c@args .pass) (c@args .point) (sym (c@may-open-at .ensures) ∙ ap passed (c@enum-told2 .given .1)))))
 
 nonzero-requires : tie.Need-nonzero-requires
 nonzero-requires c κs = search needs
@@ -34,7 +34,7 @@ refuse-requires-2 : tie.Need-refuse-requires-2
 refuse-requires-2 c κs = search needs
 
 returns-2 : tie.Need-returns-2
-returns-2 c = rw (c .refuse2 .ensures) (ap (leaves (c .before .before .before .before .before .before .before .args .self) (c .before .before .before .before .before .before .before .args .pass) [] []) (sym (open-at-argument 2147483647 (c .before .before .before .before .before .before .before .args .self) (c .before .before .before .before .before .before .before .args .pass) (c .before .before .before .before .before .before .before .args .point) (sym (c .before .before .before .before .before .before .may-open-at .ensures) ∙ ap passed (c .before .before .before .before .enum-told .given .1)) (sym (c .before .before .before .nonzero .ensures) ∙ ap passed (c .before .enum-told4 .given .1)))))
+returns-2 c = rw (c@refuse2 .ensures) (ap (leaves (c@args .self) (c@args .pass) [] []) (sym (open-at-argument 2147483647 (c@args .self) (c@args .pass) (c@args .point) (sym (c@may-open-at .ensures) ∙ ap passed (c@enum-told .given .1)) (sym (c@nonzero .ensures) ∙ ap passed (c@enum-told4 .given .1)))))
 
 points-of-requires : tie.Need-points-of-requires
 points-of-requires c κs = search needs
@@ -49,7 +49,7 @@ answered-requires : tie.Need-answered-requires
 answered-requires c κs = search needs
 
 returns-3 : tie.Need-returns-3
-returns-3 c = rw (c .answered .ensures, c .before .new-pass .ensures, c .before .before .padded-kernel .ensures, c .before .before .before .points-of .ensures) (ap (leaves (c .before .before .before .before .before .before .before .before .before .before .args .self) (c .before .before .before .before .before .before .before .before .before .before .args .pass) [] []) (sym (open-at-answered 2147483647 (c .before .before .before .before .before .before .before .before .before .before .args .self) (c .before .before .before .before .before .before .before .before .before .before .args .pass) (c .before .before .before .before .before .before .before .before .before .before .args .point) (sym (c .before .before .before .before .before .before .before .before .before .may-open-at .ensures) ∙ ap passed (c .before .before .before .before .before .before .before .enum-told .given .1)) (sym (c .before .before .before .before .before .before .nonzero .ensures) ∙ ap passed (c .before .before .before .before .enum-told3 .given .1)))))
+returns-3 c = rw (c@answered .ensures, c@new-pass .ensures, c@padded-kernel .ensures, c@points-of .ensures) (ap (leaves (c@args .self) (c@args .pass) [] []) (sym (open-at-answered 2147483647 (c@args .self) (c@args .pass) (c@args .point) (sym (c@may-open-at .ensures) ∙ ap passed (c@enum-told .given .1)) (sym (c@nonzero .ensures) ∙ ap passed (c@enum-told3 .given .1)))))
 
 pub open-at-spec : {M : Type 1} → statement M
 open-at-spec =

@@ -19,7 +19,7 @@ refuse-requires : tie.Need-refuse-requires
 refuse-requires c κs = search needs
 
 returns : tie.Need-returns
-returns c = rw (c .refuse .ensures) (ap (leaves (c .before .before .before .before .args .self) (c .before .before .before .before .args .pass) [] []) (sym (open-order 2147483647 (c .before .before .before .before .args .self) (c .before .before .before .before .args .pass) (sym (c .before .before .before .may-open .ensures) ∙ ap passed (c .before .enum-told2 .given .1)))))
+returns c = rw (c@refuse .ensures) (ap (leaves (c@args .self) (c@args .pass) [] []) (sym (open-order 2147483647 (c@args .self) (c@args .pass) (sym (c@may-open .ensures) ∙ ap passed (c@enum-told2 .given .1)))))
 
 no-points-requires : tie.Need-no-points-requires
 no-points-requires c κs = search needs
@@ -34,7 +34,7 @@ answered-requires : tie.Need-answered-requires
 answered-requires c κs = search needs
 
 returns-2 : tie.Need-returns-2
-returns-2 c = rw (c .answered .ensures, c .before .new-pass .ensures, c .before .before .open-kernel .ensures, c .before .before .before .no-points .ensures) (ap (leaves (c .before .before .before .before .before .before .before .args .self) (c .before .before .before .before .before .before .before .args .pass) [] []) (sym (open-answered 2147483647 (c .before .before .before .before .before .before .before .args .self) (c .before .before .before .before .before .before .before .args .pass) (sym (c .before .before .before .before .before .before .may-open .ensures) ∙ ap passed (c .before .before .before .before .enum-told .given .1)))))
+returns-2 c = rw (c@answered .ensures, c@new-pass .ensures, c@open-kernel .ensures, c@no-points .ensures) (ap (leaves (c@args .self) (c@args .pass) [] []) (sym (open-answered 2147483647 (c@args .self) (c@args .pass) (sym (c@may-open .ensures) ∙ ap passed (c@enum-told .given .1)))))
 
 pub open-pass-spec : {M : Type 1} → statement M
 open-pass-spec =

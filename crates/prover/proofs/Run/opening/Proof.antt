@@ -26,8 +26,8 @@ refuse-requires c κs = search needs
 returns : tie.Need-returns
 unfolding openingCall
 returns c =
-    let s = c .before .before .before .before .before .before .args in
-    rw (c .refuse .ensures) (sym (number-turn 2147483647 (s .self) (s .pass) (now (s .f)) (now (s .g)) (openingTurn 2147483647 (s .self) (s .pass)) (isNonzero 2147483647 (s .point)) (lentFolds 2147483647 (s .self) (now (s .f)) (now (s .g)) (answered (openingGiven 2147483647 (s .self) (s .pass) (s .point) (now (s .f)) (now (s .g))))) (sym (c .before .before .before .openings-next .ensures) ∙ ap passed (c .before .enum-told2 .given .1))))
+    let s = c@args in
+    rw (c@refuse .ensures) (sym (number-turn 2147483647 (s .self) (s .pass) (now (s .f)) (now (s .g)) (openingTurn 2147483647 (s .self) (s .pass)) (isNonzero 2147483647 (s .point)) (lentFolds 2147483647 (s .self) (now (s .f)) (now (s .g)) (answered (openingGiven 2147483647 (s .self) (s .pass) (s .point) (now (s .f)) (now (s .g))))) (sym (c@openings-next .ensures) ∙ ap passed (c@enum-told2 .given .1))))
 
 number-ok-requires : tie.Need-number-ok-requires
 number-ok-requires c κs = search needs
@@ -44,8 +44,8 @@ refuse-requires-2 c κs = search needs
 returns-2 : tie.Need-returns-2
 unfolding openingCall
 returns-2 c =
-    let s = c .before .before .before .before .before .before .before .before .before .args in
-    rw (c .refuse2 .ensures) (sym (number-bad 2147483647 (s .self) (s .pass) (now (s .f)) (now (s .g)) (openingTurn 2147483647 (s .self) (s .pass)) (isNonzero 2147483647 (s .point)) (lentFolds 2147483647 (s .self) (now (s .f)) (now (s .g)) (answered (openingGiven 2147483647 (s .self) (s .pass) (s .point) (now (s .f)) (now (s .g))))) (sym (c .before .before .before .before .before .before .openings-next .ensures) ∙ ap passed (c .before .before .before .before .enum-told .given .1)) (sym (c .before .before .before .number-ok .ensures) ∙ ap passed (c .before .enum-told4 .given .1))))
+    let s = c@args in
+    rw (c@refuse2 .ensures) (sym (number-bad 2147483647 (s .self) (s .pass) (now (s .f)) (now (s .g)) (openingTurn 2147483647 (s .self) (s .pass)) (isNonzero 2147483647 (s .point)) (lentFolds 2147483647 (s .self) (now (s .f)) (now (s .g)) (answered (openingGiven 2147483647 (s .self) (s .pass) (s .point) (now (s .f)) (now (s .g))))) (sym (c@openings-next .ensures) ∙ ap passed (c@enum-told .given .1)) (sym (c@number-ok .ensures) ∙ ap passed (c@enum-told4 .given .1))))
 
 both-long-requires : tie.Need-both-long-requires
 both-long-requires c κs = search needs
@@ -62,8 +62,8 @@ refuse-requires-3 c κs = search needs
 returns-3 : tie.Need-returns-3
 unfolding openingCall
 returns-3 c =
-    let s = c .before .before .before .before .before .before .before .before .before .before .before .before .args in
-    rw (c .refuse3 .ensures) (sym (number-good 2147483647 (s .self) (s .pass) (now (s .f)) (now (s .g)) (openingTurn 2147483647 (s .self) (s .pass)) (isNonzero 2147483647 (s .point)) (lentFolds 2147483647 (s .self) (now (s .f)) (now (s .g)) (answered (openingGiven 2147483647 (s .self) (s .pass) (s .point) (now (s .f)) (now (s .g))))) (sym (c .before .before .before .before .before .before .before .before .before .openings-next .ensures) ∙ ap passed (c .before .before .before .before .before .before .before .enum-told .given .1)) (sym (c .before .before .before .before .before .before .number-ok .ensures) ∙ ap passed (c .before .before .before .before .enum-told3 .given .1)) ∙ lent-short 2147483647 (s .self) (s .pass) (now (s .f)) (now (s .g)) (answered (openingGiven 2147483647 (s .self) (s .pass) (s .point) (now (s .f)) (now (s .g)))) (sym (c .before .before .before .both-long .ensures) ∙ ap passed (c .before .enum-told6 .given .1))))
+    let s = c@args in
+    rw (c@refuse3 .ensures) (sym (number-good 2147483647 (s .self) (s .pass) (now (s .f)) (now (s .g)) (openingTurn 2147483647 (s .self) (s .pass)) (isNonzero 2147483647 (s .point)) (lentFolds 2147483647 (s .self) (now (s .f)) (now (s .g)) (answered (openingGiven 2147483647 (s .self) (s .pass) (s .point) (now (s .f)) (now (s .g))))) (sym (c@openings-next .ensures) ∙ ap passed (c@enum-told .given .1)) (sym (c@number-ok .ensures) ∙ ap passed (c@enum-told3 .given .1)) ∙ lent-short 2147483647 (s .self) (s .pass) (now (s .f)) (now (s .g)) (answered (openingGiven 2147483647 (s .self) (s .pass) (s .point) (now (s .f)) (now (s .g)))) (sym (c@both-long .ensures) ∙ ap passed (c@enum-told6 .given .1))))
 
 both-reduced-requires : tie.Need-both-reduced-requires
 both-reduced-requires c κs = search needs
@@ -80,19 +80,19 @@ refuse-requires-4 c κs = search needs
 returns-4 : tie.Need-returns-4
 unfolding openingCall
 returns-4 c =
-    let s = c .before .before .before .before .before .before .before .before .before .before .before .before .before .before .before .args in
-    rw (c .refuse4 .ensures) (sym (number-good 2147483647 (s .self) (s .pass) (now (s .f)) (now (s .g)) (openingTurn 2147483647 (s .self) (s .pass)) (isNonzero 2147483647 (s .point)) (lentFolds 2147483647 (s .self) (now (s .f)) (now (s .g)) (answered (openingGiven 2147483647 (s .self) (s .pass) (s .point) (now (s .f)) (now (s .g))))) (sym (c .before .before .before .before .before .before .before .before .before .before .before .before .openings-next .ensures) ∙ ap passed (c .before .before .before .before .before .before .before .before .before .before .enum-told .given .1)) (sym (c .before .before .before .before .before .before .before .before .before .number-ok .ensures) ∙ ap passed (c .before .before .before .before .before .before .before .enum-told3 .given .1)) ∙ lent-unreduced 2147483647 (s .self) (s .pass) (now (s .f)) (now (s .g)) (answered (openingGiven 2147483647 (s .self) (s .pass) (s .point) (now (s .f)) (now (s .g)))) (sym (c .before .before .before .before .before .before .both-long .ensures) ∙ ap passed (c .before .before .before .before .enum-told5 .given .1)) (sym (c .before .before .before .both-reduced .ensures) ∙ ap passed (c .before .enum-told8 .given .1))))
+    let s = c@args in
+    rw (c@refuse4 .ensures) (sym (number-good 2147483647 (s .self) (s .pass) (now (s .f)) (now (s .g)) (openingTurn 2147483647 (s .self) (s .pass)) (isNonzero 2147483647 (s .point)) (lentFolds 2147483647 (s .self) (now (s .f)) (now (s .g)) (answered (openingGiven 2147483647 (s .self) (s .pass) (s .point) (now (s .f)) (now (s .g))))) (sym (c@openings-next .ensures) ∙ ap passed (c@enum-told .given .1)) (sym (c@number-ok .ensures) ∙ ap passed (c@enum-told3 .given .1)) ∙ lent-unreduced 2147483647 (s .self) (s .pass) (now (s .f)) (now (s .g)) (answered (openingGiven 2147483647 (s .self) (s .pass) (s .point) (now (s .f)) (now (s .g)))) (sym (c@both-long .ensures) ∙ ap passed (c@enum-told5 .given .1)) (sym (c@both-reduced .ensures) ∙ ap passed (c@enum-told8 .given .1))))
 
 give-opening-requires : tie.Need-give-opening-requires
 give-opening-requires c κs =
-    let s = c .before .before .before .before .before .before .before .before .before .before .before .before .before .before .args in
-    fold-there 2147483647 (s .self) (s .pass) (now (s .f)) (now (s .g)) (sym (c .before .before .before .before .before .before .before .before .before .before .before .openings-next .ensures) ∙ ap passed (c .before .before .before .before .before .before .before .before .before .enum-told .given .1)) (sym (c .before .before .before .before .before .both-long .ensures) ∙ ap passed (c .before .before .before .enum-told5 .given .1))
+    let s = c@args in
+    fold-there 2147483647 (s .self) (s .pass) (now (s .f)) (now (s .g)) (sym (c@openings-next .ensures) ∙ ap passed (c@enum-told .given .1)) (sym (c@both-long .ensures) ∙ ap passed (c@enum-told5 .given .1))
 
 returns-5 : tie.Need-returns-5
 unfolding openingCall
 returns-5 c =
-    let s = c .before .before .before .before .before .before .before .before .before .before .before .before .before .before .before .args in
-    c .give-opening .ensures ∙ sym (number-good 2147483647 (s .self) (s .pass) (now (s .f)) (now (s .g)) (openingTurn 2147483647 (s .self) (s .pass)) (isNonzero 2147483647 (s .point)) (lentFolds 2147483647 (s .self) (now (s .f)) (now (s .g)) (answered (openingGiven 2147483647 (s .self) (s .pass) (s .point) (now (s .f)) (now (s .g))))) (sym (c .before .before .before .before .before .before .before .before .before .before .before .before .openings-next .ensures) ∙ ap passed (c .before .before .before .before .before .before .before .before .before .before .enum-told .given .1)) (sym (c .before .before .before .before .before .before .before .before .before .number-ok .ensures) ∙ ap passed (c .before .before .before .before .before .before .before .enum-told3 .given .1)) ∙ lent-read 2147483647 (s .self) (s .pass) (now (s .f)) (now (s .g)) (answered (openingGiven 2147483647 (s .self) (s .pass) (s .point) (now (s .f)) (now (s .g)))) (sym (c .before .before .before .before .before .before .both-long .ensures) ∙ ap passed (c .before .before .before .before .enum-told5 .given .1)) (sym (c .before .before .before .both-reduced .ensures) ∙ ap passed (c .before .enum-told7 .given .1)))
+    let s = c@args in
+    c@give-opening .ensures ∙ sym (number-good 2147483647 (s .self) (s .pass) (now (s .f)) (now (s .g)) (openingTurn 2147483647 (s .self) (s .pass)) (isNonzero 2147483647 (s .point)) (lentFolds 2147483647 (s .self) (now (s .f)) (now (s .g)) (answered (openingGiven 2147483647 (s .self) (s .pass) (s .point) (now (s .f)) (now (s .g))))) (sym (c@openings-next .ensures) ∙ ap passed (c@enum-told .given .1)) (sym (c@number-ok .ensures) ∙ ap passed (c@enum-told3 .given .1)) ∙ lent-read 2147483647 (s .self) (s .pass) (now (s .f)) (now (s .g)) (answered (openingGiven 2147483647 (s .self) (s .pass) (s .point) (now (s .f)) (now (s .g)))) (sym (c@both-long .ensures) ∙ ap passed (c@enum-told5 .given .1)) (sym (c@both-reduced .ensures) ∙ ap passed (c@enum-told7 .given .1)))
 
 pub opening-spec : {M : Type 1} → statement M
 opening-spec =

@@ -19,7 +19,7 @@ no-run-requires : tie.Need-no-run-requires
 no-run-requires c κs = search needs
 
 returns : tie.Need-returns
-returns c = rw (c .no-run .ensures) (ap startLeaves (sym (plain-count (c .before .before .before .before .args .items) (sym (c .before .before .before .count-fits .ensures) ∙ ap passed (c .before .enum-told2 .given .1)))))
+returns c = rw (c@no-run .ensures) (ap startLeaves (sym (plain-count (c@args .items) (sym (c@count-fits .ensures) ∙ ap passed (c@enum-told2 .given .1)))))
 
 rounds-of-requires : tie.Need-rounds-of-requires
 rounds-of-requires c κs = search needs
@@ -31,7 +31,7 @@ answer-requires : tie.Need-answer-requires
 answer-requires c κs = search needs
 
 returns-2 : tie.Need-returns-2
-returns-2 c = rw (c .answer .ensures, c .before .fresh .ensures, c .before .before .rounds-of .ensures) (ap startLeaves (sym (plain-answered (c .before .before .before .before .before .before .args .items) (sym (c .before .before .before .before .before .count-fits .ensures) ∙ ap passed (c .before .before .before .enum-told .given .1)))))
+returns-2 c = rw (c@answer .ensures, c@fresh .ensures, c@rounds-of .ensures) (ap startLeaves (sym (plain-answered (c@args .items) (sym (c@count-fits .ensures) ∙ ap passed (c@enum-told .given .1)))))
 
 pub start-plain-spec : {M : Type 1} → statement M
 start-plain-spec =

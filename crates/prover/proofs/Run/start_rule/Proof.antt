@@ -19,7 +19,7 @@ no-run-requires : tie.Need-no-run-requires
 no-run-requires c κs = search needs
 
 returns : tie.Need-returns
-returns c = rw (c .no-run .ensures) (ap startLeaves (sym (rule-count 2147483647 (c .before .before .before .before .args .rounds) (c .before .before .before .before .args .v) (sym (c .before .before .before .rounds-fit .ensures) ∙ ap passed (c .before .enum-told2 .given .1)))))
+returns c = rw (c@no-run .ensures) (ap startLeaves (sym (rule-count 2147483647 (c@args .rounds) (c@args .v) (sym (c@rounds-fit .ensures) ∙ ap passed (c@enum-told2 .given .1)))))
 
 nonzero-requires : tie.Need-nonzero-requires
 nonzero-requires c κs = search needs
@@ -34,7 +34,7 @@ no-run-requires-2 : tie.Need-no-run-requires-2
 no-run-requires-2 c κs = search needs
 
 returns-2 : tie.Need-returns-2
-returns-2 c = rw (c .no-run2 .ensures) (ap startLeaves (sym (rule-argument 2147483647 (c .before .before .before .before .before .before .before .args .rounds) (c .before .before .before .before .before .before .before .args .v) (sym (c .before .before .before .before .before .before .rounds-fit .ensures) ∙ ap passed (c .before .before .before .before .enum-told .given .1)) (sym (c .before .before .before .nonzero .ensures) ∙ ap passed (c .before .enum-told4 .given .1)))))
+returns-2 c = rw (c@no-run2 .ensures) (ap startLeaves (sym (rule-argument 2147483647 (c@args .rounds) (c@args .v) (sym (c@rounds-fit .ensures) ∙ ap passed (c@enum-told .given .1)) (sym (c@nonzero .ensures) ∙ ap passed (c@enum-told4 .given .1)))))
 
 size-of-requires : tie.Need-size-of-requires
 size-of-requires c κs = search needs
@@ -49,7 +49,7 @@ answer-requires : tie.Need-answer-requires
 answer-requires c κs = search needs
 
 returns-3 : tie.Need-returns-3
-returns-3 c = rw (c .answer .ensures, c .before .fresh .ensures, c .before .before .powers .ensures, c .before .before .before .size-of .ensures, rule-items 2147483647 (c .before .before .before .before .before .before .before .before .before .before .args .rounds) (c .before .before .before .before .before .before .before .before .before .before .args .v) (sym (c .before .before .before .before .before .before .before .before .before .rounds-fit .ensures) ∙ ap passed (c .before .before .before .before .before .before .before .enum-told .given .1))) (ap startLeaves (sym (rule-answered 2147483647 (c .before .before .before .before .before .before .before .before .before .before .args .rounds) (c .before .before .before .before .before .before .before .before .before .before .args .v) (sym (c .before .before .before .before .before .before .before .before .before .rounds-fit .ensures) ∙ ap passed (c .before .before .before .before .before .before .before .enum-told .given .1)) (sym (c .before .before .before .before .before .before .nonzero .ensures) ∙ ap passed (c .before .before .before .before .enum-told3 .given .1)))))
+returns-3 c = rw (c@answer .ensures, c@fresh .ensures, c@powers .ensures, c@size-of .ensures, rule-items 2147483647 (c@args .rounds) (c@args .v) (sym (c@rounds-fit .ensures) ∙ ap passed (c@enum-told .given .1))) (ap startLeaves (sym (rule-answered 2147483647 (c@args .rounds) (c@args .v) (sym (c@rounds-fit .ensures) ∙ ap passed (c@enum-told .given .1)) (sym (c@nonzero .ensures) ∙ ap passed (c@enum-told3 .given .1)))))
 
 pub start-rule-spec : {M : Type 1} → statement M
 start-rule-spec =

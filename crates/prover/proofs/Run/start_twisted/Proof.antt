@@ -20,7 +20,7 @@ no-run-requires : tie.Need-no-run-requires
 no-run-requires c κs = search needs
 
 returns : tie.Need-returns
-returns c = rw (c .no-run .ensures) (ap startLeaves (sym (twisted-count 2147483647 (c .before .before .before .before .before .args .items) (now (c .before .before .before .before .before .args .twists)) (sym (c .before .before .before .count-fits .ensures) ∙ ap passed (c .before .enum-told2 .given .1)))))
+returns c = rw (c@no-run .ensures) (ap startLeaves (sym (twisted-count 2147483647 (c@args .items) (now (c@args .twists)) (sym (c@count-fits .ensures) ∙ ap passed (c@enum-told2 .given .1)))))
 
 rounds-of-requires : tie.Need-rounds-of-requires
 rounds-of-requires c κs = search needs
@@ -38,7 +38,7 @@ no-run-requires-2 : tie.Need-no-run-requires-2
 no-run-requires-2 c κs = search needs
 
 returns-2 : tie.Need-returns-2
-returns-2 c = rw (c .no-run2 .ensures) (ap startLeaves (sym (twisted-argument 2147483647 (c .before .before .before .before .before .before .before .before .before .args .items) (now (c .before .before .before .before .before .before .before .before .before .args .twists)) (sym (c .before .before .before .before .before .before .before .count-fits .ensures) ∙ ap passed (c .before .before .before .before .before .enum-told .given .1)) (rw (c .before .before .before .before .rounds-of .ensures) at (sym (c .before .before .before .twists-fit .ensures) ∙ ap passed (c .before .enum-told4 .given .1))))))
+returns-2 c = rw (c@no-run2 .ensures) (ap startLeaves (sym (twisted-argument 2147483647 (c@args .items) (now (c@args .twists)) (sym (c@count-fits .ensures) ∙ ap passed (c@enum-told .given .1)) (rw (c@rounds-of .ensures) at (sym (c@twists-fit .ensures) ∙ ap passed (c@enum-told4 .given .1))))))
 
 cast-take15 : tie.Need-cast-take15
 cast-take15 c = search needs
@@ -53,7 +53,7 @@ answer-requires : tie.Need-answer-requires
 answer-requires c κs = search needs
 
 returns-3 : tie.Need-returns-3
-returns-3 c = rw (c .answer .ensures, c .before .fresh .ensures, c .before .before .take15 .ensures, c .before .before .before .before .before .before .rounds-of .ensures) (ap startLeaves (sym (twisted-answered 2147483647 (c .before .before .before .before .before .before .before .before .before .before .before .args .items) (now (c .before .before .before .before .before .before .before .before .before .before .before .args .twists)) (sym (c .before .before .before .before .before .before .before .before .before .count-fits .ensures) ∙ ap passed (c .before .before .before .before .before .before .before .enum-told .given .1)) (rw (c .before .before .before .before .before .before .rounds-of .ensures) at (sym (c .before .before .before .before .before .twists-fit .ensures) ∙ ap passed (c .before .before .before .enum-told3 .given .1))))))
+returns-3 c = rw (c@answer .ensures, c@fresh .ensures, c@take15 .ensures, c@rounds-of .ensures) (ap startLeaves (sym (twisted-answered 2147483647 (c@args .items) (now (c@args .twists)) (sym (c@count-fits .ensures) ∙ ap passed (c@enum-told .given .1)) (rw (c@rounds-of .ensures) at (sym (c@twists-fit .ensures) ∙ ap passed (c@enum-told3 .given .1))))))
 
 pub start-twisted-spec : {M : Type 1} → statement M
 start-twisted-spec =

@@ -21,8 +21,8 @@ refuse-requires c κs = search needs
 
 returns : tie.Need-returns
 returns c =
-    let s = c .before .before .before .before .before .before .args in
-    rw (c .refuse .ensures) (sym (change-never 2147483647 (s .self) (s .pass) (now (s .f)) (now (s .g)) (sym (c .before .before .before .may-change .ensures) ∙ ap passed (c .before .enum-told2 .given .1))))
+    let s = c@args in
+    rw (c@refuse .ensures) (sym (change-never 2147483647 (s .self) (s .pass) (now (s .f)) (now (s .g)) (sym (c@may-change .ensures) ∙ ap passed (c@enum-told2 .given .1))))
 
 both-long-requires : tie.Need-both-long-requires
 both-long-requires c κs = search needs
@@ -38,19 +38,19 @@ refuse-requires-2 c κs = search needs
 
 returns-2 : tie.Need-returns-2
 returns-2 c =
-    let s = c .before .before .before .before .before .before .before .before .before .args in
-    rw (c .refuse2 .ensures) (sym (change-short 2147483647 (s .self) (s .pass) (now (s .f)) (now (s .g)) (sym (c .before .before .before .before .before .before .may-change .ensures) ∙ ap passed (c .before .before .before .before .enum-told .given .1)) (sym (c .before .before .before .both-long .ensures) ∙ ap passed (c .before .enum-told4 .given .1))))
+    let s = c@args in
+    rw (c@refuse2 .ensures) (sym (change-short 2147483647 (s .self) (s .pass) (now (s .f)) (now (s .g)) (sym (c@may-change .ensures) ∙ ap passed (c@enum-told .given .1)) (sym (c@both-long .ensures) ∙ ap passed (c@enum-told4 .given .1))))
 
 pad-buffer-requires : tie.Need-pad-buffer-requires
 pad-buffer-requires c κs =
-    let s = c .before .before .before .before .before .before .before .before .before .args in
-    let h = formed 2147483647 (s .self) (s .pass) (holds _ _ (sym (c .before .before .before .before .before .before .may-change .ensures) ∙ ap passed (c .before .before .before .before .enum-told .given .1)) .0) in
+    let s = c@args in
+    let h = formed 2147483647 (s .self) (s .pass) (holds _ _ (sym (c@may-change .ensures) ∙ ap passed (c@enum-told .given .1)) .0) in
     (h .few, h .round)
 
 pad-buffer-requires-2 : tie.Need-pad-buffer-requires-2
 pad-buffer-requires-2 c κs =
-    let s = c .before .before .before .before .before .before .before .before .before .before .before .before .before .args in
-    let h = formed 2147483647 (s .self) (s .pass) (holds _ _ (sym (c .before .before .before .before .before .before .before .before .before .before .may-change .ensures) ∙ ap passed (c .before .before .before .before .before .before .before .before .enum-told .given .1)) .0) in
+    let s = c@args in
+    let h = formed 2147483647 (s .self) (s .pass) (holds _ _ (sym (c@may-change .ensures) ∙ ap passed (c@enum-told .given .1)) .0) in
     (h .few, h .round)
 
 change-pass-requires : tie.Need-change-pass-requires
@@ -67,8 +67,8 @@ same-length-2 c = search needs
 
 returns-3 : tie.Need-returns-3
 returns-3 c =
-    let s = c .before .before .before .before .before .before .before .before .before .before .before .before .before .before .before .before .before .before .args in
-    rw (c .before .before .before .before .before .before .before .before .pad-buffer .ensures, c .before .before .before .before .pad-buffer2 .ensures, c .answered .ensures, c .before .change-pass .ensures) (sym (change-opened 2147483647 (s .self) (s .pass) (now (s .f)) (now (s .g)) (sym (c .before .before .before .before .before .before .before .before .before .before .before .before .before .before .before .may-change .ensures) ∙ ap passed (c .before .before .before .before .before .before .before .before .before .before .before .before .before .enum-told .given .1)) (sym (c .before .before .before .before .before .before .before .before .before .before .before .before .both-long .ensures) ∙ ap passed (c .before .before .before .before .before .before .before .before .before .before .enum-told3 .given .1))))
+    let s = c@args in
+    rw (c@pad-buffer .ensures, c@pad-buffer2 .ensures, c@answered .ensures, c@change-pass .ensures) (sym (change-opened 2147483647 (s .self) (s .pass) (now (s .f)) (now (s .g)) (sym (c@may-change .ensures) ∙ ap passed (c@enum-told .given .1)) (sym (c@both-long .ensures) ∙ ap passed (c@enum-told3 .given .1))))
 
 pub to-full-spec : {M : Type 1} → statement M
 to-full-spec =

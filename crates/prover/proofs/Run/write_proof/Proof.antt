@@ -25,9 +25,9 @@ refuse-requires c κs = search needs
 returns : tie.Need-returns
 unfolding writtenIn
 returns c =
-    let s = c .before .before .before .before .before .args in
-    let e = write-never 2147483647 (s .self) (s .pass) (now (s .file)) (sym (c .before .before .before .may-write .ensures) ∙ ap passed (c .before .enum-told2 .given .1)) in
-    (c .refuse .ensures ∙ ap (writtenStep (s .self) (s .pass)) (sym e), ap (λ o. writtenIn o (proofOf (s .self)) (now (s .file))) (sym e))
+    let s = c@args in
+    let e = write-never 2147483647 (s .self) (s .pass) (now (s .file)) (sym (c@may-write .ensures) ∙ ap passed (c@enum-told2 .given .1)) in
+    (c@refuse .ensures ∙ ap (writtenStep (s .self) (s .pass)) (sym e), ap (λ o. writtenIn o (proofOf (s .self)) (now (s .file))) (sym e))
 
 write-proof-requires : tie.Need-write-proof-requires
 write-proof-requires c κs = search needs
@@ -40,18 +40,18 @@ same-length c = search needs
 
 -- the total, as the code passes it on
 kept : (c : tie.After-struct-told)
-    → toZ w64 (ofZ w64 (c .before .before .before .before .before .before .before .args .self .total))
-    ≡ c .before .before .before .before .before .before .before .args .self .total
+    → toZ w64 (ofZ w64 (c@args .self .total))
+    ≡ c@args .self .total
 kept c = search needs
 
 returns-2 : tie.Need-returns-2
 returns-2 c =
-    let s = c .before .before .before .before .before .before .before .before .before .before .before .args in
-    let e = write-then 2147483647 (s .self) (s .pass) (now (s .file)) (sym (c .before .before .before .before .before .before .before .before .before .may-write .ensures) ∙ ap passed (c .before .before .before .before .before .before .before .enum-told .given .1)) in
+    let s = c@args in
+    let e = write-then 2147483647 (s .self) (s .pass) (now (s .file)) (sym (c@may-write .ensures) ∙ ap passed (c@enum-told .given .1)) in
     let z = s .self .total in
     let t : toZ w64 (ofZ w64 z) ≡ z = kept (c .before .before .before .before) in
-    let w = simp t at (c .before .before .before .write-proof .ensures) in
-    (c .written-step .ensures ∙ ap (writtenStep (s .self) (s .pass)) (w .0 ∙ sym e), w .1 ∙ ap (λ o. writtenIn o (proofOf (s .self)) (now (s .file))) (sym e))
+    let w = simp t at (c@write-proof .ensures) in
+    (c@written-step .ensures ∙ ap (writtenStep (s .self) (s .pass)) (w .0 ∙ sym e), w .1 ∙ ap (λ o. writtenIn o (proofOf (s .self)) (now (s .file))) (sym e))
 
 pub write-proof-spec : {M : Type 1} → statement M
 write-proof-spec =

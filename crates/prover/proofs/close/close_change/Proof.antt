@@ -15,7 +15,7 @@ in-full-requires : tie.Need-in-full-requires
 in-full-requires c κs = search needs
 
 returns : tie.Need-returns
-returns c = rw (c .answered .ensures, c .before .empty-pass .ensures, c .before .before .in-full .ensures)
+returns c = rw (c@answered .ensures, c@empty-pass .ensures, c@in-full .ensures)
 
 pub close-change-spec : {M : Type 1} → statement M
 close-change-spec = tie.close (tie.spec in-full-requires empty-pass-requires answered-requires returns)

@@ -15,7 +15,7 @@ answered-requires : tie.Need-answered-requires
 answered-requires c κs = search needs
 
 returns : tie.Need-returns
-returns c = rw (c .answered .ensures, c .before .keep-ends .ensures)
+returns c = rw (c@answered .ensures, c@keep-ends .ensures)
 
 pub give-ends-spec : {M : Type 1} → statement M
 give-ends-spec =

@@ -6,16 +6,16 @@ full-formed-requires : tie.Need-full-formed-requires
 full-formed-requires c κs = search needs
 
 returns : tie.Need-returns
-returns c = simp (c .if1 .left, ← c .before .full-formed .ensures)
+returns c = simp (c@if1 .left, ← c@full-formed .ensures)
 
 is-message-requires : tie.Need-is-message-requires
 is-message-requires c κs = search needs
 
 returns-2 : tie.Need-returns-2
-returns-2 c = simp (c .if2 .taken, ← c .before .is-message .ensures, c .before .before .if1 .taken, ← c .before .before .before .full-formed .ensures)
+returns-2 c = simp (c@if2 .taken, ← c@is-message .ensures, c@if1 .taken, ← c@full-formed .ensures)
 
 returns-3 : tie.Need-returns-3
-returns-3 c = simp (c .if2 .left, ← c .before .is-message .ensures, c .before .before .if1 .taken, ← c .before .before .before .full-formed .ensures)
+returns-3 c = simp (c@if2 .left, ← c@is-message .ensures, c@if1 .taken, ← c@full-formed .ensures)
 
 pub message-next-spec : {M : Type 1} → statement M
 message-next-spec =

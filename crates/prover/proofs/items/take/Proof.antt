@@ -17,7 +17,7 @@ answered-requires : tie.Need-answered-requires
 answered-requires c κs = search needs
 
 returns : tie.Need-returns
-returns c = rw (c .answered .ensures, c .before .sum .ensures, c .before .before .before .before .twisted .ensures) (sym (takes-sum _ _ _ _ _ _ (sym (c .before .before .before .is-total .ensures) ∙ c .before .before .if1 .taken)))
+returns c = rw (c@answered .ensures, c@sum .ensures, c@twisted .ensures) (sym (takes-sum _ _ _ _ _ _ (sym (c@is-total .ensures) ∙ c@if1 .taken)))
 
 climb-requires : tie.Need-climb-requires
 climb-requires c κs = search needs
@@ -41,7 +41,7 @@ same-length-2 : tie.Need-same-length-2
 same-length-2 c = search needs
 
 returns-2 : tie.Need-returns-2
-returns-2 c = rw (c .before .before .before .before .before .before .before .place .ensures .0, c .before .before .before .before .before .before .before .place .ensures .1, c .answered2 .ensures, c .before .with-kernel .ensures, c .before .before .one-more .ensures, c .before .before .before .before .before .before .before .before .before .before .before .climb .ensures, c .before .before .before .before .before .before .before .before .before .before .before .before .before .before .twisted .ensures) (sym (takes-climb _ _ _ _ _ _ (sym (c .before .before .before .before .before .before .before .before .before .before .before .before .before .is-total .ensures) ∙ c .before .before .before .before .before .before .before .before .before .before .before .before .if1 .left)))
+returns-2 c = rw (c@place .ensures .0, c@place .ensures .1, c@answered2 .ensures, c@with-kernel .ensures, c@one-more .ensures, c@climb .ensures, c@twisted .ensures) (sym (takes-climb _ _ _ _ _ _ (sym (c@is-total .ensures) ∙ c@if1 .left)))
 
 pub take-spec : {M : Type 1} → statement M
 take-spec =

@@ -8,7 +8,7 @@ use Rattle.prover.proofs.items.twisted.Tie as tie
 
 returns : tie.Need-returns
 unfolding entering
-returns c = simp (c .if1 .taken)
+returns c = simp (c@if1 .taken)
 
 sub-index : tie.Need-sub-index
 sub-index c = search needs
@@ -25,10 +25,10 @@ mul-requires c κs = search needs
 returns-2 : tie.Need-returns-2
 unfolding entering
 returns-2 c =
-    let s = c .before .before .before .before .before .before .args in
+    let s = c@args in
     let m : min (s .run .rounds) 15 ≡ s .run .rounds = omega arith in
-    let w = simp m at (c .before .weight-of .ensures) in
-    rw (c .mul .ensures, w, c .before .before .before .before .before .if1 .left)
+    let w = simp m at (c@weight-of .ensures) in
+    rw (c@mul .ensures, w, c@if1 .left)
 
 pub twisted-spec : {M : Type 1} → statement M
 twisted-spec =

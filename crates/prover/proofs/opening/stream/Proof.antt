@@ -44,17 +44,17 @@ loop-less c = search needs
 
 loop-again : tie.Need-loop-again Inv-loop μ-loop
 loop-again c =
-    let s = c .before .before .before .before .before .before .before .before .before .args in
-    let l = c .before .before .before .before .before .loop in
-    (omega arith, ap (λ e. streamed 2147483647 (s .challenges) (s .last) (s .points) (now (s .f)) (now (s .g)) (l .i - 1) (e .kernel)) (c .before .enter .ensures) ∙ sym (place-streamed 2147483647 (s .challenges) (s .last) (s .points) (now (s .f)) (now (s .g)) (l .i) (l .k) (c .before .before .before .before .loop-test .taken)) ∙ l .inv .1)
+    let s = c@args in
+    let l = c@loop in
+    (omega arith, ap (λ e. streamed 2147483647 (s .challenges) (s .last) (s .points) (now (s .f)) (now (s .g)) (l .i - 1) (e .kernel)) (c@enter .ensures) ∙ sym (place-streamed 2147483647 (s .challenges) (s .last) (s .points) (now (s .f)) (now (s .g)) (l .i) (l .k) (c@loop-test .taken)) ∙ l .inv .1)
 
 returns : tie.Need-returns Inv-loop μ-loop
 unfolding streamed
 returns c =
-    let s = c .before .before .before .before .before .args in
-    let l = c .before .loop in
+    let s = c@args in
+    let l = c@loop in
     let none : l .i ≡ 0 = omega arith in
-    sym (ap (λ m. streamed 2147483647 (s .challenges) (s .last) (s .points) (now (s .f)) (now (s .g)) m (l .k)) none) ∙ l .inv .1 ∙ ap (streamed 2147483647 (s .challenges) (s .last) (s .points) (now (s .f)) (now (s .g)) (s .count)) (c .before .before .empty .ensures)
+    sym (ap (λ m. streamed 2147483647 (s .challenges) (s .last) (s .points) (now (s .f)) (now (s .g)) m (l .k)) none) ∙ l .inv .1 ∙ ap (streamed 2147483647 (s .challenges) (s .last) (s .points) (now (s .f)) (now (s .g)) (s .count)) (c@empty .ensures)
 
 pub stream-spec : {M : Type 1} → statement M
 stream-spec =

@@ -9,7 +9,7 @@ answered-requires : tie.Need-answered-requires
 answered-requires c κs = search needs
 
 returns : tie.Need-returns
-returns c = rw (c .answered .ensures, c .before .shut .ensures)
+returns c = rw (c@answered .ensures, c@shut .ensures)
 
 pub answer-spec : {M : Type 1} → statement M
 answer-spec = tie.close (tie.spec shut-requires answered-requires returns)

@@ -12,7 +12,7 @@ refuse-requires : tie.Need-refuse-requires
 refuse-requires c κs = search needs
 
 returns : tie.Need-returns
-returns c = rw (c .refuse .ensures, c .before .shut .ensures, c .before .before .fresh .ensures)
+returns c = rw (c@refuse .ensures, c@shut .ensures, c@fresh .ensures)
 
 pub no-run-spec : {M : Type 1} → statement M
 no-run-spec = tie.close (tie.spec fresh-requires shut-requires refuse-requires returns)
