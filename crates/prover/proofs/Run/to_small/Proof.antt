@@ -8,7 +8,11 @@ refuse-requires c κs = search needs
 
 returns : tie.Need-returns
 unfolding toSmallCall
-returns c = rw (c@refuse .ensures)
+returns c = rw (c .refuse .ensures)
 
 pub to-small-spec : {M : Type 1} → statement M
-to-small-spec = tie.close (tie.spec refuse-requires returns)
+to-small-spec =
+    tie.close
+    (tie.spec
+    refuse-requires
+    returns)

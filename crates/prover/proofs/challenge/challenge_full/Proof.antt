@@ -29,7 +29,7 @@ same-length-2 c = search needs
 
 returns : tie.Need-returns
 unfolding challengedFull
-returns c = rw (c@fold .ensures, c@fold2 .ensures, c@answered .ensures, c@keep-challenge .ensures, c@fold-size .ensures)
+returns c = rw (c .before .before .before .before .before .before .before .before .fold .ensures, c .before .before .before .before .fold2 .ensures, c .answered .ensures, c .before .keep-challenge .ensures, c .before .before .before .before .before .before .before .before .before .before .fold-size .ensures)
 
 pub challenge-full-spec : {M : Type 1} → statement M
 challenge-full-spec =

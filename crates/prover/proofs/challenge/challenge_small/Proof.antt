@@ -9,7 +9,12 @@ answered-requires : tie.Need-answered-requires
 answered-requires c κs = search needs
 
 returns : tie.Need-returns
-returns c = rw (c@answered .ensures, c@keep-challenge .ensures)
+returns c = rw (c .answered .ensures, c .before .keep-challenge .ensures)
 
 pub challenge-small-spec : {M : Type 1} → statement M
-challenge-small-spec = tie.close (tie.spec keep-challenge-requires answered-requires returns)
+challenge-small-spec =
+    tie.close
+    (tie.spec
+    keep-challenge-requires
+    answered-requires
+    returns)

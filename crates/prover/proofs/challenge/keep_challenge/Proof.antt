@@ -22,9 +22,9 @@ round-or-ends-requires c κs = search needs
 
 returns : tie.Need-returns
 returns c =
-    let z = c@args .run .total in
+    let z = c .before .before .before .before .before .before .before .before .args .run .total in
     let t : toZ w64 (ofZ w64 z) ≡ z = search needs in
-    rw (t, c@round-or-ends .ensures)
+    rw (t, c .before .before .before .round-or-ends .ensures)
 
 pub keep-challenge-spec : {M : Type 1} → statement M
 keep-challenge-spec =

@@ -30,7 +30,7 @@ returns-4 : tie.Need-returns-4
 returns-4 c = search needs
 
 returns-5 : tie.Need-returns-5
-returns-5 c = simp (c@enum-told5 .given .1)
+returns-5 c = simp (c .enum-told5 .given .1)
 
 pub change-at-spec : {M : Type 1} → statement M
 change-at-spec =

@@ -18,7 +18,7 @@ new-pass-requires : tie.Need-new-pass-requires
 new-pass-requires c κs = search needs
 
 returns : tie.Need-returns
-returns c = rw (c@new-pass .ensures, c@no-points .ensures, c@padding .ensures, c@padding-of .ensures, c@level-of .ensures)
+returns c = rw (c .new-pass .ensures, c .before .no-points .ensures, c .before .before .padding .ensures, c .before .before .before .padding-of .ensures, c .before .before .before .before .level-of .ensures)
 
 pub change-pass-spec : {M : Type 1} → statement M
 change-pass-spec =

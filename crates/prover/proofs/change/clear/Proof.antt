@@ -2,9 +2,9 @@ use mathlib.Core.Path.{_≡_, refl, sym, ap, _∙_}
 use Prim.Native.Nat.{_+_, _-_, _≤_}
 use native.Mathlib.Numerals.{add-one}
 use native.Mathlib.Omega.{arith}
-use borrow.Author.Needs.{needs}
 use lib.ListN.{length, set, length-set}
 use Rattle.prover.specs.Change.{cleared}
+use borrow.Author.Needs.{needs}
 use Rattle.prover.proofs.change.clear.Statement.{statement}
 use Rattle.prover.proofs.change.clear.Tie as tie
 
@@ -33,18 +33,18 @@ loop-less c = omega arith
 loop-again : tie.Need-loop-again Inv-loop μ-loop
 unfolding cleared
 loop-again c =
-    let l = c@loop in
-    let a = c@args in (
+    let l = c .before .before .before .before .before .loop in
+    let a = c .before .before .before .before .before .before .before .args in (
       omega arith,
-      ap length (c@write .ensures) ∙ simp length-set (l .inv .1),
-      c@write .ensures ∙ ap (λ xs. set xs (a .from + l .k) 0) (l .inv .2) ∙ ap (λ m. cleared (a .from) m (a .v .now)) (sym (add-one (l .k))),
+      ap length (c .before .before .write .ensures) ∙ simp length-set (l .inv .1),
+      c .before .before .write .ensures ∙ ap (λ xs. set xs (a .from + l .k) 0) (l .inv .2) ∙ ap (λ m. cleared (a .from) m (a .v .now)) (sym (add-one (l .k))),
     )
 
 same-length : tie.Need-same-length Inv-loop μ-loop
-same-length c = c@loop .inv .1
+same-length c = c .before .loop .inv .1
 
 returns : tie.Need-returns Inv-loop μ-loop
-returns c = let e : c@loop .k ≡ c@args .count = omega arith in c@loop .inv .2 ∙ ap (λ m. cleared (c@args .from) m (c@args .v .now)) e
+returns c = let e : c .before .loop .k ≡ c .before .before .before .args .count = omega arith in c .before .loop .inv .2 ∙ ap (λ m. cleared (c .before .before .before .args .from) m (c .before .before .before .args .v .now)) e
 
 pub clear-spec : {M : Type 1} → statement M
 clear-spec =

@@ -12,7 +12,13 @@ new-pass-requires : tie.Need-new-pass-requires
 new-pass-requires c κs = search needs
 
 returns : tie.Need-returns
-returns c = rw (c@new-pass .ensures, c@empty .ensures, c@no-points .ensures)
+returns c = rw (c .new-pass .ensures, c .before .empty .ensures, c .before .before .no-points .ensures)
 
 pub empty-pass-spec : {M : Type 1} → statement M
-empty-pass-spec = tie.close (tie.spec no-points-requires empty-requires new-pass-requires returns)
+empty-pass-spec =
+    tie.close
+    (tie.spec
+    no-points-requires
+    empty-requires
+    new-pass-requires
+    returns)

@@ -6,22 +6,22 @@ well-formed-requires : tie.Need-well-formed-requires
 well-formed-requires c κs = search needs
 
 returns : tie.Need-returns
-returns c = simp (c@if1 .left, ← c@well-formed .ensures)
+returns c = simp (c .if1 .left, ← c .before .well-formed .ensures)
 
 is-small-requires : tie.Need-is-small-requires
 is-small-requires c κs = search needs
 
 returns-2 : tie.Need-returns-2
-returns-2 c = simp (c@if2 .left, ← c@is-small .ensures, c@if1 .taken, ← c@well-formed .ensures)
+returns-2 c = simp (c .if2 .left, ← c .before .is-small .ensures, c .before .before .if1 .taken, ← c .before .before .before .well-formed .ensures)
 
 change-at-requires : tie.Need-change-at-requires
 change-at-requires c κs = search needs
 
-returns-3 : tie.Need-returns-3
-returns-3 c = simp (c@if3 .taken, ← c@change-at .ensures, c@if2 .taken, ← c@is-small .ensures, c@if1 .taken, ← c@well-formed .ensures)
+pass-if-requires : tie.Need-pass-if-requires
+pass-if-requires c κs = search needs
 
-returns-4 : tie.Need-returns-4
-returns-4 c = simp (c@if3 .left, ← c@change-at .ensures, c@if2 .taken, ← c@is-small .ensures, c@if1 .taken, ← c@well-formed .ensures)
+returns-3 : tie.Need-returns-3
+returns-3 c = simp (c .pass-if .ensures, c .before .change-at .ensures, c .before .before .before .if2 .taken, ← c .before .before .before .before .is-small .ensures, c .before .before .before .before .before .if1 .taken, ← c .before .before .before .before .before .before .well-formed .ensures)
 
 pub may-change-spec : {M : Type 1} → statement M
 may-change-spec =
@@ -32,5 +32,5 @@ may-change-spec =
     is-small-requires
     returns-2
     change-at-requires
-    returns-3
-    returns-4)
+    pass-if-requires
+    returns-3)

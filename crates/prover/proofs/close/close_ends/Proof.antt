@@ -18,7 +18,7 @@ answered-requires : tie.Need-answered-requires
 answered-requires c κs = search needs
 
 returns : tie.Need-returns
-returns c = rw (c@answered .ensures, c@empty-pass .ensures, c@keep-ends .ensures)
+returns c = rw (c .answered .ensures, c .before .empty-pass .ensures, c .before .before .keep-ends .ensures)
 
 pub close-ends-spec : {M : Type 1} → statement M
 close-ends-spec =

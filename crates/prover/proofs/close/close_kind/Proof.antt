@@ -12,7 +12,7 @@ enum-told-2 : tie.Need-enum-told-2
 enum-told-2 c = search needs
 
 finish-requires : tie.Need-finish-requires
-finish-requires c κs = c@pre
+finish-requires c κs = c .before .before .pre
 
 enum-told-3 : tie.Need-enum-told-3
 enum-told-3 c = search needs
@@ -21,13 +21,13 @@ close-change-requires : tie.Need-close-change-requires
 close-change-requires c κs = search needs
 
 returns : tie.Need-returns
-returns c = rw (c@refuse .ensures, c@enum-told .given .1)
+returns c = rw (c .refuse .ensures, c .before .enum-told .given .1)
 
 returns-2 : tie.Need-returns-2
-returns-2 c = rw (c@finish .ensures, c@enum-told2 .given .1)
+returns-2 c = rw (c .finish .ensures, c .before .enum-told2 .given .1)
 
 returns-3 : tie.Need-returns-3
-returns-3 c = rw (c@close-change .ensures, c@enum-told3 .given .1)
+returns-3 c = rw (c .close-change .ensures, c .before .enum-told3 .given .1)
 
 pub close-kind-spec : {M : Type 1} → statement M
 close-kind-spec =

@@ -12,8 +12,13 @@ answered-requires : tie.Need-answered-requires
 answered-requires c κs = search needs
 
 returns : tie.Need-returns
-returns c = rw (c@answered .ensures, c@empty-pass .ensures, c@keep-message .ensures)
+returns c = rw (c .answered .ensures, c .before .empty-pass .ensures, c .before .before .keep-message .ensures)
 
 pub close-message-spec : {M : Type 1} → statement M
 close-message-spec =
-    tie.close (tie.spec keep-message-requires empty-pass-requires answered-requires returns)
+    tie.close
+    (tie.spec
+    keep-message-requires
+    empty-pass-requires
+    answered-requires
+    returns)

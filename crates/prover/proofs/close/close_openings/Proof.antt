@@ -9,7 +9,12 @@ empty-pass-requires : tie.Need-empty-pass-requires
 empty-pass-requires c κs = search needs
 
 returns : tie.Need-returns
-returns c = rw (c@empty-pass .ensures, c@values-of .ensures)
+returns c = rw (c .empty-pass .ensures, c .before .values-of .ensures)
 
 pub close-openings-spec : {M : Type 1} → statement M
-close-openings-spec = tie.close (tie.spec values-of-requires empty-pass-requires returns)
+close-openings-spec =
+    tie.close
+    (tie.spec
+    values-of-requires
+    empty-pass-requires
+    returns)

@@ -16,9 +16,9 @@ answered-requires c κs = search needs
 
 returns : tie.Need-returns
 returns c =
-    let z = c@args .pass .total in
+    let z = c .before .before .before .before .before .before .before .before .before .args .pass .total in
     let t : toZ w64 (ofZ w64 z) ≡ z = search needs in
-    rw (c@answered .ensures, c@empty-pass .ensures, c@round-or-ends .ensures, t, c@if1 .taken)
+    rw (c .answered .ensures, c .before .before .before .before .before .before .empty-pass .ensures, c .before .before .before .before .before .before .before .round-or-ends .ensures, t, c .before .before .before .before .before .if1 .taken)
 
 gone-to-requires : tie.Need-gone-to-requires
 gone-to-requires c κs = search needs
@@ -29,11 +29,11 @@ answered-requires-2 c κs = search needs
 returns-2 : tie.Need-returns-2
 returns-2 c =
     rw (
-      c@answered2 .ensures,
-      c@gone-to .ensures,
-      c@empty-pass .ensures,
-      c@round-or-ends .ensures,
-      c@if1 .left,
+      c .answered2 .ensures,
+      c .before .gone-to .ensures,
+      c .before .before .before .empty-pass .ensures,
+      c .before .before .before .before .round-or-ends .ensures,
+      c .before .before .if1 .left,
     )
 
 pub close-total-spec : {M : Type 1} → statement M

@@ -17,9 +17,9 @@ enum-told-2 c = search needs
 
 close-message-requires : tie.Need-close-message-requires
 close-message-requires c κs =
-    let r = c@args .run in
-    let h = simp (c@enum-told2 .given .1) at (c@pre .0) in
-    omega (arith, ltb-true (r .round) (r .rounds) h)
+    let r = c .before .before .args .run in
+    let h = simp (c .enum-told2 .given .1) at (c .before .before .pre .0) in
+    omega (arith, ltb-true (r .round) (r .start .rounds) h)
 
 enum-told-3 : tie.Need-enum-told-3
 enum-told-3 c = search needs
@@ -40,19 +40,19 @@ close-openings-requires : tie.Need-close-openings-requires
 close-openings-requires c κs = search needs
 
 returns : tie.Need-returns
-returns c = rw (c@close-total .ensures, c@enum-told .given .1)
+returns c = rw (c .close-total .ensures, c .before .enum-told .given .1)
 
 returns-2 : tie.Need-returns-2
-returns-2 c = rw (c@close-message .ensures, c@enum-told2 .given .1)
+returns-2 c = rw (c .close-message .ensures, c .before .enum-told2 .given .1)
 
 returns-3 : tie.Need-returns-3
-returns-3 c = rw (c@refuse .ensures, c@enum-told3 .given .1)
+returns-3 c = rw (c .refuse .ensures, c .before .enum-told3 .given .1)
 
 returns-4 : tie.Need-returns-4
-returns-4 c = rw (c@close-ends .ensures, c@enum-told4 .given .1)
+returns-4 c = rw (c .close-ends .ensures, c .before .enum-told4 .given .1)
 
 returns-5 : tie.Need-returns-5
-returns-5 c = rw (c@close-openings .ensures, c@enum-told5 .given .1)
+returns-5 c = rw (c .close-openings .ensures, c .before .enum-told5 .given .1)
 
 pub finish-spec : {M : Type 1} → statement M
 finish-spec =

@@ -18,19 +18,19 @@ enum-told-5 : tie.Need-enum-told-5
 enum-told-5 c = search needs
 
 returns : tie.Need-returns
-returns c = simp (c@enum-told .given .1)
+returns c = simp (c .enum-told .given .1)
 
 returns-2 : tie.Need-returns-2
-returns-2 c = simp (c@enum-told2 .given .1)
+returns-2 c = simp (c .enum-told2 .given .1)
 
 returns-3 : tie.Need-returns-3
-returns-3 c = simp (c@enum-told3 .given .1)
+returns-3 c = simp (c .enum-told3 .given .1)
 
 returns-4 : tie.Need-returns-4
-returns-4 c = simp (c@enum-told4 .given .1)
+returns-4 c = simp (c .enum-told4 .given .1)
 
 returns-5 : tie.Need-returns-5
-returns-5 c = simp (c@enum-told5 .given .1)
+returns-5 c = simp (c .enum-told5 .given .1)
 
 pub round-fits-spec : {M : Type 1} → statement M
 round-fits-spec =

@@ -9,25 +9,25 @@ use Rattle.prover.proofs.formed.run_formed.Tie as tie
 
 returns : tie.Need-returns
 unfolding runFormed
-returns c = simp (lt-ltb _ _ (c@if1 .taken))
+returns c = simp (lt-ltb _ _ (c .if1 .taken))
 
 returns-2 : tie.Need-returns-2
 unfolding runFormed
-returns-2 c = simp (lt-ltb _ _ (c@if2 .taken), le-ltb _ _ (c@if1 .left))
+returns-2 c = simp (lt-ltb _ _ (c .if2 .taken), le-ltb _ _ (c .before .before .if1 .left))
 
 rounds-of-requires : tie.Need-rounds-of-requires
 rounds-of-requires c κs = search needs
 
 returns-3 : tie.Need-returns-3
 unfolding runFormed
-returns-3 c = simp (ne-eqb _ _ (c@if3 .taken), ← c@rounds-of .ensures, le-ltb _ _ (c@if2 .left), le-ltb _ _ (c@if1 .left))
+returns-3 c = simp (ne-eqb _ _ (c .if3 .taken), ← c .before .before .rounds-of .ensures, le-ltb _ _ (c .before .before .before .if2 .left), le-ltb _ _ (c .before .before .before .before .before .if1 .left))
 
 round-fits-requires : tie.Need-round-fits-requires
 round-fits-requires c κs = search needs
 
 returns-4 : tie.Need-returns-4
 unfolding runFormed
-returns-4 c = simp (c@if4 .left, ← c@round-fits .ensures, eq-eqb _ _ (c@if3 .left), ← c@rounds-of .ensures, le-ltb _ _ (c@if2 .left), le-ltb _ _ (c@if1 .left))
+returns-4 c = simp (c .if4 .left, ← c .before .round-fits .ensures, eq-eqb _ _ (c .before .before .if3 .left), ← c .before .before .before .before .rounds-of .ensures, le-ltb _ _ (c .before .before .before .before .before .if2 .left), le-ltb _ _ (c .before .before .before .before .before .before .before .if1 .left))
 
 within-requires : tie.Need-within-requires
 within-requires c κs = search needs
@@ -35,10 +35,10 @@ within-requires c κs = search needs
 returns-5 : tie.Need-returns-5
 unfolding runFormed
 returns-5 c =
-    let z = c@args .run .total in
+    let z = c .before .before .before .before .before .before .before .before .before .before .before .before .args .run .total in
     let t : toZ w64 (ofZ w64 z) ≡ z = search needs in
-    let w = simp t at (c@within .ensures) in
-    simp (c@if4 .taken, ← c@round-fits .ensures, eq-eqb _ _ (c@if3 .left), ← c@rounds-of .ensures, le-ltb _ _ (c@if2 .left), le-ltb _ _ (c@if1 .left), w)
+    let w = simp t at (c .within .ensures) in
+    simp (c .before .before .if4 .taken, ← c .before .before .before .round-fits .ensures, eq-eqb _ _ (c .before .before .before .before .if3 .left), ← c .before .before .before .before .before .before .rounds-of .ensures, le-ltb _ _ (c .before .before .before .before .before .before .before .if2 .left), le-ltb _ _ (c .before .before .before .before .before .before .before .before .before .if1 .left), w)
 
 pub run-formed-spec : {M : Type 1} → statement M
 run-formed-spec =

@@ -11,11 +11,17 @@ pass-formed-requires c κs = search needs
 
 returns : tie.Need-returns
 unfolding wellFormed
-returns c = simp (c@pass-formed .ensures, c@if1 .taken, ← c@run-formed .ensures)
+returns c = simp (c .pass-formed .ensures, c .before .if1 .taken, ← c .before .before .run-formed .ensures)
 
 returns-2 : tie.Need-returns-2
 unfolding wellFormed
-returns-2 c = simp (c@if1 .left, ← c@run-formed .ensures)
+returns-2 c = simp (c .if1 .left, ← c .before .run-formed .ensures)
 
 pub well-formed-spec : {M : Type 1} → statement M
-well-formed-spec = tie.close (tie.spec run-formed-requires pass-formed-requires returns returns-2)
+well-formed-spec =
+    tie.close
+    (tie.spec
+    run-formed-requires
+    pass-formed-requires
+    returns
+    returns-2)

@@ -20,7 +20,7 @@ answered-requires c κs = search needs
 
 returns : tie.Need-returns
 unfolding messageGiven
-returns c = rw (c@answered .ensures, c@keep-message .ensures, ← c@fold-size .ensures, ← c@message .ensures)
+returns c = rw (c .answered .ensures, c .before .keep-message .ensures, ← c .before .before .before .fold-size .ensures, ← c .before .before .message .ensures)
 
 pub give-message-spec : {M : Type 1} → statement M
 give-message-spec =

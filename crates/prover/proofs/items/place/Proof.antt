@@ -9,8 +9,8 @@ place-done-requires c κs = search needs
 
 returns : tie.Need-returns
 returns c =
-    let e = c@place-done .ensures in
-    let l = c@if1 .left in
+    let e = c .before .place-done .ensures in
+    let l = c .if1 .left in
     (simp (← e, l), simp (← e, l))
 
 place-of-requires : tie.Need-place-of-requires
@@ -30,9 +30,9 @@ same-length-2 c = search needs
 
 returns-2 : tie.Need-returns-2
 returns-2 c =
-    let e = c@place-done .ensures in
-    let t = c@if1 .taken in
-    (simp (← e, t, ← c@place-of .ensures) (c@write .ensures), simp (← e, t, ← c@place-of .ensures) (c@write2 .ensures))
+    let e = c .before .before .before .before .before .before .before .before .before .before .place-done .ensures in
+    let t = c .before .before .before .before .before .before .before .before .before .if1 .taken in
+    (simp (← e, t, ← c .before .before .before .before .before .before .before .before .place-of .ensures) (c .before .before .before .before .before .before .write .ensures), simp (← e, t, ← c .before .before .before .before .before .before .before .before .place-of .ensures) (c .before .before .write2 .ensures))
 
 pub place-spec : {M : Type 1} → statement M
 place-spec =

@@ -17,16 +17,16 @@ padding-of-requires : tie.Need-padding-of-requires
 padding-of-requires c κs = search needs
 
 add-q : tie.Need-add-q
-add-q c = record { fits = omega (arith, padding-small (c@args .run) (c@pre .0), c@padding-of .ensures) }
+add-q c = record { fits = omega (arith, padding-small (c .before .before .before .before .before .args .run) (c .before .before .before .before .before .pre .0), c .before .padding-of .ensures) }
 
 shr-q : tie.Need-shr-q
-shr-q c = omega (arith, c@level-of .ensures, level-at-most (c@args .run .rounds) (c@args .run .round) (c@args .run .next) (c@args .pass .kind) (c@pre .1))
+shr-q c = omega (arith, c .before .before .before .level-of .ensures, level-at-most (c .before .before .before .before .before .args .run .start .rounds) (c .before .before .before .before .before .args .run .round) (c .before .before .before .before .before .args .run .next) (c .before .before .before .before .before .args .pass .kind) (c .before .before .before .before .before .pre .1))
 
 returns : tie.Need-returns
 returns c =
-    let s = c@args in
-    let q : (c@padding-of .result + s .pass .taken) / 2 ^ c@level-of .result ≡ (padding (s .run) + s .pass .taken) / 2 ^ levelOf (s .run) (s .pass .kind) = ap₂ (λ a b. (a + s .pass .taken) / 2 ^ b) (c@padding-of .ensures) (c@level-of .ensures) in
-    omega (arith, q, c@fold-size .ensures)
+    let s = c .before .before .before .before .before .before .args in
+    let q : (c .before .before .padding-of .result + s .pass .taken) / 2 ^ c .before .before .before .before .level-of .result ≡ (padding (s .run) + s .pass .taken) / 2 ^ levelOf (s .run) (s .pass .kind) = ap₂ (λ a b. (a + s .pass .taken) / 2 ^ b) (c .before .before .padding-of .ensures) (c .before .before .before .before .level-of .ensures) in
+    omega (arith, q, c .before .before .before .fold-size .ensures)
 
 sub-result : tie.Need-sub-result
 sub-result c = search needs
@@ -39,9 +39,9 @@ cast-result c = search needs
 
 returns-2 : tie.Need-returns-2
 returns-2 c =
-    let s = c@args in
-    let q : (c@padding-of .result + s .pass .taken) / 2 ^ c@level-of .result ≡ (padding (s .run) + s .pass .taken) / 2 ^ levelOf (s .run) (s .pass .kind) = ap₂ (λ a b. (a + s .pass .taken) / 2 ^ b) (c@padding-of .ensures) (c@level-of .ensures) in
-    omega (arith, q, c@fold-size .ensures)
+    let s = c .before .before .before .before .before .before .args in
+    let q : (c .before .before .padding-of .result + s .pass .taken) / 2 ^ c .before .before .before .before .level-of .result ≡ (padding (s .run) + s .pass .taken) / 2 ^ levelOf (s .run) (s .pass .kind) = ap₂ (λ a b. (a + s .pass .taken) / 2 ^ b) (c .before .before .padding-of .ensures) (c .before .before .before .before .level-of .ensures) in
+    omega (arith, q, c .before .before .before .fold-size .ensures)
 
 pub place-of-spec : {M : Type 1} → statement M
 place-of-spec =

@@ -13,14 +13,20 @@ empty-requires : tie.Need-empty-requires
 empty-requires c κs = search needs
 
 returns : tie.Need-returns
-returns c = rw (c@empty .ensures) (sym (ap (λ b. cond b emptyKernel (paddedKernel (c@args .run))) (sym (c@is-total .ensures) ∙ c@if1 .taken)))
+returns c = rw (c .empty .ensures) (sym (ap (λ b. cond b emptyKernel (paddedKernel (c .before .before .before .args .run))) (sym (c .before .before .is-total .ensures) ∙ c .before .if1 .taken)))
 
 padded-kernel-requires : tie.Need-padded-kernel-requires
 padded-kernel-requires c κs = search needs
 
 returns-2 : tie.Need-returns-2
-returns-2 c = rw (c@padded-kernel .ensures) (sym (ap (λ b. cond b emptyKernel (paddedKernel (c@args .run))) (sym (c@is-total .ensures) ∙ c@if1 .left)))
+returns-2 c = rw (c .padded-kernel .ensures) (sym (ap (λ b. cond b emptyKernel (paddedKernel (c .before .before .before .args .run))) (sym (c .before .before .is-total .ensures) ∙ c .before .if1 .left)))
 
 pub open-kernel-spec : {M : Type 1} → statement M
 open-kernel-spec =
-    tie.close (tie.spec is-total-requires empty-requires returns padded-kernel-requires returns-2)
+    tie.close
+    (tie.spec
+    is-total-requires
+    empty-requires
+    returns
+    padded-kernel-requires
+    returns-2)

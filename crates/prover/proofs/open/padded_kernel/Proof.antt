@@ -12,8 +12,13 @@ padding-requires : tie.Need-padding-requires
 padding-requires c κs = search needs
 
 returns : tie.Need-returns
-returns c = rw (c@padding .ensures, c@level-of .ensures, c@padding-of .ensures)
+returns c = rw (c .padding .ensures, c .before .level-of .ensures, c .before .before .padding-of .ensures)
 
 pub padded-kernel-spec : {M : Type 1} → statement M
 padded-kernel-spec =
-    tie.close (tie.spec padding-of-requires level-of-requires padding-requires returns)
+    tie.close
+    (tie.spec
+    padding-of-requires
+    level-of-requires
+    padding-requires
+    returns)

@@ -8,7 +8,11 @@ opening-values-requires c κs = search needs
 
 returns : tie.Need-returns
 unfolding openingGiven
-returns c = rw (c@opening-values .ensures)
+returns c = rw (c .opening-values .ensures)
 
 pub give-opening-spec : {M : Type 1} → statement M
-give-opening-spec = tie.close (tie.spec opening-values-requires returns)
+give-opening-spec =
+    tie.close
+    (tie.spec
+    opening-values-requires
+    returns)

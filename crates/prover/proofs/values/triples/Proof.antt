@@ -2,10 +2,10 @@ use mathlib.Core.Path.{_≡_, refl}
 use Prim.Native.Nat.{_≤_, _-_}
 use native.Mathlib.Omega.{arith}
 use lib.Seq.{sets}
-use borrow.Author.Needs.{needs}
 use Rattle.vector.specs.Opening.{tripleValues}
 use Rattle.prover.specs.Values.{tripleIn}
 use Rattle.prover.proofs.OpeningValues.{triple-stored}
+use borrow.Author.Needs.{needs}
 use Rattle.prover.proofs.values.triples.Statement.{statement}
 use Rattle.prover.proofs.values.triples.Tie as tie
 
@@ -90,15 +90,15 @@ loop-less c = search needs
 
 loop-again : tie.Need-loop-again Inv-loop μ-loop
 loop-again c =
-    let s = c@args in
-    let l = c@loop in
+    let s = c .before .before .args in
+    let l = c .before .loop in
     let t = tripleIn (s .t4) (s .t5) (s .t6) in
     (omega arith, rw (l .inv .1) (triple-stored t (s .values) (s .from) (l .j)))
 
 returns : tie.Need-returns Inv-loop μ-loop
 returns c =
-    let all : c@loop .j ≡ c@args .rounds = omega arith in
-    rw (← all) (c@loop .inv .1)
+    let all : c .before .loop .j ≡ c .before .before .args .rounds = omega arith in
+    rw (← all) (c .before .loop .inv .1)
 
 pub triples-spec : {M : Type 1} → statement M
 triples-spec =

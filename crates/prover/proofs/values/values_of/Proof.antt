@@ -7,7 +7,7 @@ use Rattle.prover.proofs.values.values_of.Tie as tie
 
 returns : tie.Need-returns
 unfolding valuesOf
-returns c = rw (lt-ltb _ _ (c@if1 .taken))
+returns c = rw (lt-ltb _ _ (c .if1 .taken))
 
 triples-requires : tie.Need-triples-requires
 triples-requires c κs = search needs
@@ -21,9 +21,15 @@ triples-requires-2 c κs = search needs
 returns-2 : tie.Need-returns-2
 unfolding valuesOf
 returns-2 c =
-    let few = c@if1 .left in
-    rw (le-ltb _ _ few, c@triples2 .ensures, c@triples .ensures) (both-stored _ _ _ few)
+    let few = c .before .before .before .before .before .before .before .before .if1 .left in
+    rw (le-ltb _ _ few, c .triples2 .ensures, c .before .triples .ensures) (both-stored _ _ _ few)
 
 pub values-of-spec : {M : Type 1} → statement M
 values-of-spec =
-    tie.close (tie.spec returns triples-requires mul-triples triples-requires-2 returns-2)
+    tie.close
+    (tie.spec
+    returns
+    triples-requires
+    mul-triples
+    triples-requires-2
+    returns-2)

@@ -15,10 +15,10 @@ refuse-requires : tie.Need-refuse-requires
 refuse-requires c κs = search needs
 
 returns : tie.Need-returns
-returns c = rw (c@answered .ensures, c@written .given .1)
+returns c = rw (c .answered .ensures, c .before .before .written .given .1)
 
 returns-2 : tie.Need-returns-2
-returns-2 c = rw (c@refuse .ensures, c@written2 .given .1)
+returns-2 c = rw (c .refuse .ensures, c .before .before .written2 .given .1)
 
 pub written-step-spec : {M : Type 1} → statement M
 written-step-spec =
