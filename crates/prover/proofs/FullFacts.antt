@@ -81,7 +81,7 @@ is-ends Challenge h = absurd (true≢false (sym h))
 is-ends Ends h = refl
 is-ends Openings h = absurd (true≢false (sym h))
 
-is-openings : (a : Next) → isOpenings a ≡ true → a ≡ Openings
+pub is-openings : (a : Next) → isOpenings a ≡ true → a ≡ Openings
 is-openings Total h = absurd (true≢false (sym h))
 is-openings Message h = absurd (true≢false (sym h))
 is-openings Challenge h = absurd (true≢false (sym h))

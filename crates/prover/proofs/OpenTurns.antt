@@ -15,6 +15,7 @@ use Rattle.prover.specs.WellFormed.{wellFormed}
 use Rattle.prover.specs.Open.{openNext, isOpenings, mayOpen, mayOpenAt}
 use Rattle.prover.proofs.Facts.{holds}
 use Rattle.prover.proofs.Decides.{Decides}
+use Rattle.prover.proofs.FullFacts.{is-openings}
 
 -- where a pass of small mode may be opened: what is next takes one, and no point
 pub data TakesPass : Next → Type 0 where
@@ -51,13 +52,6 @@ pass-taken n total = refl
 pass-taken n message = refl
 pass-taken n ends = refl
 
-openings-is : (n : Next) → isOpenings n ≡ true → n ≡ Openings
-openings-is Total e = absurd (true≢false (sym e))
-openings-is Message e = absurd (true≢false (sym e))
-openings-is Challenge e = absurd (true≢false (sym e))
-openings-is Ends e = absurd (true≢false (sym e))
-openings-is Openings e = refl
-
 -- tests one after the other, all true
 both-true : (a b : Bool) → a ≡ true → b ≡ true → cond a b false ≡ true
 both-true true b h e = e
@@ -87,7 +81,7 @@ open-at-turn p r s =
           record {
             formed = a .0;
             small = small-is (r .mode) (b .0);
-            next = openings-is (r .next) (c .0);
+            next = is-openings (r .next) (c .0);
             rounds = ltb-true 0 (r .start .rounds) (c .1);
           };
       back = λ t.

@@ -30,7 +30,7 @@ withItem (answered x) rest = rest x
 withItem (refused k) rest = refused k
 withItem (refusedAt k i) rest = refusedAt k i
 
--- the step of an item that its parts refuse
+-- the step of an item that its own checks refuse; an item that they take is not handed to it
 abbrev pub refusedParts : Run → Pass → Parts → Step
 refusedParts r s (parts.Item x) = answeredStep r s answer.Taken
 refusedParts r s (parts.Refused k) = refusedStep r s k

@@ -144,7 +144,7 @@ fn take(p: u32, run: Run, pass: Pass, x: Item, f: &mut [u32], g: &mut [u32]) -> 
     )
 }
 
-// The refusal of an item, by its parts.
+// The refusal of an item by its own checks.
 fn refuse_parts(run: Run, pass: Pass, parts: Parts) -> Step
     ensures { λ r. ⌜ r ≡ refusedParts run pass parts ⌝ }
 {
