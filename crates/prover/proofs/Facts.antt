@@ -46,13 +46,13 @@ level-at-most n i Openings Change h = omega arith
 
 -- what safety needs of a record that a call returned
 pub record Formed (r : Run) (s : Pass) : Type 0 where
-  pub some : 1 ≤ r .items
-  pub most : r .items ≤ 32768
-  pub rounds : r .rounds ≡ roundsOf (r .items)
-  pub few : r .rounds ≤ 15
-  pub fits : roundFits (r .next) (r .round) (r .rounds) ≡ true
-  pub round : r .round ≤ r .rounds
-  pub taken : s .taken ≤ r .items
+  pub some : 1 ≤ r .start .items
+  pub most : r .start .items ≤ 32768
+  pub rounds : r .start .rounds ≡ roundsOf (r .start .items)
+  pub few : r .start .rounds ≤ 15
+  pub fits : roundFits (r .next) (r .round) (r .start .rounds) ≡ true
+  pub round : r .round ≤ r .start .rounds
+  pub taken : s .taken ≤ r .start .items
   pub counts : s .fcount ≡ s .gcount
   pub room : s .fcount ≤ 15
 
@@ -60,12 +60,12 @@ pub formed : (p : ℕ) (r : Run) (s : Pass) → wellFormed p r s ≡ true → Fo
 unfolding wellFormed runFormed passFormed
 formed p r s e =
     let a = holds (runFormed p r) (passFormed r s) e in
-    let b = fails (ltb (r .items) 1) _ (a .0) in
-    let c = fails (ltb 32768 (r .items)) _ (b .1) in
-    let d = holds (eqb (r .rounds) (roundsOf (r .items))) _ (c .1) in
-    let f = holds (roundFits (r .next) (r .round) (r .rounds)) _ (d .1) in
+    let b = fails (ltb (r .start .items) 1) _ (a .0) in
+    let c = fails (ltb 32768 (r .start .items)) _ (b .1) in
+    let d = holds (eqb (r .start .rounds) (roundsOf (r .start .items))) _ (c .1) in
+    let f = holds (roundFits (r .next) (r .round) (r .start .rounds)) _ (d .1) in
     let k = holds (kindFits (s .kind) (r .mode) (r .next)) _ (a .1) in
-    let t = fails (ltb (r .items) (s .taken)) _ (k .1) in
+    let t = fails (ltb (r .start .items) (s .taken)) _ (k .1) in
     let q = holds (eqb (s .fcount) (s .gcount)) _ (t .1) in
     let w = fails (ltb 15 (s .fcount)) _ (q .1) in
     let n = eqb-true _ _ (d .0) in
@@ -73,9 +73,9 @@ formed p r s e =
       some = ltb-false _ _ (b .0);
       most = ltb-false _ _ (c .0);
       rounds = n;
-      few = omega (arith, n, rounds-at-most (r .items) (ltb-false _ _ (c .0)));
+      few = omega (arith, n, rounds-at-most (r .start .items) (ltb-false _ _ (c .0)));
       fits = f .0;
-      round = round-at-most (r .next) (r .round) (r .rounds) (f .0);
+      round = round-at-most (r .next) (r .round) (r .start .rounds) (f .0);
       taken = ltb-false _ _ (t .0);
       counts = eqb-true _ _ (q .0);
       room = ltb-false _ _ (w .0);
@@ -86,7 +86,7 @@ pub size-32 : (n j : ℕ) → n ≤ 15 → sizeIn32 n j ≡ size n j
 unfolding sizeIn32
 size-32 n j h = ap (λ b. cond b (size n j) 0) (lt-ltb n 32 (omega arith))
 
-pub padding-small : (r : Run) → r .rounds ≤ 15 → padding r ≤ 32768
+pub padding-small : (r : Run) → r .start .rounds ≤ 15 → padding r ≤ 32768
 padding-small r h =
-    let m : 2 ^ (r .rounds) ≤ 2 ^ 15 = pow-mono h in
-    omega (arith, size-32 (r .rounds) 0 h, size-all (r .rounds), m)
+    let m : 2 ^ (r .start .rounds) ≤ 2 ^ 15 = pow-mono h in
+    omega (arith, size-32 (r .start .rounds) 0 h, size-all (r .start .rounds), m)

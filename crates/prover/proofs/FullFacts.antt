@@ -29,22 +29,22 @@ use Rattle.prover.proofs.Facts.{holds, fails, Formed, formed, size-32}
 
 -- the tests, but those of the counts and sums of the pass
 pub record Tests (p : ℕ) (r : Run) (s : Pass) : Type 0 where
-  pub some : ltb (r .items) 1 ≡ false
-  pub most : ltb 32768 (r .items) ≡ false
-  pub rounds : eqb (r .rounds) (roundsOf (r .items)) ≡ true
-  pub fits : roundFits (r .next) (r .round) (r .rounds) ≡ true
+  pub some : ltb (r .start .items) 1 ≡ false
+  pub most : ltb 32768 (r .start .items) ≡ false
+  pub rounds : eqb (r .start .rounds) (roundsOf (r .start .items)) ≡ true
+  pub fits : roundFits (r .next) (r .round) (r .start .rounds) ≡ true
   pub total : inLimits p (r .total) ≡ true
   pub kind : kindFits (s .kind) (r .mode) (r .next) ≡ true
-  pub rest : cond (ltb (r .items) (s .taken)) false (cond (eqb (s .fcount) (s .gcount)) (cond (ltb 15 (s .fcount)) false (leb (natAbs (s .total)) (s .taken * 47185920))) false) ≡ true
+  pub rest : cond (ltb (r .start .items) (s .taken)) false (cond (eqb (s .fcount) (s .gcount)) (cond (ltb 15 (s .fcount)) false (leb (natAbs (s .total)) (s .taken * 47185920))) false) ≡ true
 
 pub tests : (p : ℕ) (r : Run) (s : Pass) → wellFormed p r s ≡ true → Tests p r s
 unfolding wellFormed runFormed passFormed
 tests p r s e =
     let a = holds (runFormed p r) (passFormed r s) e in
-    let b = fails (ltb (r .items) 1) _ (a .0) in
-    let c = fails (ltb 32768 (r .items)) _ (b .1) in
-    let d = holds (eqb (r .rounds) (roundsOf (r .items))) _ (c .1) in
-    let f = holds (roundFits (r .next) (r .round) (r .rounds)) _ (d .1) in
+    let b = fails (ltb (r .start .items) 1) _ (a .0) in
+    let c = fails (ltb 32768 (r .start .items)) _ (b .1) in
+    let d = holds (eqb (r .start .rounds) (roundsOf (r .start .items))) _ (c .1) in
+    let f = holds (roundFits (r .next) (r .round) (r .start .rounds)) _ (d .1) in
     let k = holds (kindFits (s .kind) (r .mode) (r .next)) _ (a .1) in
     record { some = b .0; most = c .0; rounds = d .0; fits = f .0; total = f .1; kind = k .0; rest = k .1 }
 
@@ -81,7 +81,7 @@ is-ends Challenge h = absurd (true≢false (sym h))
 is-ends Ends h = refl
 is-ends Openings h = absurd (true≢false (sym h))
 
-is-openings : (a : Next) → isOpenings a ≡ true → a ≡ Openings
+pub is-openings : (a : Next) → isOpenings a ≡ true → a ≡ Openings
 is-openings Total h = absurd (true≢false (sym h))
 is-openings Message h = absurd (true≢false (sym h))
 is-openings Challenge h = absurd (true≢false (sym h))
@@ -106,22 +106,22 @@ module _ (p : ℕ) (r : Run) (s : Pass) where
     pub formed : Formed r s
     pub tests : Tests p r s
     pub next : r .next ≡ what
-    pub less : r .round < r .rounds
+    pub less : r .round < r .start .rounds
     pub few : r .round < 15
     pub level : levelOf r Shut ≡ r .round
-    pub long : foldSize r ≡ size (r .rounds) (r .round)
-    pub half : foldSize r / 2 ≡ size (r .rounds) (suc (r .round))
-    pub halves : foldSize r ≡ 2 * size (r .rounds) (suc (r .round))
+    pub long : foldSize r ≡ size (r .start .rounds) (r .round)
+    pub half : foldSize r / 2 ≡ size (r .start .rounds) (suc (r .round))
+    pub halves : foldSize r ≡ 2 * size (r .start .rounds) (suc (r .round))
 
-  in-round : (what : Next) → wellFormed p r s ≡ true → r .next ≡ what → (roundFits what (r .round) (r .rounds) ≡ true → r .round < r .rounds)
+  in-round : (what : Next) → wellFormed p r s ≡ true → r .next ≡ what → (roundFits what (r .round) (r .start .rounds) ≡ true → r .round < r .start .rounds)
       → (levelOf r Shut ≡ r .round) → InRound what
   in-round what e same below level =
       let h = formed p r s e in
       let t = tests p r s e in
-      let less : r .round < r .rounds = below (ap (λ a. roundFits a (r .round) (r .rounds)) (sym same) ∙ t .fits) in
-      let few : r .rounds ≤ 15 = h .few in
-      let long : foldSize r ≡ size (r .rounds) (r .round) = size-32 (r .rounds) (levelOf r Shut) few ∙ ap (size (r .rounds)) level in
-      let halves : foldSize r ≡ 2 * size (r .rounds) (suc (r .round)) = long ∙ size-halves (r .rounds) (r .round) less in
+      let less : r .round < r .start .rounds = below (ap (λ a. roundFits a (r .round) (r .start .rounds)) (sym same) ∙ t .fits) in
+      let few : r .start .rounds ≤ 15 = h .few in
+      let long : foldSize r ≡ size (r .start .rounds) (r .round) = size-32 (r .start .rounds) (levelOf r Shut) few ∙ ap (size (r .start .rounds)) level in
+      let halves : foldSize r ≡ 2 * size (r .start .rounds) (suc (r .round)) = long ∙ size-halves (r .start .rounds) (r .round) less in
       record {
         formed = h;
         tests = t;
@@ -138,13 +138,13 @@ module _ (p : ℕ) (r : Run) (s : Pass) where
   message-round e =
       let a = holds (fullFormed p r s) (isMessage (r .next)) e in
       let same = is-message (r .next) (a .1) in
-      in-round Message (holds (wellFormed p r s) (isFull (r .mode)) (a .0) .0) same (λ t. ltb-true (r .round) (r .rounds) t) (rw same)
+      in-round Message (holds (wellFormed p r s) (isFull (r .mode)) (a .0) .0) same (λ t. ltb-true (r .round) (r .start .rounds) t) (rw same)
 
   pub challenge-round : challengeTurn p r s ≡ true → InRound Challenge
   challenge-round e =
       let a = holds (wellFormed p r s) (isChallenge (r .next)) e in
       let same = is-challenge (r .next) (a .1) in
-      in-round Challenge (a .0) same (λ t. ltb-true (r .round) (r .rounds) t) (rw same)
+      in-round Challenge (a .0) same (λ t. ltb-true (r .round) (r .start .rounds) t) (rw same)
 
   -- the end values are next
   pub record AtEnds : Type 0 where
@@ -152,8 +152,8 @@ module _ (p : ℕ) (r : Run) (s : Pass) where
     pub tests : Tests p r s
     pub full : isFull (r .mode) ≡ true
     pub next : r .next ≡ Ends
-    pub all : r .round ≡ r .rounds
-    pub level : levelOf r Shut ≡ r .rounds
+    pub all : r .round ≡ r .start .rounds
+    pub level : levelOf r Shut ≡ r .start .rounds
     pub long : foldSize r ≡ 1
 
   pub at-ends : endsTurn p r s ≡ true → AtEnds
@@ -163,15 +163,15 @@ module _ (p : ℕ) (r : Run) (s : Pass) where
       let same = is-ends (r .next) (a .1) in
       let h = formed p r s (b .0) in
       let t = tests p r s (b .0) in
-      let level : levelOf r Shut ≡ r .rounds = rw same in
+      let level : levelOf r Shut ≡ r .start .rounds = rw same in
       record {
         formed = h;
         tests = t;
         full = b .1;
         next = same;
-        all = eqb-true (r .round) (r .rounds) (ap (λ a. roundFits a (r .round) (r .rounds)) (sym same) ∙ t .fits);
+        all = eqb-true (r .round) (r .start .rounds) (ap (λ a. roundFits a (r .round) (r .start .rounds)) (sym same) ∙ t .fits);
         level = level;
-        long = size-32 (r .rounds) (levelOf r Shut) (h .few) ∙ ap (size (r .rounds)) level ∙ size-last (r .rounds);
+        long = size-32 (r .start .rounds) (levelOf r Shut) (h .few) ∙ ap (size (r .start .rounds)) level ∙ size-last (r .start .rounds);
       }
 
   pub both-there : (f g : List ℕ) → endsTurn p r s ≡ true → bothLong r (length f) (length g) ≡ true → (1 ≤ length f) × (1 ≤ length g)
@@ -184,22 +184,22 @@ module _ (p : ℕ) (r : Run) (s : Pass) where
   pub record AtOpenings : Type 0 where
     pub formed : Formed r s
     pub next : r .next ≡ Openings
-    pub some : 0 < r .rounds
+    pub some : 0 < r .start .rounds
     pub level : levelOf r Shut ≡ 0
-    pub long : foldSize r ≡ size (r .rounds) 0
+    pub long : foldSize r ≡ size (r .start .rounds) 0
 
   pub at-openings : openingTurn p r s ≡ true → AtOpenings
   at-openings e =
-      let a = holds (fullFormed p r s) (cond (isOpenings (r .next)) (ltb 0 (r .rounds)) false) e in
+      let a = holds (fullFormed p r s) (cond (isOpenings (r .next)) (ltb 0 (r .start .rounds)) false) e in
       let b = holds (wellFormed p r s) (isFull (r .mode)) (a .0) in
-      let d = holds (isOpenings (r .next)) (ltb 0 (r .rounds)) (a .1) in
+      let d = holds (isOpenings (r .next)) (ltb 0 (r .start .rounds)) (a .1) in
       let same = is-openings (r .next) (d .0) in
       let h = formed p r s (b .0) in
       let level : levelOf r Shut ≡ 0 = rw same in
       record {
         formed = h;
         next = same;
-        some = ltb-true 0 (r .rounds) (d .1);
+        some = ltb-true 0 (r .start .rounds) (d .1);
         level = level;
-        long = size-32 (r .rounds) (levelOf r Shut) (h .few) ∙ ap (size (r .rounds)) level;
+        long = size-32 (r .start .rounds) (levelOf r Shut) (h .few) ∙ ap (size (r .start .rounds)) level;
       }

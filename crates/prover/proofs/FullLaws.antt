@@ -56,7 +56,7 @@ module _ (p : ℕ) (r : Run) (s : Pass) where
         some = t .some;
         most = t .most;
         rounds = t .rounds;
-        fits = lt-ltb (r .round) (r .rounds) (h .less);
+        fits = lt-ltb (r .round) (r .start .rounds) (h .less);
         total = t .total;
         kind = full-kind (s .kind) (r .mode) (r .next) next.Challenge full (t .kind);
         rest = t .rest;
@@ -71,7 +71,7 @@ module _ (p : ℕ) (r : Run) (s : Pass) where
         some = t .some;
         most = t .most;
         rounds = t .rounds;
-        fits = eq-eqb (r .round) (r .rounds) (h .all);
+        fits = eq-eqb (r .round) (r .start .rounds) (h .all);
         total = t .total;
         kind = full-kind (s .kind) (r .mode) (r .next) next.Openings (h .full) (t .kind);
         rest = t .rest;
@@ -97,9 +97,9 @@ module _ (p : ℕ) (r : Run) (s : Pass) where
         some = t .some;
         most = t .most;
         rounds = t .rounds;
-        fits = next-fits (r .round) (r .rounds) (h .less);
+        fits = next-fits (r .round) (r .start .rounds) (h .less);
         total = t .total;
-        kind = challenge-kind (s .kind) (r .mode) (r .next) (roundOrEnds (r .round + 1) (r .rounds)) (holds (wellFormed p r s) _ e .1) (t .kind);
+        kind = challenge-kind (s .kind) (r .mode) (r .next) (roundOrEnds (r .round + 1) (r .start .rounds)) (holds (wellFormed p r s) _ e .1) (t .kind);
         rest = t .rest;
       })
 
@@ -117,30 +117,30 @@ module _ (p : ℕ) (c : ℕ → ℕ) (f g : Vector) (r : Run) (s : Pass) (fs gs 
 
   -- "Message i, from fold i"
   pub message-law : messageTurn p r s ≡ true
-      → (let m : Message = message p (r .rounds) c f g (r .round) in
+      → (let m : Message = message p (r .start .rounds) c f g (r .round) in
       messageCall p r s fs gs ≡ answered (out (answeredStep (keptMessage r m) s (answer.Message (m .even) (m .cross) (m .odd))) fs gs))
   unfolding messageCall messageGiven
   message-law turn =
       let h = message-round p r s turn in
-      let one : Holds fs (2 * size (r .rounds) (suc (r .round))) (fold p c (r .round) f) = rw (h .halves, h .level) at (l .first) in
-      let two : Holds gs (2 * size (r .rounds) (suc (r .round))) (fold p c (r .round) g) = rw (h .halves, h .level) at (l .second) in
-      let same : messageSlice p (foldSize r / 2) fs gs ≡ message p (r .rounds) c f g (r .round) =
+      let one : Holds fs (2 * size (r .start .rounds) (suc (r .round))) (fold p c (r .round) f) = rw (h .halves, h .level) at (l .first) in
+      let two : Holds gs (2 * size (r .start .rounds) (suc (r .round))) (fold p c (r .round) g) = rw (h .halves, h .level) at (l .second) in
+      let same : messageSlice p (foldSize r / 2) fs gs ≡ message p (r .start .rounds) c f g (r .round) =
       ap (λ n. messageSlice p n fs gs) (h .half)
-      ∙ message-holds p fs gs (fold p c (r .round) f) (fold p c (r .round) g) (size (r .rounds) (suc (r .round))) one two in
+      ∙ message-holds p fs gs (fold p c (r .round) f) (fold p c (r .round) g) (size (r .start .rounds) (suc (r .round))) one two in
       passed-row (messageTurn p r s) number.order _ turn
       ∙ lent-rows p r fs gs _ both-long reduced
       ∙ ap (λ m. answered (out (answeredStep (keptMessage r m) s (answer.Message (m .even) (m .cross) (m .odd))) fs gs)) same
 
   -- the ends are fold n
   pub ends-law : endsTurn p r s ≡ true
-      → (let a : ℕ = endValue p c (r .rounds) f in
-      let b : ℕ = endValue p c (r .rounds) g in
+      → (let a : ℕ = endValue p c (r .start .rounds) f in
+      let b : ℕ = endValue p c (r .start .rounds) g in
       endsCall p r s fs gs ≡ answered (out (answeredStep (keptEnds r a b) s (answer.Ends a b)) fs gs))
   unfolding endsCall
   ends-law turn =
       let h = at-ends p r s turn in
-      let one : at fs 0 ≡ endValue p c (r .rounds) f = l .first .same 0 (omega (arith, h .long)) ∙ ap (λ j. fold p c j f 0) (h .level) in
-      let two : at gs 0 ≡ endValue p c (r .rounds) g = l .second .same 0 (omega (arith, h .long)) ∙ ap (λ j. fold p c j g 0) (h .level) in
+      let one : at fs 0 ≡ endValue p c (r .start .rounds) f = l .first .same 0 (omega (arith, h .long)) ∙ ap (λ j. fold p c j f 0) (h .level) in
+      let two : at gs 0 ≡ endValue p c (r .start .rounds) g = l .second .same 0 (omega (arith, h .long)) ∙ ap (λ j. fold p c j g 0) (h .level) in
       passed-row (endsTurn p r s) number.order _ turn
       ∙ lent-rows p r fs gs _ both-long reduced
       ∙ ap₂ (λ a b. answered (out (answeredStep (keptEnds r a b) s (answer.Ends a b)) fs gs)) one two
@@ -160,7 +160,7 @@ module _ (p : ℕ) (c : ℕ → ℕ) (f g : Vector) (r : Run) (s : Pass) (fs gs 
   unfolding challengedFull
   challenge-lent x turn same =
       let h = challenge-round p r s turn in
-      let n : ℕ = r .rounds in
+      let n : ℕ = r .start .rounds in
       let i : ℕ = r .round in
       let level : levelOf (keptChallenge r x) Shut ≡ suc i = next-level i n (h .less) in
       let long : foldSize (keptChallenge r x) ≡ size n (suc i) = size-32 n (levelOf (keptChallenge r x) Shut) (h .formed .few) ∙ ap (size n) level in
@@ -174,7 +174,7 @@ module _ (p : ℕ) (c : ℕ → ℕ) (f g : Vector) (r : Run) (s : Pass) (fs gs 
 
 -- whatever the buffers hold, a challenge writes no place past the new fold, and keeps their lengths
 module _ (p : ℕ) (r : Run) (s : Pass) (x : ℕ) (fs gs : List ℕ) (turn : challengeTurn p r s ≡ true) where
-  pub challenge-kept : (k : ℕ) → size (r .rounds) (suc (r .round)) ≤ k
+  pub challenge-kept : (k : ℕ) → size (r .start .rounds) (suc (r .round)) ≤ k
       → (let o : Out = challengedFull p r s x fs gs in (at (o .f) k ≡ at fs k) × (at (o .g) k ≡ at gs k))
   unfolding challengedFull
   challenge-kept k h =

@@ -29,20 +29,20 @@ pub new-formed : (p : ℕ) (r : Run) (s : Pass) (kind : Kind) (points : Points) 
 unfolding wellFormed passFormed
 new-formed p r s kind points k h fits counts room =
     simp
-    (holds (runFormed p r) (passFormed r s) h .0, fits, le-ltb (r .items) 0 (omega arith), eq-eqb (k .fcount) (k .gcount) counts, le-ltb 15 (k .fcount) room)
+    (holds (runFormed p r) (passFormed r s) h .0, fits, le-ltb (r .start .items) 0 (omega arith), eq-eqb (k .fcount) (k .gcount) counts, le-ltb 15 (k .fcount) room)
 
 module _ (r : Run) (s : Pass) (h : Formed r s) where
   -- the padding is N - L
-  pub padding-is : padding r ≡ 2 ^ r .rounds - r .items
-  padding-is = ap (λ n. n - r .items) (size-32 (r .rounds) 0 (h .few) ∙ size-all (r .rounds))
+  pub padding-is : padding r ≡ 2 ^ r .start .rounds - r .start .items
+  padding-is = ap (λ n. n - r .start .items) (size-32 (r .start .rounds) 0 (h .few) ∙ size-all (r .start .rounds))
 
   padding-below : padding r < 2 ^ 15
   padding-below =
-      let most : 2 ^ r .rounds ≤ 2 ^ 15 = pow-mono (h .few) in
+      let most : 2 ^ r .start .rounds ≤ 2 ^ 15 = pow-mono (h .few) in
       omega (arith, padding-is, h .some)
 
   level-few : levelOf r Asked ≤ 15
-  level-few = omega (arith, level-at-most (r .rounds) (r .round) (r .next) Asked (h .round), h .few)
+  level-few = omega (arith, level-at-most (r .start .rounds) (r .round) (r .next) Asked (h .round), h .few)
 
   -- one entry for each binary one of the padding, so at most fifteen
   pub padded-counts : paddedKernel r .fcount ≡ paddedKernel r .gcount
@@ -54,12 +54,12 @@ module _ (r : Run) (s : Pass) (h : Formed r s) where
       omega (arith, levelled-count (levelOf r Asked) (padding r) (paddedKernel r) l, ones-below 15 (suc (levelOf r Asked)) (padding r) padding-below)
 
   -- of any two vectors whose items from L on are zero, the padding is what the pass has taken
-  pub padded-taken : (p : ℕ) (c : ℕ → ℕ) (at : Points) (f g : Vector) → ((j : ℕ) → r .items ≤ j → f j ≡ 0) → ((j : ℕ) → r .items ≤ j → g j ≡ 0)
-      → Taken p (r .rounds) c (levelOf r Asked) at f g (2 ^ r .rounds - r .items) (paddedKernel r)
+  pub padded-taken : (p : ℕ) (c : ℕ → ℕ) (at : Points) (f g : Vector) → ((j : ℕ) → r .start .items ≤ j → f j ≡ 0) → ((j : ℕ) → r .start .items ≤ j → g j ≡ 0)
+      → Taken p (r .start .rounds) c (levelOf r Asked) at f g (2 ^ r .start .rounds - r .start .items) (paddedKernel r)
   padded-taken p c at f g zf zg =
-      let enough : r .items ≤ 2 ^ r .rounds = subst (λ n. r .items ≤ 2 ^ n) (sym (h .rounds)) (rounds-enough (r .items) (h .most)) in
-      subst (λ t. Taken p (r .rounds) c (levelOf r Asked) at f g (2 ^ r .rounds - r .items) (paddingKernel t (levelOf r Asked))) (sym padding-is)
-      (taken-padding p (r .rounds) c (levelOf r Asked) at f g (h .few) (level-at-most (r .rounds) (r .round) (r .next) Asked (h .round)) (r .items) enough zf zg)
+      let enough : r .start .items ≤ 2 ^ r .start .rounds = subst (λ n. r .start .items ≤ 2 ^ n) (sym (h .rounds)) (rounds-enough (r .start .items) (h .most)) in
+      subst (λ t. Taken p (r .start .rounds) c (levelOf r Asked) at f g (2 ^ r .start .rounds - r .start .items) (paddingKernel t (levelOf r Asked))) (sym padding-is)
+      (taken-padding p (r .start .rounds) c (levelOf r Asked) at f g (h .few) (level-at-most (r .start .rounds) (r .round) (r .next) Asked (h .round)) (r .start .items) enough zf zg)
 
 -- a pass for the total has no stack
 pub open-counts : (r : Run) (s : Pass) → Formed r s → (openKernel r .fcount ≡ openKernel r .gcount) × (openKernel r .fcount ≤ 15)

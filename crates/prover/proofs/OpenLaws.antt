@@ -17,7 +17,7 @@ use Rattle.prover.specs.declared.Next.the-variants.{Total, Message, Ends
 use Rattle.prover.specs.declared.Kind.the-variants.{Asked}
 use Rattle.prover.specs.declared.Run.{Run}
 use Rattle.prover.specs.declared.Pass.{Pass}
-use Rattle.prover.specs.declared.Answer.the-variants as answer
+use Rattle.prover.specs.Reply as reply
 use Rattle.prover.specs.Records.{Out, kernelOf, isSmall}
 use Rattle.prover.specs.Order.{isTotal, levelAt, padding}
 use Rattle.prover.specs.WellFormed.{kindFits, wellFormed}
@@ -31,7 +31,7 @@ use Rattle.prover.proofs.NewPass.{new-formed, padded-counts, padded-roo
 -- what an answered opening hands back
 pub record Opened (p : ℕ) (r : Run) (at : Points) (k : Kernel) (o : Out) : Type 0 where
   pub run : o .run ≡ r
-  pub answer : o .answer ≡ answer.Opened
+  pub answer : o .answer ≡ answered reply.opened
   pub kind : o .pass .kind ≡ Asked
   pub taken : o .pass .taken ≡ 0
   pub total : o .pass .total ≡ pos 0
@@ -132,11 +132,11 @@ total-kernel r e = ap (λ n. cond (isTotal n) emptyKernel (paddedKernel r)) e
 
 pub message-kernel : (r : Run) → r .next ≡ Message → openKernel r ≡ paddingKernel (padding r) (r .round)
 message-kernel r e =
-    ap (λ n. cond (isTotal n) emptyKernel (paddedKernel r)) e ∙ ap (λ n. paddingKernel (padding r) (levelAt (r .rounds) (r .round) n Asked)) e
+    ap (λ n. cond (isTotal n) emptyKernel (paddedKernel r)) e ∙ ap (λ n. paddingKernel (padding r) (levelAt (r .start .rounds) (r .round) n Asked)) e
 
-pub ends-kernel : (r : Run) → r .next ≡ Ends → openKernel r ≡ paddingKernel (padding r) (r .rounds)
+pub ends-kernel : (r : Run) → r .next ≡ Ends → openKernel r ≡ paddingKernel (padding r) (r .start .rounds)
 ends-kernel r e =
-    ap (λ n. cond (isTotal n) emptyKernel (paddedKernel r)) e ∙ ap (λ n. paddingKernel (padding r) (levelAt (r .rounds) (r .round) n Asked)) e
+    ap (λ n. cond (isTotal n) emptyKernel (paddedKernel r)) e ∙ ap (λ n. paddingKernel (padding r) (levelAt (r .start .rounds) (r .round) n Asked)) e
 
-pub openings-kernel : (r : Run) → r .next ≡ Openings → paddedKernel r ≡ paddingKernel (padding r) (r .rounds)
-openings-kernel r e = ap (λ n. paddingKernel (padding r) (levelAt (r .rounds) (r .round) n Asked)) e
+pub openings-kernel : (r : Run) → r .next ≡ Openings → paddedKernel r ≡ paddingKernel (padding r) (r .start .rounds)
+openings-kernel r e = ap (λ n. paddingKernel (padding r) (levelAt (r .start .rounds) (r .round) n Asked)) e

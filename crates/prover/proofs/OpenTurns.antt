@@ -15,6 +15,7 @@ use Rattle.prover.specs.WellFormed.{wellFormed}
 use Rattle.prover.specs.Open.{openNext, isOpenings, mayOpen, mayOpenAt}
 use Rattle.prover.proofs.Facts.{holds}
 use Rattle.prover.proofs.Decides.{Decides}
+use Rattle.prover.proofs.FullFacts.{is-openings}
 
 -- where a pass of small mode may be opened: what is next takes one, and no point
 pub data TakesPass : Next → Type 0 where
@@ -33,7 +34,7 @@ pub record OpenAtTurn (p : ℕ) (r : Run) (s : Pass) : Type 0 where
   pub formed : wellFormed p r s ≡ true
   pub small : r .mode ≡ Small
   pub next : r .next ≡ Openings
-  pub rounds : 0 < r .rounds
+  pub rounds : 0 < r .start .rounds
 
 small-is : (m : Mode) → isSmall m ≡ true → m ≡ Small
 small-is Small e = refl
@@ -50,13 +51,6 @@ pass-taken : (n : Next) → TakesPass n → openNext n ≡ true
 pass-taken n total = refl
 pass-taken n message = refl
 pass-taken n ends = refl
-
-openings-is : (n : Next) → isOpenings n ≡ true → n ≡ Openings
-openings-is Total e = absurd (true≢false (sym e))
-openings-is Message e = absurd (true≢false (sym e))
-openings-is Challenge e = absurd (true≢false (sym e))
-openings-is Ends e = absurd (true≢false (sym e))
-openings-is Openings e = refl
 
 -- tests one after the other, all true
 both-true : (a b : Bool) → a ≡ true → b ≡ true → cond a b false ≡ true
@@ -77,21 +71,21 @@ open-turn p r s =
 
 pub open-at-turn : (p : ℕ) (r : Run) (s : Pass) → Decides (mayOpenAt p r s) (OpenAtTurn p r s)
 open-at-turn p r s =
-    let opens = cond (isOpenings (r .next)) (ltb 0 (r .rounds)) false in
+    let opens = cond (isOpenings (r .next)) (ltb 0 (r .start .rounds)) false in
     let turn = cond (isSmall (r .mode)) opens false in
     record {
       so = λ h.
           let a = holds (wellFormed p r s) turn h in
           let b = holds (isSmall (r .mode)) opens (a .1) in
-          let c = holds (isOpenings (r .next)) (ltb 0 (r .rounds)) (b .1) in
+          let c = holds (isOpenings (r .next)) (ltb 0 (r .start .rounds)) (b .1) in
           record {
             formed = a .0;
             small = small-is (r .mode) (b .0);
-            next = openings-is (r .next) (c .0);
-            rounds = ltb-true 0 (r .rounds) (c .1);
+            next = is-openings (r .next) (c .0);
+            rounds = ltb-true 0 (r .start .rounds) (c .1);
           };
       back = λ t.
           both-true (wellFormed p r s) turn (t .formed)
           (both-true (isSmall (r .mode)) opens (ap isSmall (t .small))
-          (both-true (isOpenings (r .next)) (ltb 0 (r .rounds)) (ap isOpenings (t .next)) (lt-ltb 0 (r .rounds) (t .rounds))));
+          (both-true (isOpenings (r .next)) (ltb 0 (r .start .rounds)) (ap isOpenings (t .next)) (lt-ltb 0 (r .start .rounds) (t .rounds))));
     }

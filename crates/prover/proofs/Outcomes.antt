@@ -1,23 +1,26 @@
 -- What a call leaves, by what its tests say.
-use mathlib.Core.Path.{_≡_, ap, _∙_}
-use mathlib.Core.Bool.{Bool, true, false, cond}
+use mathlib.Core.Path.{_≡_, refl, sym, ap, _∙_}
+use mathlib.Core.Bool.{Bool, true, false, cond, true≢false}
 use mathlib.Core.List.{List}
-use mathlib.Core.Option.{Option, none, some}
 use Prim.Native.Nat.{ℕ}
 use lib.Dec.{eqb, ltb}
 use lib.ListN.{length}
 use Rattle.refusal.specs.Number as number
 use Rattle.refusal.specs.Outcome.{Outcome, refused, require}
 use Rattle.wire.specs.Proof.{writeProof}
-use Rattle.vector.specs.declared.item.Item.{Item}
+use Rattle.item.specs.declared.Given.{Given}
+use Rattle.item.specs.declared.Item.{Item}
+use Rattle.item.specs.declared.Parts.{Parts}
+use Rattle.item.specs.declared.Parts.the-variants as parts
+use Rattle.item.specs.Item.{partsOf, partsIn}
 use Rattle.prover.specs.declared.Run.{Run}
 use Rattle.prover.specs.declared.Pass.{Pass}
 use Rattle.prover.specs.declared.Step.{Step}
 use Rattle.prover.specs.declared.Answer.the-variants as answer
 use Rattle.prover.specs.Records.{withKernel, Out, out, leaves, answeredStep, refusedStep}
 use Rattle.prover.specs.Order.{isTotal}
-use Rattle.prover.specs.Take.{entering, summedItem, enteredItem, oneMore, placedIn, takes}
-use Rattle.prover.specs.Calls.{passOpen, bothLong, placesThere, withParts, itemTurn, itemPlaces}
+use Rattle.prover.specs.Take.{nextIndex, entering, summedItem, enteredItem, oneMore, placedIn, takes}
+use Rattle.prover.specs.Calls.{passOpen, bothLong, placesThere, withItem, refusedParts, itemPlaces, giveCall}
 use Rattle.prover.specs.Change.{mayChange, changes, toFullCall}
 use Rattle.prover.specs.Written.{mayWrite, writeCall}
 use Rattle.prover.specs.Close.{totalFits, closing, closeCall, leavesStep}
@@ -47,38 +50,51 @@ module _ (r : Run) (s : Pass) (f g : List ℕ) where
   pub pass : (b : Bool) (k : ℕ) (rest : Outcome Out) → b ≡ true → leaves r s f g (require b k rest) ≡ leaves r s f g rest
   pass b k rest h = ap (λ t. leaves r s f g (require t k rest)) h
 
--- the outcomes of an item, plain or of two numbers
-module _ (p : ℕ) (r : Run) (s : Pass) (kind : Bool) (parts : Option Item) (bad : Outcome Out) (f g : List ℕ) where
-  abbrev call : Outcome Out
-  call = itemTurn p r s kind (withParts parts bad (itemPlaces p r s f g))
+abbrev pub isItem : Parts → Bool
+isItem (parts.Item x) = true
+isItem (parts.Refused k) = false
+isItem (parts.RefusedAt k i) = false
 
-  pub item-shut : passOpen p r s ≡ false → leaves r s f g call ≡ out (refusedStep r s number.order) f g
-  item-shut a = stop r s f g (passOpen p r s) number.order _ a
+-- the outcomes of an item
+module _ (p : ℕ) (r : Run) (s : Pass) (given : Given) (f g : List ℕ) where
+  abbrev given-out : Out
+  given-out = leaves r s f g (giveCall p r s given f g)
+
+  pub give-shut : passOpen p r s ≡ false → given-out ≡ out (refusedStep r s number.order) f g
+  unfolding giveCall
+  give-shut a = stop r s f g (passOpen p r s) number.order _ a
 
   module _ (a : passOpen p r s ≡ true) where
-    pub item-beyond : ltb (s .taken) (r .items) ≡ false → leaves r s f g call ≡ out (refusedStep r s number.items) f g
-    item-beyond b = pass r s f g (passOpen p r s) number.order _ a ∙ stop r s f g (ltb (s .taken) (r .items)) number.items _ b
+    pub give-beyond : ltb (s .taken) (r .start .items) ≡ false → given-out ≡ out (refusedStep r s number.items) f g
+    unfolding giveCall
+    give-beyond b = pass r s f g (passOpen p r s) number.order _ a ∙ stop r s f g (ltb (s .taken) (r .start .items)) number.items _ b
 
-    module _ (b : ltb (s .taken) (r .items) ≡ true) where
-      item-turn : leaves r s f g call ≡ leaves r s f g (require kind number.order (withParts parts bad (itemPlaces p r s f g)))
-      item-turn = pass r s f g (passOpen p r s) number.order _ a ∙ pass r s f g (ltb (s .taken) (r .items)) number.items _ b
+    module _ (b : ltb (s .taken) (r .start .items) ≡ true) (o : Parts) (same : partsIn o ≡ partsOf p (r .start) (nextIndex r s) given) where
+      give-parts : given-out ≡ leaves r s f g (withItem (partsIn o) (itemPlaces p r s f g))
+      unfolding giveCall
+      give-parts =
+          pass r s f g (passOpen p r s) number.order _ a
+          ∙ pass r s f g (ltb (s .taken) (r .start .items)) number.items _ b
+          ∙ ap (λ q. leaves r s f g (withItem q (itemPlaces p r s f g))) (sym same)
 
-      pub item-other : kind ≡ false → leaves r s f g call ≡ out (refusedStep r s number.order) f g
-      item-other c = item-turn ∙ stop r s f g kind number.order _ c
+      -- its own checks refuse it
+      pub give-refused : isItem o ≡ false → given-out ≡ out (refusedParts r s o) f g
+      give-refused e = give-parts ∙ by o e
+        where
+          by : (o : Parts) → isItem o ≡ false → leaves r s f g (withItem (partsIn o) (itemPlaces p r s f g)) ≡ out (refusedParts r s o) f g
+          by (parts.Item x) e = absurd (true≢false e)
+          by (parts.Refused k) e = refl
+          by (parts.RefusedAt k i) e = refl
 
-      module _ (c : kind ≡ true) where
-        item-parts : (o : Option Item) → parts ≡ o → leaves r s f g call ≡ leaves r s f g (withParts o bad (itemPlaces p r s f g))
-        item-parts o e = item-turn ∙ pass r s f g kind number.order _ c ∙ ap (λ q. leaves r s f g (withParts q bad (itemPlaces p r s f g))) e
+      module _ (x : Item) (e : o ≡ parts.Item x) where
+        give-item : given-out ≡ leaves r s f g (itemPlaces p r s f g x)
+        give-item = give-parts ∙ ap (λ q. leaves r s f g (withItem (partsIn q) (itemPlaces p r s f g))) e
 
-        pub item-bad : parts ≡ none → leaves r s f g call ≡ leaves r s f g bad
-        item-bad e = item-parts none e
+        pub give-short : placesThere r s (length f) (length g) ≡ false → given-out ≡ out (refusedStep r s number.buffer) f g
+        give-short d = give-item ∙ stop r s f g (placesThere r s (length f) (length g)) number.buffer _ d
 
-        pub item-short : (x : Item) → parts ≡ some x → placesThere r s (length f) (length g) ≡ false
-            → leaves r s f g call ≡ out (refusedStep r s number.buffer) f g
-        item-short x e d = item-parts (some x) e ∙ stop r s f g (placesThere r s (length f) (length g)) number.buffer _ d
-
-        pub item-taken : (x : Item) → parts ≡ some x → placesThere r s (length f) (length g) ≡ true → leaves r s f g call ≡ takes p r s x f g
-        item-taken x e d = item-parts (some x) e ∙ pass r s f g (placesThere r s (length f) (length g)) number.buffer _ d
+        pub give-taken : placesThere r s (length f) (length g) ≡ true → given-out ≡ takes p r s x f g
+        give-taken d = give-item ∙ pass r s f g (placesThere r s (length f) (length g)) number.buffer _ d
 
 -- the outcomes of a change
 module _ (p : ℕ) (r : Run) (s : Pass) (f g : List ℕ) where
@@ -110,29 +126,29 @@ module _ (p : ℕ) (r : Run) (s : Pass) where
   close-shut a = stop-step r s (passOpen p r s) number.order _ a
 
   module _ (a : passOpen p r s ≡ true) where
-    pub close-wanting : eqb (s .taken) (r .items) ≡ false → leavesStep r s (closeCall p r s) ≡ refusedStep r s number.items
+    pub close-wanting : eqb (s .taken) (r .start .items) ≡ false → leavesStep r s (closeCall p r s) ≡ refusedStep r s number.items
     unfolding closeCall
-    close-wanting b = pass-step r s (passOpen p r s) number.order _ a ∙ stop-step r s (eqb (s .taken) (r .items)) number.items _ b
+    close-wanting b = pass-step r s (passOpen p r s) number.order _ a ∙ stop-step r s (eqb (s .taken) (r .start .items)) number.items _ b
 
-    module _ (b : eqb (s .taken) (r .items) ≡ true) where
+    module _ (b : eqb (s .taken) (r .start .items) ≡ true) where
       pub close-beyond : totalFits p r s ≡ false → leavesStep r s (closeCall p r s) ≡ refusedStep r s number.total
       unfolding closeCall
       close-beyond c =
-          pass-step r s (passOpen p r s) number.order _ a ∙ pass-step r s (eqb (s .taken) (r .items)) number.items _ b
+          pass-step r s (passOpen p r s) number.order _ a ∙ pass-step r s (eqb (s .taken) (r .start .items)) number.items _ b
           ∙ stop-step r s (totalFits p r s) number.total _ c
 
       pub close-whole : totalFits p r s ≡ true → leavesStep r s (closeCall p r s) ≡ leavesStep r s (closing r s (s .kind))
       unfolding closeCall
       close-whole c =
-          pass-step r s (passOpen p r s) number.order _ a ∙ pass-step r s (eqb (s .taken) (r .items)) number.items _ b
+          pass-step r s (passOpen p r s) number.order _ a ∙ pass-step r s (eqb (s .taken) (r .start .items)) number.items _ b
           ∙ pass-step r s (totalFits p r s) number.total _ c
 
 -- the outcomes of writing the proof
 module _ (p : ℕ) (r : Run) (s : Pass) (file : List ℕ) where
   pub write-never : mayWrite p r s ≡ false → writeCall p r s file ≡ refused number.order
   unfolding writeCall
-  write-never h = ap (λ b. require b number.order (writeProof p (r .rounds) (r .total) (r .messages) (r .fend) (r .gend) file)) h
+  write-never h = ap (λ b. require b number.order (writeProof p (r .start .rounds) (r .total) (r .messages) (r .fend) (r .gend) file)) h
 
-  pub write-then : mayWrite p r s ≡ true → writeCall p r s file ≡ writeProof p (r .rounds) (r .total) (r .messages) (r .fend) (r .gend) file
+  pub write-then : mayWrite p r s ≡ true → writeCall p r s file ≡ writeProof p (r .start .rounds) (r .total) (r .messages) (r .fend) (r .gend) file
   unfolding writeCall
-  write-then h = ap (λ b. require b number.order (writeProof p (r .rounds) (r .total) (r .messages) (r .fend) (r .gend) file)) h
+  write-then h = ap (λ b. require b number.order (writeProof p (r .start .rounds) (r .total) (r .messages) (r .fend) (r .gend) file)) h

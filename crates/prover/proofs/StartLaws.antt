@@ -1,6 +1,6 @@
 -- THE STARTS: each is refused exactly by 3 and 6, in this order, and otherwise gives its fresh run, which is well formed.
 use mathlib.Core.Path.{_≡_, refl, sym, ap, subst, _∙_}
-use mathlib.Core.Bool.{Bool, true, false}
+use mathlib.Core.Bool.{true, false}
 use mathlib.Core.List.{List}
 use Prim.Native.Nat.{ℕ, _^_, _≤_, _<_}
 use native.Mathlib.Omega.{arith}
@@ -21,7 +21,9 @@ use Rattle.vector.proofs.Every.{all-nonzero-iff}
 use Rattle.prover.specs.declared.Run.{Run}
 use Rattle.prover.specs.Records.{Out}
 use Rattle.prover.specs.WellFormed.{runFormed, passFormed, wellFormed}
-use Rattle.prover.specs.Start.{freshRun, zeroPass, started, countFits, twistsFit, startPlain, startTwisted, startRule}
+use Rattle.item.specs.declared.Start.{Start}
+use Rattle.item.specs.Start.{countFits, listFits, plainStart, twistedStart, ruleStart}
+use Rattle.prover.specs.Start.{freshRun, zeroPass, started, startPlain, startTwisted, startRule}
 use Rattle.prover.proofs.Decides.{Decides, decide-both, not-so, at-most, Nonzero, nonzero}
 use Rattle.prover.proofs.StartFacts.{plainRun, twistedRun, ruleRun, plain-answered, twisted-answered, rule-answered}
 
@@ -36,7 +38,7 @@ Twists p n twists = (length twists ≡ n) × ((k : ℕ) → k < n → Nonzero p 
 pub count-fits : (items : ℕ) → Decides (countFits items) (InCount items)
 count-fits items = decide-both (at-most 1 items) (at-most items maxItems)
 
-pub twists-fit : (p n : ℕ) (twists : List ℕ) → Decides (twistsFit p n twists) (Twists p n twists)
+pub twists-fit : (p n : ℕ) (twists : List ℕ) → Decides (listFits p n twists) (Twists p n twists)
 twists-fit p n twists =
     decide-both {a = eqb (length twists) n} {b = allNonzero p n twists}
     (record { so = eqb-true (length twists) n; back = eq-eqb (length twists) n })
@@ -67,7 +69,7 @@ twisted-says p items twists =
     let e = twists-fit p (roundsOf items) twists in
     let Says = StartSays (InCount items) (Twists p (roundsOf items) twists) (twistedRun p items twists) in
     require-says Says (countFits items) _ _ (λ bad. by-count (not-so d bad)) λ good.
-    require-says Says (twistsFit p (roundsOf items) twists) _ _ (λ bad. by-argument (d .so good) (not-so e bad)) λ fit.
+    require-says Says (listFits p (roundsOf items) twists) _ _ (λ bad. by-argument (d .so good) (not-so e bad)) λ fit.
     (d .so good, e .so fit, refl)
 
 pub rule-says : (p rounds v : ℕ) → StartSays (rounds ≤ maxRounds) (Nonzero p v) (ruleRun p rounds v) (startRule p rounds v)
@@ -92,12 +94,17 @@ pub rule-starts : (p rounds v : ℕ) → rounds ≤ maxRounds → Nonzero p v �
 rule-starts p rounds v h e = rule-answered p rounds v (le-leb rounds maxRounds h) (nonzero p v .back e)
 
 -- A fresh run with a closed pass is well formed.
-pub fresh-formed : (p items rounds : ℕ) (plain : Bool) (twists : List ℕ) → InCount items → rounds ≡ roundsOf items
-    → wellFormed p (freshRun items rounds plain twists) zeroPass ≡ true
+pub fresh-formed : (p : ℕ) (start : Start) → InCount (start .items) → start .rounds ≡ roundsOf (start .items)
+    → wellFormed p (freshRun start) zeroPass ≡ true
 unfolding wellFormed runFormed passFormed inLimits
-fresh-formed p items rounds plain twists h e =
-    simp
-    (le-ltb items 1 (h .0), le-ltb maxItems items (h .1), eq-eqb rounds (roundsOf items) e, le-leb 0 (limit p) (omega arith), le-ltb items 0 (omega arith))
+fresh-formed p start h e =
+    simp (
+      le-ltb (start .items) 1 (h .0),
+      le-ltb maxItems (start .items) (h .1),
+      eq-eqb (start .rounds) (roundsOf (start .items)) e,
+      le-leb 0 (limit p) (omega arith),
+      le-ltb (start .items) 0 (omega arith),
+    )
 
 -- what a start says of an answer, of the one that it gives
 of-answer : (Count Argument : Type 0) (r : Run) (got : Outcome Out) (o : Out) → StartSays Count Argument r got → got ≡ answered o
@@ -110,14 +117,14 @@ as-started p o r e h = ap (λ x. wellFormed p (x .run) (x .pass)) e ∙ h
 pub plain-formed : (p items : ℕ) (o : Out) → startPlain items ≡ answered o → wellFormed p (o .run) (o .pass) ≡ true
 plain-formed p items o e =
     let h = of-answer (InCount items) (Unit {0}) (plainRun items) (startPlain items) o (plain-says items) e in
-    as-started p o (plainRun items) (h .1) (fresh-formed p items (roundsOf items) true _ (h .0) refl)
+    as-started p o (plainRun items) (h .1) (fresh-formed p (plainStart items) (h .0) refl)
 
 pub twisted-formed : (p items : ℕ) (twists : List ℕ) (o : Out) → startTwisted p items twists ≡ answered o → wellFormed p (o .run) (o .pass) ≡ true
 twisted-formed p items twists o e =
     let h =
     of-answer (InCount items) (Twists p (roundsOf items) twists) (twistedRun p items twists) (startTwisted p items twists) o (twisted-says p items twists) e
     in
-    as-started p o (twistedRun p items twists) (h .1) (fresh-formed p items (roundsOf items) false _ (h .0) refl)
+    as-started p o (twistedRun p items twists) (h .1) (fresh-formed p (twistedStart items twists) (h .0) refl)
 
 -- 2^n items need n rounds
 pub rule-formed : (p rounds v : ℕ) (o : Out) → startRule p rounds v ≡ answered o → wellFormed p (o .run) (o .pass) ≡ true
@@ -125,4 +132,4 @@ rule-formed p rounds v o e =
     let h = of-answer (rounds ≤ maxRounds) (Nonzero p v) (ruleRun p rounds v) (startRule p rounds v) o (rule-says p rounds v) e in
     let most : 2 ^ rounds ≤ 2 ^ 15 = pow-mono (h .0) in
     as-started p o (ruleRun p rounds v) (h .1)
-    (fresh-formed p (2 ^ rounds) rounds false _ (pow-pos rounds, most) (sym (rounds-power rounds (h .0))))
+    (fresh-formed p (ruleStart p rounds v) (pow-pos rounds, most) (sym (rounds-power rounds (h .0))))

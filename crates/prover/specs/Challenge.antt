@@ -5,7 +5,8 @@ use mathlib.Core.List.{List}
 use lib.ListN.{set}
 use Rattle.refusal.specs.Number as number
 use Rattle.refusal.specs.Outcome.{Outcome, answered, require}
-use Rattle.vector.specs.Slice.{foldSlice, isNonzero}
+use Rattle.field.specs.Number.{isNonzero}
+use Rattle.vector.specs.Slice.{foldSlice}
 use Rattle.prover.specs.declared.Mode.{Mode}
 use Rattle.prover.specs.declared.Mode.the-variants.{Small, Full}
 use Rattle.prover.specs.declared.Run.{Run}
@@ -25,13 +26,10 @@ challengeTurn p r s = cond (wellFormed p r s) (isChallenge (r .next)) false
 abbrev pub keptChallenge : Run → ℕ → Run
 keptChallenge r c =
     record {
-      items = r .items;
-      rounds = r .rounds;
-      plain = r .plain;
+      start = r .start;
       mode = r .mode;
-      next = roundOrEnds (r .round + 1) (r .rounds);
+      next = roundOrEnds (r .round + 1) (r .start .rounds);
       round = r .round + 1;
-      twists = r .twists;
       challenges = set (r .challenges) (r .round) c;
       messages = r .messages;
       total = r .total;

@@ -33,7 +33,7 @@ changeAt Ends n = true
 changeAt Openings n = ltb 0 n
 
 abbrev pub mayChange : ℕ → Run → Pass → Bool
-mayChange p r s = cond (wellFormed p r s) (cond (isSmall (r .mode)) (changeAt (r .next) (r .rounds)) false) false
+mayChange p r s = cond (wellFormed p r s) (cond (isSmall (r .mode)) (changeAt (r .next) (r .start .rounds)) false) false
 
 -- how many places of the fold the padding completes
 abbrev pub paddingPlaces : Run → ℕ

@@ -27,13 +27,10 @@ use Rattle.prover.specs.Values.{valuesOf}
 abbrev pub goneTo : Run → Next → Run
 goneTo r next =
     record {
-      items = r .items;
-      rounds = r .rounds;
-      plain = r .plain;
+      start = r .start;
       mode = r .mode;
       next = next;
       round = r .round;
-      twists = r .twists;
       challenges = r .challenges;
       messages = r .messages;
       total = r .total;
@@ -44,13 +41,10 @@ goneTo r next =
 abbrev pub withTotal : Run → ℤ → Run
 withTotal r total =
     record {
-      items = r .items;
-      rounds = r .rounds;
-      plain = r .plain;
+      start = r .start;
       mode = r .mode;
-      next = roundOrEnds 0 (r .rounds);
+      next = roundOrEnds 0 (r .start .rounds);
       round = r .round;
-      twists = r .twists;
       challenges = r .challenges;
       messages = r .messages;
       total = total;
@@ -61,13 +55,10 @@ withTotal r total =
 abbrev pub withEnds : Run → ℕ → ℕ → Run
 withEnds r f g =
     record {
-      items = r .items;
-      rounds = r .rounds;
-      plain = r .plain;
+      start = r .start;
       mode = r .mode;
       next = Openings;
       round = r .round;
-      twists = r .twists;
       challenges = r .challenges;
       messages = r .messages;
       total = r .total;
@@ -78,13 +69,10 @@ withEnds r f g =
 abbrev pub inFull : Run → Run
 inFull r =
     record {
-      items = r .items;
-      rounds = r .rounds;
-      plain = r .plain;
+      start = r .start;
       mode = Full;
       next = r .next;
       round = r .round;
-      twists = r .twists;
       challenges = r .challenges;
       messages = r .messages;
       total = r .total;
@@ -99,8 +87,8 @@ shutPass = emptyPass Shut
 -- "A twisted run's total is a field number and has no limit"
 abbrev pub totalStep : Run → Pass → Step
 totalStep r s =
-    cond (r .plain) (answeredStep (withTotal r (s .total)) shutPass (answer.Total (s .total)))
-    (answeredStep (goneTo r (roundOrEnds 0 (r .rounds))) shutPass (answer.FieldTotal (s .dot)))
+    cond (r .start .plain) (answeredStep (withTotal r (s .total)) shutPass (answer.Total (s .total)))
+    (answeredStep (goneTo r (roundOrEnds 0 (r .start .rounds))) shutPass (answer.FieldTotal (s .dot)))
 
 -- the one level-n entry of each stack
 abbrev pub endsStep : Run → Pass → Step
@@ -114,7 +102,7 @@ changedStep r = answeredStep (inFull r) shutPass answer.Changed
 
 -- 7: a plain total within its limits
 abbrev pub totalFits : ℕ → Run → Pass → Bool
-totalFits p r s = cond (isTotal (r .next)) (cond (r .plain) (inLimits p (s .total)) true) true
+totalFits p r s = cond (isTotal (r .next)) (cond (r .start .plain) (inLimits p (s .total)) true) true
 
 -- the three numbers of message i, from place 3i on
 abbrev pub keptMessage : List ℕ → ℕ → ℕ → ℕ → ℕ → List ℕ
@@ -123,13 +111,10 @@ keptMessage messages i even cross odd = set (set (set messages (3 * i) even) (3 
 abbrev pub withMessage : Run → ℕ → ℕ → ℕ → Run
 withMessage r even cross odd =
     record {
-      items = r .items;
-      rounds = r .rounds;
-      plain = r .plain;
+      start = r .start;
       mode = r .mode;
       next = Challenge;
       round = r .round;
-      twists = r .twists;
       challenges = r .challenges;
       messages = keptMessage (r .messages) (r .round) even cross odd;
       total = r .total;
@@ -143,7 +128,7 @@ messageStep r s =
 
 -- the run stays where it is: "for as many points as wanted"
 abbrev pub openingStep : Run → Pass → Step
-openingStep r s = record { run = r; pass = shutPass; answer = answer.Opening; values = valuesOf (s .evals) (r .rounds) }
+openingStep r s = record { run = r; pass = shutPass; answer = answer.Opening; values = valuesOf (s .evals) (r .start .rounds) }
 
 -- what a pass that is whole answers
 abbrev pub finished : Run → Pass → Next → Outcome Step
@@ -162,7 +147,7 @@ closing r s Change = answered (changedStep r)
 unfoldable pub closeCall : ℕ → Run → Pass → Outcome Step
 closeCall p r s =
     require (passOpen p r s) number.order
-    (require (eqb (s .taken) (r .items)) number.items (require (totalFits p r s) number.total (closing r s (s .kind))))
+    (require (eqb (s .taken) (r .start .items)) number.items (require (totalFits p r s) number.total (closing r s (s .kind))))
 
 -- a call with no buffers
 abbrev pub leavesStep : Run → Pass → Outcome Step → Step

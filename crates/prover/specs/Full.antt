@@ -32,7 +32,7 @@ endsTurn p r s = cond (fullFormed p r s) (isEnds (r .next)) false
 
 -- "openings .. with n = 0" are refused
 abbrev pub openingTurn : ℕ → Run → Pass → Bool
-openingTurn p r s = cond (fullFormed p r s) (cond (isOpenings (r .next)) (ltb 0 (r .rounds)) false) false
+openingTurn p r s = cond (fullFormed p r s) (cond (isOpenings (r .next)) (ltb 0 (r .start .rounds)) false) false
 
 -- "in the places a full-mode call reads, a number P or more" is refused
 abbrev pub bothReduced : ℕ → Run → List ℕ → List ℕ → Bool

@@ -7,7 +7,7 @@ use lib.IntN.{pos}
 use Rattle.refusal.specs.Number as number
 use Rattle.refusal.specs.Outcome.{Outcome, answered, refused, require}
 use Rattle.algebra.specs.Mod.{negMod, mulMod}
-use Rattle.vector.specs.Slice.{isNonzero}
+use Rattle.field.specs.Number.{isNonzero}
 use Rattle.vector.specs.declared.kernel.Kernel.{Kernel}
 use Rattle.vector.specs.declared.kernel.Points.{Points}
 use Rattle.vector.specs.Kernel.{emptyKernel, paddingKernel}
@@ -66,7 +66,7 @@ mayOpen p r s = cond (wellFormed p r s) (cond (isSmall (r .mode)) (openNext (r .
 
 -- the run is small, the openings are next and there are rounds: "openings .. with n = 0" are refused
 abbrev pub mayOpenAt : ℕ → Run → Pass → Bool
-mayOpenAt p r s = cond (wellFormed p r s) (cond (isSmall (r .mode)) (cond (isOpenings (r .next)) (ltb 0 (r .rounds)) false) false) false
+mayOpenAt p r s = cond (wellFormed p r s) (cond (isSmall (r .mode)) (cond (isOpenings (r .next)) (ltb 0 (r .start .rounds)) false) false) false
 
 -- "A small pass takes the padding by itself", folding to the level of what is next
 abbrev pub paddedKernel : Run → Kernel

@@ -4,14 +4,14 @@ use mathlib.Core.List.{List}
 use Rattle.refusal.specs.Number as number
 use Rattle.refusal.specs.Outcome.{Outcome, answered, require}
 use Rattle.vector.specs.Vector.{at}
-use Rattle.vector.specs.Slice.{isNonzero}
+use Rattle.field.specs.Number.{isNonzero}
 use Rattle.vector.specs.Opening.{opening}
 use Rattle.vector.specs.Kernel.{entered}
 use Rattle.vector.specs.declared.kernel.Points.{Points}
 use Rattle.vector.specs.declared.kernel.Kernel.{Kernel}
 use Rattle.prover.specs.declared.Run.{Run}
 use Rattle.prover.specs.declared.Pass.{Pass}
-use Rattle.prover.specs.declared.Answer.the-variants as answer
+use Rattle.prover.specs.Reply as reply
 use Rattle.prover.specs.Records.{Out}
 use Rattle.prover.specs.Values.{inNinety}
 use Rattle.prover.specs.Full.{openingTurn, lentFolds}
@@ -28,8 +28,8 @@ openingGiven p r s b f g =
     record {
       run = r;
       pass = s;
-      answer = answer.Opening;
-      values = inNinety (r .rounds) (opening p (r .rounds) (at (r .challenges)) (at f) (at g) b);
+      answer = answered reply.opening;
+      values = inNinety (r .start .rounds) (opening p (r .start .rounds) (at (r .challenges)) (at f) (at g) b);
       f = f;
       g = g;
     }

@@ -56,15 +56,21 @@ levelAt n i Openings Asked = n
 levelAt n i Openings Change = 0
 
 abbrev pub levelOf : Run → Kind → ℕ
-levelOf r k = levelAt (r .rounds) (r .round) (r .next) k
+levelOf r k = levelAt (r .start .rounds) (r .round) (r .next) k
 
 -- how long the current fold is
+abbrev pub foldAt : ℕ → ℕ → Next → ℕ
+foldAt n i next = sizeIn32 n (levelAt n i next Shut)
+
 abbrev pub foldSize : Run → ℕ
-foldSize r = sizeIn32 (r .rounds) (levelOf r Shut)
+foldSize r = foldAt (r .start .rounds) (r .round) (r .next)
 
 -- the padding N - L, which a pass takes by itself
+abbrev pub paddingOf : ℕ → ℕ → ℕ
+paddingOf items n = sizeIn32 n 0 - items
+
 abbrev pub padding : Run → ℕ
-padding r = sizeIn32 (r .rounds) 0 - r .items
+padding r = paddingOf (r .start .items) (r .start .rounds)
 
 -- after the total, and after a challenge
 abbrev pub roundOrEnds : ℕ → ℕ → Next

@@ -12,10 +12,9 @@ use Rattle.prover.specs.declared.Kind.the-variants.{Shut, Asked, Change}
 use Rattle.prover.specs.declared.Run.{Run}
 use Rattle.prover.specs.declared.Pass.{Pass}
 use Rattle.prover.specs.declared.Step.{Step}
-use Rattle.prover.specs.declared.Check.{Check}
-use Rattle.prover.specs.declared.Check.the-variants as check
 use Rattle.prover.specs.declared.Answer.{Answer}
 use Rattle.prover.specs.declared.Answer.the-variants as answer
+use Rattle.prover.specs.Reply.{Reply, answerIn}
 
 -- the part of a pass that the kernel works on
 abbrev pub kernelOf : Pass → Kernel
@@ -61,13 +60,13 @@ noValues = replicate 90 0
 pub record Out : Type 0 where
   pub run : Run
   pub pass : Pass
-  pub answer : Answer
+  pub answer : Outcome Reply
   pub values : List ℕ
   pub f : List ℕ
   pub g : List ℕ
 
 abbrev pub out : Step → List ℕ → List ℕ → Out
-out s f g = record { run = s .run; pass = s .pass; answer = s .answer; values = s .values; f = f; g = g }
+out s f g = record { run = s .run; pass = s .pass; answer = answerIn (s .answer); values = s .values; f = f; g = g }
 
 abbrev pub answeredStep : Run → Pass → Answer → Step
 answeredStep r s a = record { run = r; pass = s; answer = a; values = noValues }
@@ -101,7 +100,3 @@ abbrev pub isChange : Kind → Bool
 isChange Shut = false
 isChange Asked = false
 isChange Change = true
-
-abbrev pub passed : Check → Bool
-passed check.Passed = true
-passed check.Failed = false

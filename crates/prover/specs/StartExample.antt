@@ -1,24 +1,30 @@
 -- Starts at their limits.
 use mathlib.Core.Path.{_≡_, refl}
-use mathlib.Core.Bool.{true, false}
-use mathlib.Core.List.{[], _∷_}
+use mathlib.Core.Bool.{Bool, true, false}
+use mathlib.Core.List.{List, [], _∷_}
+use Prim.Native.Nat.{ℕ}
+use lib.ListN.{replicate}
 use Rattle.refusal.specs.Number as number
 use Rattle.refusal.specs.Outcome.{answered, refused}
 use Rattle.vector.specs.Rounds.{powers, firstFrom}
 use Rattle.vector.specs.Slice.{overwrite, every, fifteen}
 use Rattle.algebra.specs.Mod.{residue, mulMod, powMod}
-use Rattle.prover.specs.Start.{zeros15, freshRun, started, startPlain, startTwisted, startRule}
+use Rattle.item.specs.declared.Start.{Start}
+use Rattle.prover.specs.Start.{freshRun, started, startPlain, startTwisted, startRule}
+
+abbrev start : ℕ → ℕ → Bool → List ℕ → Start
+start items rounds plain twists = record { items = items; rounds = rounds; plain = plain; twists = twists }
 
 no-items : startPlain 0 ≡ refused number.count
 unfolding startPlain
 no-items = refl
 
 -- document 01's trip
-three-items : startPlain 3 ≡ answered (started (freshRun 3 2 true zeros15))
+three-items : startPlain 3 ≡ answered (started (freshRun (start 3 2 true (replicate 15 0))))
 unfolding startPlain powers firstFrom
 three-items = refl
 
-most-items : startPlain 32768 ≡ answered (started (freshRun 32768 15 true zeros15))
+most-items : startPlain 32768 ≡ answered (started (freshRun (start 32768 15 true (replicate 15 0))))
 unfolding startPlain powers firstFrom
 most-items = refl
 
@@ -36,11 +42,11 @@ twist-seven : startTwisted 7 3 (1 ∷ 7 ∷ []) ≡ refused number.argument
 unfolding startTwisted powers firstFrom every
 twist-seven = refl
 
-two-twists : startTwisted 7 3 (5 ∷ 6 ∷ []) ≡ answered (started (freshRun 3 2 false (5 ∷ 6 ∷ 0 ∷ 0 ∷ 0 ∷ 0 ∷ 0 ∷ 0 ∷ 0 ∷ 0 ∷ 0 ∷ 0 ∷ 0 ∷ 0 ∷ 0 ∷ [])))
+two-twists : startTwisted 7 3 (5 ∷ 6 ∷ []) ≡ answered (started (freshRun (start 3 2 false (5 ∷ 6 ∷ 0 ∷ 0 ∷ 0 ∷ 0 ∷ 0 ∷ 0 ∷ 0 ∷ 0 ∷ 0 ∷ 0 ∷ 0 ∷ 0 ∷ 0 ∷ []))))
 unfolding startTwisted powers firstFrom every overwrite fifteen
 two-twists = refl
 
 -- 3, its square, and the square of that
-rule-twists : startRule 101 3 3 ≡ answered (started (freshRun 8 3 false (3 ∷ 9 ∷ 81 ∷ 0 ∷ 0 ∷ 0 ∷ 0 ∷ 0 ∷ 0 ∷ 0 ∷ 0 ∷ 0 ∷ 0 ∷ 0 ∷ 0 ∷ [])))
+rule-twists : startRule 101 3 3 ≡ answered (started (freshRun (start 8 3 false (3 ∷ 9 ∷ 81 ∷ 0 ∷ 0 ∷ 0 ∷ 0 ∷ 0 ∷ 0 ∷ 0 ∷ 0 ∷ 0 ∷ 0 ∷ 0 ∷ 0 ∷ []))))
 unfolding startRule overwrite powMod mulMod residue
 rule-twists = refl

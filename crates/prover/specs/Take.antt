@@ -5,9 +5,10 @@ use mathlib.Core.List.{List}
 use lib.Dec.{eqb}
 use lib.ListN.{set}
 use Rattle.algebra.specs.Mod.{addMod, mulMod}
-use Rattle.field.specs.Total.{plusItem}
+use Rattle.field.specs.Total.{plus}
 use Rattle.vector.specs.Vector.{at, weight}
-use Rattle.vector.specs.declared.item.Item.{Item}
+use Rattle.item.specs.declared.Item.{Item}
+use Rattle.item.specs.declared.Start.{Start}
 use Rattle.vector.specs.declared.kernel.Entered.{Entered}
 use Rattle.vector.specs.Kernel.{entered}
 use Rattle.prover.specs.declared.Run.{Run}
@@ -18,11 +19,14 @@ use Rattle.prover.specs.Order.{isTotal, levelOf, foldSize, padding}
 
 -- the index of the next item: "from index L-1 down"
 abbrev pub nextIndex : Run → Pass → ℕ
-nextIndex r s = r .items - 1 - s .taken
+nextIndex r s = r .start .items - 1 - s .taken
 
 -- "Item i of f is first multiplied by the product of those v_k with b_k = 1"; the twists of a plain run are 1
+abbrev pub entersAs : ℕ → Start → ℕ → ℕ → ℕ
+entersAs p start i x = cond (start .plain) x (mulMod p x (weight p (at (start .twists)) (start .rounds) i))
+
 unfoldable pub entering : ℕ → Run → Pass → Item → ℕ
-entering p r s x = cond (r .plain) (x .f) (mulMod p (x .f) (weight p (at (r .twists)) (r .rounds) (nextIndex r s)))
+entering p r s x = entersAs p (r .start) (nextIndex r s) (x .f)
 
 -- one more item taken
 abbrev pub oneMore : Pass → Pass
@@ -51,7 +55,7 @@ summedItem p s x f =
     record {
       kind = s .kind;
       taken = s .taken + 1;
-      total = plusItem (s .total) (x .reading) (x .weight);
+      total = plus (s .total) (x .worth);
       dot = addMod p (s .dot) (mulMod p f (x .g));
       points = s .points;
       flevels = s .flevels;

@@ -3,7 +3,7 @@ use Prim.Native.Nat.{ℕ, _*_}
 use mathlib.Core.Bool.{Bool, true, false, cond}
 use lib.Dec.{eqb, leb, ltb}
 use lib.IntN.{natAbs}
-use Rattle.refusal.specs.Limit.{maxItems}
+use Rattle.refusal.specs.Limit.{maxItems, maxRounds}
 use Rattle.field.specs.Total.{inLimits}
 use Rattle.vector.specs.Rounds.{roundsOf}
 use Rattle.prover.specs.declared.Mode.{Mode}
@@ -46,18 +46,18 @@ kindFits Change mode next = cond (isSmall mode) (changeNext next) false
 
 unfoldable pub runFormed : ℕ → Run → Bool
 runFormed p r =
-    cond (ltb (r .items) 1) false
-    (cond (ltb maxItems (r .items)) false
-    (cond (eqb (r .rounds) (roundsOf (r .items)))
-    (cond (roundFits (r .next) (r .round) (r .rounds)) (inLimits p (r .total)) false)
+    cond (ltb (r .start .items) 1) false
+    (cond (ltb maxItems (r .start .items)) false
+    (cond (eqb (r .start .rounds) (roundsOf (r .start .items)))
+    (cond (roundFits (r .next) (r .round) (r .start .rounds)) (inLimits p (r .total)) false)
     false))
 
 -- 47,185,920 is the largest product of a reading and a weight
 unfoldable pub passFormed : Run → Pass → Bool
 passFormed r s =
     cond (kindFits (s .kind) (r .mode) (r .next))
-    (cond (ltb (r .items) (s .taken)) false
-    (cond (eqb (s .fcount) (s .gcount)) (cond (ltb 15 (s .fcount)) false (leb (natAbs (s .total)) (s .taken * 47185920))) false))
+    (cond (ltb (r .start .items) (s .taken)) false
+    (cond (eqb (s .fcount) (s .gcount)) (cond (ltb maxRounds (s .fcount)) false (leb (natAbs (s .total)) (s .taken * 47185920))) false))
     false
 
 unfoldable pub wellFormed : ℕ → Run → Pass → Bool

@@ -15,12 +15,12 @@ use Rattle.prover.specs.WellFormed.{wellFormed}
 
 -- 10: "a proof file written .. for a twisted run", or before the ends were given
 abbrev pub mayWrite : ℕ → Run → Pass → Bool
-mayWrite p r s = cond (wellFormed p r s) (cond (r .plain) (isOpenings (r .next)) false) false
+mayWrite p r s = cond (wellFormed p r s) (cond (r .start .plain) (isOpenings (r .next)) false) false
 
 -- then what the writer of the file answers; of a run that calls made it refuses only a short buffer (9)
 unfoldable pub writeCall : ℕ → Run → Pass → List ℕ → Outcome ℕ
 writeCall p r s file =
-    require (mayWrite p r s) number.order (writeProof p (r .rounds) (r .total) (r .messages) (r .fend) (r .gend) file)
+    require (mayWrite p r s) number.order (writeProof p (r .start .rounds) (r .total) (r .messages) (r .fend) (r .gend) file)
 
 abbrev pub writtenStep : Run → Pass → Outcome ℕ → Step
 writtenStep r s (answered size) = answeredStep r s (answer.Written size)
@@ -29,4 +29,4 @@ writtenStep r s (refusedAt k i) = refusedAtStep r s k i
 
 -- the run's proof
 abbrev pub proofOf : Run → List ℕ
-proofOf r = proofFile (r .rounds) (r .total) (proofValues (r .rounds) (r .messages) (r .fend) (r .gend))
+proofOf r = proofFile (r .start .rounds) (r .total) (proofValues (r .start .rounds) (r .messages) (r .fend) (r .gend))

@@ -1,11 +1,11 @@
 // A challenge: in small mode the run keeps it; in full mode both lent folds are folded too.
 ghost use mathlib.Core.Path.{_≡_};
 ghost use Prim.Native.Nat.{_<_};
+ghost use Rattle.item.specs.Start.{modulusOf};
 ghost use Rattle.prover.specs.Records.{out, leaves};
 ghost use Rattle.prover.specs.Order.{roundOrEnds};
 ghost use Rattle.prover.specs.Challenge.{keptChallenge, challengedSmall, challengedFull, challengeCall};
 use super::Answer;
-use super::Check;
 use super::Pass;
 use super::Run;
 use super::Step;
@@ -15,7 +15,9 @@ use super::checks;
 use super::formed;
 use super::full_checks;
 use super::levels;
+use field::Checked;
 use field::Field;
+use refusal::Check;
 
 fn keep_challenge(run: Run, c: u32) -> Run
     requires { ⌜ run .round < 15 ⌝ }
@@ -24,8 +26,9 @@ fn keep_challenge(run: Run, c: u32) -> Run
     let at = run.round as usize;
     let mut challenges = run.challenges;
     challenges[at] = c;
+    let start = run.start;
     let round = run.round + 1;
-    let next = super::close::round_or_ends(round, run.rounds);
+    let next = super::close::round_or_ends(round, start.rounds);
     Run {
         challenges,
         round,
@@ -43,37 +46,41 @@ fn challenge_small(run: Run, pass: Pass, c: u32) -> Step
 }
 
 // A challenge in full mode: "writes as many as the new fold is long; all other places stay".
-fn challenge_full(run: Run, pass: Pass, c: u32, f: &mut [u32], g: &mut [u32]) -> Step
+fn challenge_full(p: u32, run: Run, pass: Pass, c: u32, f: &mut [u32], g: &mut [u32]) -> Step
     requires { ⌜ run .round < 15 ⌝ }
-    ensures { λ r. ⌜ out r (now (f .exit)) (now (g .exit)) ≡ challengedFull 2147483647 run pass c (now (f .entry)) (now (g .entry)) ⌝ }
+    ensures { λ r. ⌜ out r (now (f .exit)) (now (g .exit)) ≡ challengedFull p run pass c (now (f .entry)) (now (g .entry)) ⌝ }
 {
-    let half = (levels::fold_size(run) / 2) as usize;
-    vector::slice::fold(Field::MODULUS, c, f, half);
-    vector::slice::fold(Field::MODULUS, c, g, half);
+    let start = run.start;
+    let next = run.next;
+    let half = (levels::fold_size(start.rounds, run.round, next) / 2) as usize;
+    vector::slice::fold(p, c, f, half);
+    vector::slice::fold(p, c, g, half);
     answered(keep_challenge(run, c), pass, Answer::Challenged)
 }
 
 impl Run {
     // The buffers matter in full mode only.
     pub fn challenge(self, pass: Pass, c: u32, f: &mut [u32], g: &mut [u32]) -> Step
-        ensures { λ r. ⌜ out r (now (f .exit)) (now (g .exit)) ≡ leaves self pass (now (f .entry)) (now (g .entry)) (challengeCall 2147483647 self pass c (now (f .entry)) (now (g .entry))) ⌝ }
+        ensures { λ r. ⌜ out r (now (f .exit)) (now (g .exit)) ≡ leaves self pass (now (f .entry)) (now (g .entry)) (challengeCall (modulusOf (self .start)) self pass c (now (f .entry)) (now (g .entry))) ⌝ }
     {
-        let Check::Passed = full_checks::challenge_next(self, pass) else {
+        let p = item::modulus_of(self.start);
+        let Check::Passed = full_checks::challenge_next(p, self, pass) else {
             return refuse(self, pass, refusal::ORDER);
         };
-        let Check::Passed = full_checks::number_ok(c) else {
+        let Checked::Number(number) = Field::nonzero_in(p, c) else {
             return refuse(self, pass, refusal::ARGUMENT);
         };
+        let x = number.to_u32();
         let mode = self.mode;
         if formed::is_small(mode) {
-            return challenge_small(self, pass, c);
+            return challenge_small(self, pass, x);
         }
         let Check::Passed = checks::both_long(self, f.len(), g.len()) else {
             return refuse(self, pass, refusal::BUFFER);
         };
-        let Check::Passed = full_checks::both_reduced(self, f, g) else {
+        let Check::Passed = full_checks::both_reduced(p, self, f, g) else {
             return refuse(self, pass, refusal::VECTOR);
         };
-        challenge_full(self, pass, c, f, g)
+        challenge_full(p, self, pass, x, f, g)
     }
 }

@@ -1,10 +1,11 @@
 // The change to full mode: its pass is opened here, and its items write the buffers.
 ghost use mathlib.Core.Path.{_≡_};
 ghost use Prim.Native.Nat.{_+_, _≤_, _<_, _^_};
-ghost use Rattle.prover.specs.Records.{passed, out, leaves};
+ghost use Rattle.refusal.specs.Check.{passed};
+ghost use Rattle.item.specs.Start.{modulusOf};
+ghost use Rattle.prover.specs.Records.{out, leaves};
 ghost use Rattle.prover.specs.Change.{emptyPass, changeAt, mayChange, paddingPlaces, cleared, paddedBuffer, changePass, changes, toFullCall};
 use super::Answer;
-use super::Check;
 use super::Kind;
 use super::Next;
 use super::Pass;
@@ -16,6 +17,8 @@ use super::checks;
 use super::formed;
 use super::levels;
 use super::open;
+use refusal::Check;
+use refusal::pass_if;
 use vector::slice::write;
 
 // A pass of a kind that has taken nothing.
@@ -38,21 +41,19 @@ fn change_at(next: Next, rounds: u32) -> bool
 }
 
 // 10: small, before a later pass.
-fn may_change(run: Run, pass: Pass) -> Check
-    ensures { λ r. ⌜ passed r ≡ mayChange 2147483647 run pass ⌝ }
+fn may_change(p: u32, run: Run, pass: Pass) -> Check
+    ensures { λ r. ⌜ passed r ≡ mayChange p run pass ⌝ }
 {
-    if formed::well_formed(run, pass) {} else {
+    if formed::well_formed(p, run, pass) {} else {
         return Check::Failed;
     }
     let mode = run.mode;
     if formed::is_small(mode) {} else {
         return Check::Failed;
     }
+    let start = run.start;
     let next = run.next;
-    if change_at(next, run.rounds) {
-        return Check::Passed;
-    }
-    Check::Failed
+    pass_if(change_at(next, start.rounds))
 }
 
 fn clear(v: &mut [u32], from: usize, count: usize)
@@ -68,18 +69,22 @@ fn clear(v: &mut [u32], from: usize, count: usize)
 
 // How many places of the fold the padding completes.
 fn padding_places(run: Run) -> u32
-    requires { ⌜ (run .rounds ≤ 15) × (run .round ≤ run .rounds) ⌝ }
+    requires { ⌜ (run .start .rounds ≤ 15) × (run .round ≤ run .start .rounds) ⌝ }
     ensures { λ r. ⌜ r ≡ paddingPlaces run ⌝ }
 {
-    let level = levels::level_of(run, Kind::Change);
-    levels::padding_of(run) >> level
+    let start = run.start;
+    let next = run.next;
+    let level = levels::level_of(start.rounds, run.round, next, Kind::Change);
+    levels::padding_of(start.items, start.rounds) >> level
 }
 
 fn pad_buffer(run: Run, v: &mut [u32])
-    requires { ⌜ (run .rounds ≤ 15) × (run .round ≤ run .rounds) ⌝ }
+    requires { ⌜ (run .start .rounds ≤ 15) × (run .round ≤ run .start .rounds) ⌝ }
     ensures { λ r. ⌜ now (v .exit) ≡ paddedBuffer run (now (v .entry)) ⌝ }
 {
-    let size = levels::fold_size(run);
+    let start = run.start;
+    let next = run.next;
+    let size = levels::fold_size(start.rounds, run.round, next);
     let count = padding_places(run);
     if size < count {
         clear(v, 0, count as usize);
@@ -91,17 +96,20 @@ fn pad_buffer(run: Run, v: &mut [u32])
 fn change_pass(run: Run) -> Pass
     ensures { λ r. ⌜ r ≡ changePass run ⌝ }
 {
-    let level = levels::level_of(run, Kind::Change);
-    let kernel = vector::kernel::padding(levels::padding_of(run), level);
+    let start = run.start;
+    let next = run.next;
+    let level = levels::level_of(start.rounds, run.round, next, Kind::Change);
+    let padding = levels::padding_of(start.items, start.rounds);
+    let kernel = vector::kernel::padding(padding, level);
     open::new_pass(Kind::Change, open::no_points(), kernel)
 }
 
 impl Run {
     // Opens the pass that changes to full mode, and writes the places that the padding completes.
     pub fn to_full(self, pass: Pass, f: &mut [u32], g: &mut [u32]) -> Step
-        ensures { λ r. ⌜ out r (now (f .exit)) (now (g .exit)) ≡ leaves self pass (now (f .entry)) (now (g .entry)) (toFullCall 2147483647 self pass (now (f .entry)) (now (g .entry))) ⌝ }
+        ensures { λ r. ⌜ out r (now (f .exit)) (now (g .exit)) ≡ leaves self pass (now (f .entry)) (now (g .entry)) (toFullCall (modulusOf (self .start)) self pass (now (f .entry)) (now (g .entry))) ⌝ }
     {
-        let Check::Passed = may_change(self, pass) else {
+        let Check::Passed = may_change(item::modulus_of(self.start), self, pass) else {
             return refuse(self, pass, refusal::ORDER);
         };
         let Check::Passed = checks::both_long(self, f.len(), g.len()) else {

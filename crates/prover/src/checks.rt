@@ -1,21 +1,21 @@
 // One check for each number of the table, each answered by Passed or Failed.
 ghost use mathlib.Core.Path.{_≡_};
-ghost use mathlib.Core.Bool.{not};
 ghost use lib.Dec.{ltb};
-ghost use Rattle.prover.specs.Records.{passed};
+ghost use Rattle.refusal.specs.Check.{passed};
 ghost use Rattle.prover.specs.Calls.{passOpen, bothLong, placesThere};
-use super::Check;
 use super::Kind;
 use super::Pass;
 use super::Run;
 use super::formed;
 use super::levels;
+use refusal::Check;
+use refusal::pass_if;
 
 // 10: a record that a call returned, with a pass open.
-pub fn pass_open(run: Run, pass: Pass) -> Check
-    ensures { λ r. ⌜ passed r ≡ passOpen 2147483647 run pass ⌝ }
+pub fn pass_open(p: u32, run: Run, pass: Pass) -> Check
+    ensures { λ r. ⌜ passed r ≡ passOpen p run pass ⌝ }
 {
-    if formed::well_formed(run, pass) {} else {
+    if formed::well_formed(p, run, pass) {} else {
         return Check::Failed;
     }
     let kind = pass.kind;
@@ -27,40 +27,19 @@ pub fn pass_open(run: Run, pass: Pass) -> Check
 }
 
 // 8: an item is wanted.
-pub fn item_wanted(run: Run, pass: Pass) -> Check
-    ensures { λ r. ⌜ passed r ≡ ltb (pass .taken) (run .items) ⌝ }
+pub fn item_wanted(taken: u32, items: u32) -> Check
+    ensures { λ r. ⌜ passed r ≡ ltb taken items ⌝ }
 {
-    if pass.taken < run.items {
-        return Check::Passed;
-    }
-    Check::Failed
-}
-
-// 10: a plain item for a plain run.
-pub fn is_plain(run: Run) -> Check
-    ensures { λ r. ⌜ passed r ≡ run .plain ⌝ }
-{
-    if run.plain {
-        return Check::Passed;
-    }
-    Check::Failed
-}
-
-// 10: field numbers for a twisted run.
-pub fn is_twisted(run: Run) -> Check
-    ensures { λ r. ⌜ passed r ≡ not (run .plain) ⌝ }
-{
-    if run.plain {
-        return Check::Failed;
-    }
-    Check::Passed
+    pass_if(taken < items)
 }
 
 // 9: both buffers are as long as the current fold.
 pub fn both_long(run: Run, flen: usize, glen: usize) -> Check
     ensures { λ r. ⌜ passed r ≡ bothLong run flen glen ⌝ }
 {
-    let size = levels::fold_size(run) as usize;
+    let start = run.start;
+    let next = run.next;
+    let size = levels::fold_size(start.rounds, run.round, next) as usize;
     if flen < size {
         return Check::Failed;
     }

@@ -2,13 +2,15 @@
 ghost use mathlib.Core.Path.{_≡_};
 ghost use Prim.Native.Nat.{_≤_, _<_};
 ghost use mathlib.Core.Bool.{true};
+ghost use mathlib.Core.List.{[]};
 ghost use lib.Dec.{eqb};
-ghost use Rattle.prover.specs.Records.{passed};
+ghost use Rattle.refusal.specs.Check.{passed};
+ghost use Rattle.item.specs.Start.{modulusOf};
+ghost use Rattle.prover.specs.Records.{out};
 ghost use Rattle.prover.specs.Order.{roundOrEnds};
 ghost use Rattle.prover.specs.WellFormed.{roundFits};
 ghost use Rattle.prover.specs.Close.{totalFits, totalStep, messageStep, endsStep, openingStep, changedStep, finished, closing, closeCall, leavesStep, goneTo, withMessage, withEnds, inFull};
 use super::Answer;
-use super::Check;
 use super::Kind;
 use super::Mode;
 use super::Next;
@@ -21,33 +23,29 @@ use super::change::empty_pass;
 use super::checks;
 use super::levels;
 use super::values;
-use field::Field;
+use refusal::Check;
+use refusal::pass_if;
 
 // 8: no item is wanting.
-fn all_taken(run: Run, pass: Pass) -> Check
-    ensures { λ r. ⌜ passed r ≡ eqb (pass .taken) (run .items) ⌝ }
+fn all_taken(taken: u32, items: u32) -> Check
+    ensures { λ r. ⌜ passed r ≡ eqb taken items ⌝ }
 {
-    if pass.taken == run.items {
-        return Check::Passed;
-    }
-    Check::Failed
+    pass_if(taken == items)
 }
 
 // 7: a plain total within its limits.
-fn total_fits(run: Run, pass: Pass) -> Check
-    ensures { λ r. ⌜ passed r ≡ totalFits 2147483647 run pass ⌝ }
+fn total_fits(p: u32, run: Run, pass: Pass) -> Check
+    ensures { λ r. ⌜ passed r ≡ totalFits p run pass ⌝ }
 {
     let next = run.next;
     if levels::is_total(next) {} else {
         return Check::Passed;
     }
-    if run.plain {} else {
+    let start = run.start;
+    if start.plain {} else {
         return Check::Passed;
     }
-    if field::total::within(Field::MODULUS, pass.total) {
-        return Check::Passed;
-    }
-    Check::Failed
+    pass_if(field::total::within(p, pass.total))
 }
 
 // After the total, and after a challenge.
@@ -69,9 +67,10 @@ pub fn gone_to(run: Run, next: Next) -> Run
 fn close_total(run: Run, pass: Pass) -> Step
     ensures { λ r. ⌜ r ≡ totalStep run pass ⌝ }
 {
-    let next = round_or_ends(0, run.rounds);
+    let start = run.start;
+    let next = round_or_ends(0, start.rounds);
     let shut = empty_pass(Kind::Shut);
-    if run.plain {
+    if start.plain {
         let total = pass.total;
         return answered(Run { next, total, ..run }, shut, Answer::Total(total));
     }
@@ -136,8 +135,9 @@ fn close_ends(run: Run, pass: Pass) -> Step
 fn close_openings(run: Run, pass: Pass) -> Step
     ensures { λ r. ⌜ r ≡ openingStep run pass ⌝ }
 {
+    let start = run.start;
     let evals = pass.evals;
-    let values = values::values_of(evals, run.rounds);
+    let values = values::values_of(evals, start.rounds);
     Step {
         run,
         pass: empty_pass(Kind::Shut),
@@ -162,7 +162,7 @@ fn close_change(run: Run) -> Step
 }
 
 fn finish(run: Run, pass: Pass) -> Step
-    requires { ⌜ (roundFits (run .next) (run .round) (run .rounds) ≡ true) × (run .rounds ≤ 15) ⌝ }
+    requires { ⌜ (roundFits (run .next) (run .round) (run .start .rounds) ≡ true) × (run .start .rounds ≤ 15) ⌝ }
     ensures { λ r. ⌜ r ≡ leavesStep run pass (finished run pass (run .next)) ⌝ }
 {
     let next = run.next;
@@ -176,7 +176,7 @@ fn finish(run: Run, pass: Pass) -> Step
 }
 
 fn close_kind(run: Run, pass: Pass) -> Step
-    requires { ⌜ (roundFits (run .next) (run .round) (run .rounds) ≡ true) × (run .rounds ≤ 15) ⌝ }
+    requires { ⌜ (roundFits (run .next) (run .round) (run .start .rounds) ≡ true) × (run .start .rounds ≤ 15) ⌝ }
     ensures { λ r. ⌜ r ≡ leavesStep run pass (closing run pass (pass .kind)) ⌝ }
 {
     let kind = pass.kind;
@@ -190,15 +190,17 @@ fn close_kind(run: Run, pass: Pass) -> Step
 impl Run {
     // Ends the open pass with its answer. A refused total leaves the pass open.
     pub fn close(self, pass: Pass) -> Step
-        ensures { λ r. ⌜ r ≡ leavesStep self pass (closeCall 2147483647 self pass) ⌝ }
+        ensures { λ r. ⌜ out r [] [] ≡ out (leavesStep self pass (closeCall (modulusOf (self .start)) self pass)) [] [] ⌝ }
     {
-        let Check::Passed = checks::pass_open(self, pass) else {
+        let start = self.start;
+        let p = item::modulus_of(start);
+        let Check::Passed = checks::pass_open(p, self, pass) else {
             return refuse(self, pass, refusal::ORDER);
         };
-        let Check::Passed = all_taken(self, pass) else {
+        let Check::Passed = all_taken(pass.taken, start.items) else {
             return refuse(self, pass, refusal::ITEMS);
         };
-        let Check::Passed = total_fits(self, pass) else {
+        let Check::Passed = total_fits(p, self, pass) else {
             return refuse(self, pass, refusal::TOTAL);
         };
         close_kind(self, pass)

@@ -75,23 +75,27 @@ fn kind_fits(kind: Kind, mode: Mode, next: Next) -> bool
     }
 }
 
-fn run_formed(run: Run) -> bool
-    ensures { λ r. ⌜ r ≡ runFormed 2147483647 run ⌝ }
+// The largest product of a reading and a weight.
+const MAX_WORTH: u64 = 47185920;
+
+fn run_formed(p: u32, run: Run) -> bool
+    ensures { λ r. ⌜ r ≡ runFormed p run ⌝ }
 {
-    if run.items < 1 {
+    let start = run.start;
+    if start.items < 1 {
         return false;
     }
-    if run.items > 32768 {
+    if start.items > refusal::MAX_ITEMS {
         return false;
     }
-    if run.rounds != vector::sizes::rounds_of(run.items) {
+    if start.rounds != vector::sizes::rounds_of(start.items) {
         return false;
     }
     let next = run.next;
-    if round_fits(next, run.round, run.rounds) {} else {
+    if round_fits(next, run.round, start.rounds) {} else {
         return false;
     }
-    field::total::within(field::Field::MODULUS, run.total)
+    field::total::within(p, run.total)
 }
 
 fn pass_formed(run: Run, pass: Pass) -> bool
@@ -103,22 +107,23 @@ fn pass_formed(run: Run, pass: Pass) -> bool
     if kind_fits(kind, mode, next) {} else {
         return false;
     }
-    if run.items < pass.taken {
+    let start = run.start;
+    if start.items < pass.taken {
         return false;
     }
     if pass.fcount != pass.gcount {
         return false;
     }
-    if pass.fcount > 15 {
+    if pass.fcount > (refusal::MAX_ROUNDS as usize) {
         return false;
     }
-    field::integer::magnitude(pass.total) <= (pass.taken as u64) * 47185920
+    field::integer::magnitude(pass.total) <= (pass.taken as u64) * MAX_WORTH
 }
 
-pub fn well_formed(run: Run, pass: Pass) -> bool
-    ensures { λ r. ⌜ r ≡ wellFormed 2147483647 run pass ⌝ }
+pub fn well_formed(p: u32, run: Run, pass: Pass) -> bool
+    ensures { λ r. ⌜ r ≡ wellFormed p run pass ⌝ }
 {
-    if run_formed(run) {
+    if run_formed(p, run) {
         return pass_formed(run, pass);
     }
     false

@@ -3,10 +3,10 @@ ghost use mathlib.Core.Path.{_≡_};
 ghost use Prim.Native.Nat.{_≤_, _<_, _^_};
 ghost use lib.ListN.{length};
 ghost use Rattle.vector.specs.Slice.{messageIn};
+ghost use Rattle.item.specs.Start.{modulusOf};
 ghost use Rattle.prover.specs.Records.{out, leaves};
 ghost use Rattle.prover.specs.Full.{keptMessage, messageGiven, keptEnds, endsGiven, messageCall, endsCall};
 use super::Answer;
-use super::Check;
 use super::Pass;
 use super::Run;
 use super::Step;
@@ -17,16 +17,18 @@ use super::close::keep_ends;
 use super::close::keep_message;
 use super::full_checks;
 use super::levels;
-use field::Field;
+use refusal::Check;
 use vector::Message;
 
 // An answered message.
-fn give_message(run: Run, pass: Pass, f: &[u32], g: &[u32]) -> Step
+fn give_message(p: u32, run: Run, pass: Pass, f: &[u32], g: &[u32]) -> Step
     requires { ⌜ run .round < 15 ⌝ }
-    ensures { λ r. ⌜ out r (now (f .entry)) (now (g .entry)) ≡ messageGiven 2147483647 run pass (now (f .entry)) (now (g .entry)) ⌝ }
+    ensures { λ r. ⌜ out r (now (f .entry)) (now (g .entry)) ≡ messageGiven p run pass (now (f .entry)) (now (g .entry)) ⌝ }
 {
-    let half = (levels::fold_size(run) / 2) as usize;
-    let m = vector::slice::message(Field::MODULUS, f, g, half);
+    let start = run.start;
+    let next = run.next;
+    let half = (levels::fold_size(start.rounds, run.round, next) / 2) as usize;
+    let m = vector::slice::message(p, f, g, half);
     answered(
         keep_message(run, m.even, m.cross, m.odd),
         pass,
@@ -47,31 +49,33 @@ fn give_ends(run: Run, pass: Pass, f: &[u32], g: &[u32]) -> Step
 impl Run {
     // The message of the current fold.
     pub fn message(self, pass: Pass, f: &[u32], g: &[u32]) -> Step
-        ensures { λ r. ⌜ out r (now (f .entry)) (now (g .entry)) ≡ leaves self pass (now (f .entry)) (now (g .entry)) (messageCall 2147483647 self pass (now (f .entry)) (now (g .entry))) ⌝ }
+        ensures { λ r. ⌜ out r (now (f .entry)) (now (g .entry)) ≡ leaves self pass (now (f .entry)) (now (g .entry)) (messageCall (modulusOf (self .start)) self pass (now (f .entry)) (now (g .entry))) ⌝ }
     {
-        let Check::Passed = full_checks::message_next(self, pass) else {
+        let p = item::modulus_of(self.start);
+        let Check::Passed = full_checks::message_next(p, self, pass) else {
             return refuse(self, pass, refusal::ORDER);
         };
         let Check::Passed = checks::both_long(self, f.len(), g.len()) else {
             return refuse(self, pass, refusal::BUFFER);
         };
-        let Check::Passed = full_checks::both_reduced(self, f, g) else {
+        let Check::Passed = full_checks::both_reduced(p, self, f, g) else {
             return refuse(self, pass, refusal::VECTOR);
         };
-        give_message(self, pass, f, g)
+        give_message(p, self, pass, f, g)
     }
 
     // The end values.
     pub fn ends(self, pass: Pass, f: &[u32], g: &[u32]) -> Step
-        ensures { λ r. ⌜ out r (now (f .entry)) (now (g .entry)) ≡ leaves self pass (now (f .entry)) (now (g .entry)) (endsCall 2147483647 self pass (now (f .entry)) (now (g .entry))) ⌝ }
+        ensures { λ r. ⌜ out r (now (f .entry)) (now (g .entry)) ≡ leaves self pass (now (f .entry)) (now (g .entry)) (endsCall (modulusOf (self .start)) self pass (now (f .entry)) (now (g .entry))) ⌝ }
     {
-        let Check::Passed = full_checks::ends_next(self, pass) else {
+        let p = item::modulus_of(self.start);
+        let Check::Passed = full_checks::ends_next(p, self, pass) else {
             return refuse(self, pass, refusal::ORDER);
         };
         let Check::Passed = checks::both_long(self, f.len(), g.len()) else {
             return refuse(self, pass, refusal::BUFFER);
         };
-        let Check::Passed = full_checks::both_reduced(self, f, g) else {
+        let Check::Passed = full_checks::both_reduced(p, self, f, g) else {
             return refuse(self, pass, refusal::VECTOR);
         };
         give_ends(self, pass, f, g)

@@ -1,17 +1,17 @@
 // The checks of the full-mode calls and of a challenge, each answered by Passed or Failed.
 ghost use mathlib.Core.Path.{_≡_};
-ghost use Rattle.vector.specs.Slice.{isNonzero};
-ghost use Rattle.prover.specs.Records.{passed, isFull};
+ghost use Rattle.refusal.specs.Check.{passed};
+ghost use Rattle.prover.specs.Records.{isFull};
 ghost use Rattle.prover.specs.Full.{isMessage, isEnds, isOpenings, fullFormed, messageTurn, endsTurn, openingTurn, bothReduced};
 ghost use Rattle.prover.specs.Challenge.{isChallenge, challengeTurn};
-use super::Check;
 use super::Mode;
 use super::Next;
 use super::Pass;
 use super::Run;
 use super::formed;
 use super::levels;
-use field::Field;
+use refusal::Check;
+use refusal::pass_if;
 
 fn is_full(mode: Mode) -> bool
     ensures { λ r. ⌜ r ≡ isFull mode ⌝ }
@@ -59,10 +59,10 @@ fn is_ends(next: Next) -> bool
 }
 
 // A record that a call returned, of a run in full mode.
-fn full_formed(run: Run, pass: Pass) -> bool
-    ensures { λ r. ⌜ r ≡ fullFormed 2147483647 run pass ⌝ }
+fn full_formed(p: u32, run: Run, pass: Pass) -> bool
+    ensures { λ r. ⌜ r ≡ fullFormed p run pass ⌝ }
 {
-    if formed::well_formed(run, pass) {
+    if formed::well_formed(p, run, pass) {
         let mode = run.mode;
         return is_full(mode);
     }
@@ -70,84 +70,62 @@ fn full_formed(run: Run, pass: Pass) -> bool
 }
 
 // 10: a message of a full run is next.
-pub fn message_next(run: Run, pass: Pass) -> Check
-    ensures { λ r. ⌜ passed r ≡ messageTurn 2147483647 run pass ⌝ }
+pub fn message_next(p: u32, run: Run, pass: Pass) -> Check
+    ensures { λ r. ⌜ passed r ≡ messageTurn p run pass ⌝ }
 {
-    if full_formed(run, pass) {} else {
+    if full_formed(p, run, pass) {} else {
         return Check::Failed;
     }
     let next = run.next;
-    if is_message(next) {
-        return Check::Passed;
-    }
-    Check::Failed
+    pass_if(is_message(next))
 }
 
 // 10: a challenge is next.
-pub fn challenge_next(run: Run, pass: Pass) -> Check
-    ensures { λ r. ⌜ passed r ≡ challengeTurn 2147483647 run pass ⌝ }
+pub fn challenge_next(p: u32, run: Run, pass: Pass) -> Check
+    ensures { λ r. ⌜ passed r ≡ challengeTurn p run pass ⌝ }
 {
-    if formed::well_formed(run, pass) {} else {
+    if formed::well_formed(p, run, pass) {} else {
         return Check::Failed;
     }
     let next = run.next;
-    if is_challenge(next) {
-        return Check::Passed;
-    }
-    Check::Failed
+    pass_if(is_challenge(next))
 }
 
 // 10: the ends of a full run are next.
-pub fn ends_next(run: Run, pass: Pass) -> Check
-    ensures { λ r. ⌜ passed r ≡ endsTurn 2147483647 run pass ⌝ }
+pub fn ends_next(p: u32, run: Run, pass: Pass) -> Check
+    ensures { λ r. ⌜ passed r ≡ endsTurn p run pass ⌝ }
 {
-    if full_formed(run, pass) {} else {
+    if full_formed(p, run, pass) {} else {
         return Check::Failed;
     }
     let next = run.next;
-    if is_ends(next) {
-        return Check::Passed;
-    }
-    Check::Failed
+    pass_if(is_ends(next))
 }
 
 // 10: openings of a full run are next, and there are rounds to open.
-pub fn openings_next(run: Run, pass: Pass) -> Check
-    ensures { λ r. ⌜ passed r ≡ openingTurn 2147483647 run pass ⌝ }
+pub fn openings_next(p: u32, run: Run, pass: Pass) -> Check
+    ensures { λ r. ⌜ passed r ≡ openingTurn p run pass ⌝ }
 {
-    if full_formed(run, pass) {} else {
+    if full_formed(p, run, pass) {} else {
         return Check::Failed;
     }
     let next = run.next;
     if super::open_checks::is_openings(next) {} else {
         return Check::Failed;
     }
-    if 0 < run.rounds {
-        return Check::Passed;
-    }
-    Check::Failed
-}
-
-// 6: a challenge or a point is from 1 to P - 1.
-pub fn number_ok(x: u32) -> Check
-    ensures { λ r. ⌜ passed r ≡ isNonzero 2147483647 x ⌝ }
-{
-    if vector::slice::is_nonzero(Field::MODULUS, x) {
-        return Check::Passed;
-    }
-    Check::Failed
+    let start = run.start;
+    pass_if(0 < start.rounds)
 }
 
 // 16: the places of the current fold are field numbers, in f and in g.
-pub fn both_reduced(run: Run, f: &[u32], g: &[u32]) -> Check
-    ensures { λ r. ⌜ passed r ≡ bothReduced 2147483647 run (now (f .entry)) (now (g .entry)) ⌝ }
+pub fn both_reduced(p: u32, run: Run, f: &[u32], g: &[u32]) -> Check
+    ensures { λ r. ⌜ passed r ≡ bothReduced p run (now (f .entry)) (now (g .entry)) ⌝ }
 {
-    let size = levels::fold_size(run) as usize;
-    if vector::slice::all_reduced(Field::MODULUS, f, size) {} else {
+    let start = run.start;
+    let next = run.next;
+    let size = levels::fold_size(start.rounds, run.round, next) as usize;
+    if vector::slice::all_reduced(p, f, size) {} else {
         return Check::Failed;
     }
-    if vector::slice::all_reduced(Field::MODULUS, g, size) {
-        return Check::Passed;
-    }
-    Check::Failed
+    pass_if(vector::slice::all_reduced(p, g, size))
 }

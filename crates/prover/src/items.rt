@@ -1,11 +1,12 @@
 // The items of a pass.
 ghost use mathlib.Core.Path.{_≡_};
 ghost use Prim.Native.Nat.{_≤_, _<_};
+ghost use Rattle.item.specs.Start.{modulusOf};
+ghost use Rattle.item.specs.declared.Given.the-variants as Given;
 ghost use Rattle.prover.specs.Records.{out, leaves};
-ghost use Rattle.prover.specs.Take.{entering, summedItem, enteredItem, oneMore, placeOf, placeDone, placedIn, takes};
-ghost use Rattle.prover.specs.Calls.{itemCall, fieldItemCall};
+ghost use Rattle.prover.specs.Take.{entersAs, summedItem, enteredItem, oneMore, placeOf, placeDone, placedIn, takes};
+ghost use Rattle.prover.specs.Calls.{refusedParts, giveCall};
 use super::Answer;
-use super::Check;
 use super::Kind;
 use super::Pass;
 use super::Run;
@@ -16,33 +17,34 @@ use super::answers::refuse_at;
 use super::checks;
 use super::kernels;
 use super::levels;
-use field::Field;
-use vector::item::Item;
-use vector::item::Parts;
+use item::Given;
+use item::Item;
+use item::Parts;
+use item::Start;
+use refusal::Check;
 use vector::kernel::Entered;
 use vector::slice::write;
 
 // The number that enters f.
-fn twisted(run: Run, pass: Pass, x: Item) -> u32
-    requires { ⌜ (pass .taken < run .items) × (run .rounds ≤ 15) ⌝ }
-    ensures { λ r. ⌜ r ≡ entering 2147483647 run pass x ⌝ }
+fn twisted(p: u32, start: Start, index: u32, f: u32) -> u32
+    requires { ⌜ start .rounds ≤ 15 ⌝ }
+    ensures { λ r. ⌜ r ≡ entersAs p start index f ⌝ }
 {
-    if run.plain {
-        return x.f;
+    if start.plain {
+        return f;
     }
-    let twists = run.twists;
-    let index = run.items - 1 - pass.taken;
-    let weight = vector::weight::weight_of(Field::MODULUS, twists, run.rounds, index);
-    field::modular::mul(Field::MODULUS, x.f, weight)
+    let twists = start.twists;
+    let weight = vector::weight::weight_of(p, twists, start.rounds, index);
+    field::modular::mul(p, f, weight)
 }
 
 // An item of a pass for the total.
-fn sum(pass: Pass, x: Item, f: u32) -> Pass
+fn sum(p: u32, pass: Pass, x: Item, f: u32) -> Pass
     requires { ⌜ pass .taken < 32768 ⌝ }
-    ensures { λ r. ⌜ r ≡ summedItem 2147483647 pass x f ⌝ }
+    ensures { λ r. ⌜ r ≡ summedItem p pass x f ⌝ }
 {
-    let total = field::total::plus_item(pass.total, x.reading, x.weight);
-    let dot = field::modular::add_mul(Field::MODULUS, pass.dot, f, x.g);
+    let total = field::total::plus(pass.total, x.worth);
+    let dot = field::modular::add_mul(p, pass.dot, f, x.g);
     Pass {
         taken: pass.taken + 1,
         total,
@@ -52,26 +54,30 @@ fn sum(pass: Pass, x: Item, f: u32) -> Pass
 }
 
 // A pair that enters the stacks.
-fn climb(run: Run, pass: Pass, f: u32, g: u32) -> Entered
-    ensures { λ r. ⌜ r ≡ enteredItem 2147483647 run pass f g ⌝ }
+fn climb(p: u32, run: Run, pass: Pass, f: u32, g: u32) -> Entered
+    ensures { λ r. ⌜ r ≡ enteredItem p run pass f g ⌝ }
 {
     let challenges = run.challenges;
     let kind = pass.kind;
     let points = pass.points;
-    let level = levels::level_of(run, kind);
+    let start = run.start;
+    let next = run.next;
+    let level = levels::level_of(start.rounds, run.round, next, kind);
     let kernel = kernels::kernel_of(pass);
-    vector::kernel::enter(Field::MODULUS, challenges, level, points, kernel, f, g)
+    vector::kernel::enter(p, challenges, level, points, kernel, f, g)
 }
 
 // The place of the current fold that the next pair completes.
 fn place_of(run: Run, pass: Pass) -> usize
-    requires { ⌜ (run .rounds ≤ 15) × (run .round ≤ run .rounds) × (pass .taken < 32768) ⌝ }
+    requires { ⌜ (run .start .rounds ≤ 15) × (run .round ≤ run .start .rounds) × (pass .taken < 32768) ⌝ }
     ensures { λ r. ⌜ r ≡ placeOf run pass ⌝ }
 {
     let kind = pass.kind;
-    let level = levels::level_of(run, kind);
-    let size = levels::fold_size(run);
-    let padding = levels::padding_of(run);
+    let start = run.start;
+    let next = run.next;
+    let level = levels::level_of(start.rounds, run.round, next, kind);
+    let size = levels::fold_size(start.rounds, run.round, next);
+    let padding = levels::padding_of(start.items, start.rounds);
     let q = (padding + pass.taken) >> level;
     if size <= q {
         return 0;
@@ -84,7 +90,9 @@ fn place_done(run: Run, pass: Pass, level: u32) -> bool
     ensures { λ r. ⌜ r ≡ placeDone run pass level ⌝ }
 {
     let kind = pass.kind;
-    let last = levels::level_of(run, kind);
+    let start = run.start;
+    let next = run.next;
+    let last = levels::level_of(start.rounds, run.round, next, kind);
     match kind {
         Kind::Shut => false,
         Kind::Asked => false,
@@ -94,7 +102,7 @@ fn place_done(run: Run, pass: Pass, level: u32) -> bool
 
 // "each place by the call that completes its value"
 fn place(run: Run, pass: Pass, e: Entered, f: &mut [u32], g: &mut [u32])
-    requires { ⌜ (run .rounds ≤ 15) × (run .round ≤ run .rounds) × (pass .taken < 32768) ⌝ }
+    requires { ⌜ (run .start .rounds ≤ 15) × (run .round ≤ run .start .rounds) × (pass .taken < 32768) ⌝ }
     ensures { λ r. ⌜ (now (f .exit) ≡ placedIn run pass e (e .f) (now (f .entry))) × (now (g .exit) ≡ placedIn run pass e (e .g) (now (g .entry))) ⌝ }
 {
     if place_done(run, pass, e.level) {} else {
@@ -116,16 +124,17 @@ fn one_more(pass: Pass) -> Pass
 }
 
 // An answered item.
-fn take(run: Run, pass: Pass, x: Item, f: &mut [u32], g: &mut [u32]) -> Step
-    requires { ⌜ (run .rounds ≤ 15) × (run .round ≤ run .rounds) × (run .items ≤ 32768) × (pass .taken < run .items) ⌝ }
-    ensures { λ r. ⌜ out r (now (f .exit)) (now (g .exit)) ≡ takes 2147483647 run pass x (now (f .entry)) (now (g .entry)) ⌝ }
+fn take(p: u32, run: Run, pass: Pass, x: Item, f: &mut [u32], g: &mut [u32]) -> Step
+    requires { ⌜ (run .start .rounds ≤ 15) × (run .round ≤ run .start .rounds) × (run .start .items ≤ 32768) × (pass .taken < run .start .items) ⌝ }
+    ensures { λ r. ⌜ out r (now (f .exit)) (now (g .exit)) ≡ takes p run pass x (now (f .entry)) (now (g .entry)) ⌝ }
 {
-    let a = twisted(run, pass, x);
+    let start = run.start;
+    let a = twisted(p, start, start.items - 1 - pass.taken, x.f);
     let next = run.next;
     if levels::is_total(next) {
-        return answered(run, sum(pass, x, a), Answer::Taken);
+        return answered(run, sum(p, pass, x, a), Answer::Taken);
     }
-    let e = climb(run, pass, a, x.g);
+    let e = climb(p, run, pass, a, x.g);
     let kernel = e.kernel;
     place(run, pass, e, f, g);
     answered(
@@ -135,48 +144,52 @@ fn take(run: Run, pass: Pass, x: Item, f: &mut [u32], g: &mut [u32]) -> Step
     )
 }
 
+// The refusal of an item by its own checks.
+fn refuse_parts(run: Run, pass: Pass, parts: Parts) -> Step
+    ensures { λ r. ⌜ r ≡ refusedParts run pass parts ⌝ }
+{
+    match parts {
+        Parts::Item(_) => answered(run, pass, Answer::Taken),
+        Parts::Refused(number) => refuse(run, pass, number),
+        Parts::RefusedAt(number, index) => refuse_at(run, pass, number, index),
+    }
+}
+
+// An item of either kind of run. The buffers matter in a change pass only.
+fn give(p: u32, run: Run, pass: Pass, given: Given, f: &mut [u32], g: &mut [u32]) -> Step
+    ensures { λ r. ⌜ out r (now (f .exit)) (now (g .exit)) ≡ leaves run pass (now (f .entry)) (now (g .entry)) (giveCall p run pass given (now (f .entry)) (now (g .entry))) ⌝ }
+{
+    let Check::Passed = checks::pass_open(p, run, pass) else {
+        return refuse(run, pass, refusal::ORDER);
+    };
+    let start = run.start;
+    let Check::Passed = checks::item_wanted(pass.taken, start.items) else {
+        return refuse(run, pass, refusal::ITEMS);
+    };
+    let parts = item::parts_of(p, start, start.items - 1 - pass.taken, given);
+    let Parts::Item(x) = parts else {
+        return refuse_parts(run, pass, parts);
+    };
+    let Check::Passed = checks::places_there(run, pass, f.len(), g.len()) else {
+        return refuse(run, pass, refusal::BUFFER);
+    };
+    take(p, run, pass, x, f, g)
+}
+
 impl Run {
-    // A reading and a weight of a plain run. The buffers matter in a change pass only.
+    // A reading and a weight of a plain run.
     pub fn item(self, pass: Pass, reading: i16, weight: u16, f: &mut [u32], g: &mut [u32]) -> Step
-        ensures { λ r. ⌜ out r (now (f .exit)) (now (g .exit)) ≡ leaves self pass (now (f .entry)) (now (g .entry)) (itemCall 2147483647 self pass reading weight (now (f .entry)) (now (g .entry))) ⌝ }
+        ensures { λ r. ⌜ out r (now (f .exit)) (now (g .exit)) ≡ leaves self pass (now (f .entry)) (now (g .entry)) (giveCall (modulusOf (self .start)) self pass (Given.Reading reading weight) (now (f .entry)) (now (g .entry))) ⌝ }
     {
-        let Check::Passed = checks::pass_open(self, pass) else {
-            return refuse(self, pass, refusal::ORDER);
-        };
-        let Check::Passed = checks::item_wanted(self, pass) else {
-            return refuse(self, pass, refusal::ITEMS);
-        };
-        let Check::Passed = checks::is_plain(self) else {
-            return refuse(self, pass, refusal::ORDER);
-        };
-        let Parts::Item(x) = vector::item::plain(Field::MODULUS, reading, weight) else {
-            return refuse_at(self, pass, refusal::WEIGHT, self.items - 1 - pass.taken);
-        };
-        let Check::Passed = checks::places_there(self, pass, f.len(), g.len()) else {
-            return refuse(self, pass, refusal::BUFFER);
-        };
-        take(self, pass, x, f, g)
+        let p = item::modulus_of(self.start);
+        give(p, self, pass, Given::Reading(reading, weight), f, g)
     }
 
     // Two field numbers of a twisted run.
     pub fn field_item(self, pass: Pass, a: u32, b: u32, f: &mut [u32], g: &mut [u32]) -> Step
-        ensures { λ r. ⌜ out r (now (f .exit)) (now (g .exit)) ≡ leaves self pass (now (f .entry)) (now (g .entry)) (fieldItemCall 2147483647 self pass a b (now (f .entry)) (now (g .entry))) ⌝ }
+        ensures { λ r. ⌜ out r (now (f .exit)) (now (g .exit)) ≡ leaves self pass (now (f .entry)) (now (g .entry)) (giveCall (modulusOf (self .start)) self pass (Given.Numbers a b) (now (f .entry)) (now (g .entry))) ⌝ }
     {
-        let Check::Passed = checks::pass_open(self, pass) else {
-            return refuse(self, pass, refusal::ORDER);
-        };
-        let Check::Passed = checks::item_wanted(self, pass) else {
-            return refuse(self, pass, refusal::ITEMS);
-        };
-        let Check::Passed = checks::is_twisted(self) else {
-            return refuse(self, pass, refusal::ORDER);
-        };
-        let Parts::Item(x) = vector::item::numbers(Field::MODULUS, a, b) else {
-            return refuse(self, pass, refusal::VECTOR);
-        };
-        let Check::Passed = checks::places_there(self, pass, f.len(), g.len()) else {
-            return refuse(self, pass, refusal::BUFFER);
-        };
-        take(self, pass, x, f, g)
+        let p = item::modulus_of(self.start);
+        give(p, self, pass, Given::Numbers(a, b), f, g)
     }
 }

@@ -1,33 +1,31 @@
 // The fold that a pass or a full-mode call works on.
 ghost use mathlib.Core.Path.{_≡_};
-ghost use Rattle.prover.specs.Order.{isTotal, levelOf, foldSize, padding};
+ghost use Rattle.prover.specs.Order.{isTotal, levelAt, foldAt, paddingOf};
 use super::Kind;
 use super::Next;
-use super::Run;
 
 // The level that a pass folds to.
-pub fn level_of(run: Run, kind: Kind) -> u32
-    ensures { λ r. ⌜ r ≡ levelOf run kind ⌝ }
+pub fn level_of(rounds: u32, round: u32, next: Next, kind: Kind) -> u32
+    ensures { λ r. ⌜ r ≡ levelAt rounds round next kind ⌝ }
 {
-    let next = run.next;
     match next {
         Next::Total => 0,
-        Next::Message => run.round,
-        Next::Challenge => run.round,
-        Next::Ends => run.rounds,
+        Next::Message => round,
+        Next::Challenge => round,
+        Next::Ends => rounds,
         Next::Openings => match kind {
             Kind::Shut => 0,
-            Kind::Asked => run.rounds,
+            Kind::Asked => rounds,
             Kind::Change => 0,
         },
     }
 }
 
 // How long the current fold is.
-pub fn fold_size(run: Run) -> u32
-    ensures { λ r. ⌜ r ≡ foldSize run ⌝ }
+pub fn fold_size(rounds: u32, round: u32, next: Next) -> u32
+    ensures { λ r. ⌜ r ≡ foldAt rounds round next ⌝ }
 {
-    vector::sizes::size_of(run.rounds, level_of(run, Kind::Shut))
+    vector::sizes::size_of(rounds, level_of(rounds, round, next, Kind::Shut))
 }
 
 pub fn is_total(next: Next) -> bool
@@ -43,12 +41,12 @@ pub fn is_total(next: Next) -> bool
 }
 
 // The padding, which a pass takes by itself.
-pub fn padding_of(run: Run) -> u32
-    ensures { λ r. ⌜ r ≡ padding run ⌝ }
+pub fn padding_of(items: u32, rounds: u32) -> u32
+    ensures { λ r. ⌜ r ≡ paddingOf items rounds ⌝ }
 {
-    let size = vector::sizes::size_of(run.rounds, 0);
-    if size < run.items {
+    let size = vector::sizes::size_of(rounds, 0);
+    if size < items {
         return 0;
     }
-    size - run.items
+    size - items
 }

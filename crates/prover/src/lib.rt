@@ -18,6 +18,7 @@ mod start;
 mod values;
 mod written;
 
+use item::Start;
 use vector::kernel::Evals;
 use vector::kernel::Points;
 
@@ -46,15 +47,12 @@ pub enum Kind {
     Change,
 }
 
-// 84 numbers: the start (L, n, plain), the mode and what is next, and what was taken and given.
+// 84 numbers: what the start fixed (L, n, plain, the twists), the mode and what is next, and what was taken and given.
 pub struct Run {
-    pub items: u32,
-    pub rounds: u32,
-    pub plain: bool,
+    pub start: Start,
     pub mode: Mode,
     pub next: Next,
     pub round: u32,
-    pub twists: [u32; 15],
     pub challenges: [u32; 15],
     pub messages: [u32; 45],
     pub total: i64,
@@ -104,10 +102,4 @@ pub struct Step {
     pub pass: Pass,
     pub answer: Answer,
     pub values: [u32; 90],
-}
-
-// The answer of one check.
-pub enum Check {
-    Passed,
-    Failed,
 }

@@ -1,10 +1,10 @@
 // The calls that open a pass of small mode, and the return to small mode, which is refused.
 ghost use mathlib.Core.Path.{_≡_};
 ghost use mathlib.Core.List.{[]};
+ghost use Rattle.item.specs.Start.{modulusOf};
 ghost use Rattle.prover.specs.Records.{out, leaves};
 ghost use Rattle.prover.specs.Open.{newPass, noPoints, pointsOf, paddedKernel, openKernel, openCall, openAtCall, toSmallCall};
 use super::Answer;
-use super::Check;
 use super::Kind;
 use super::Pass;
 use super::Run;
@@ -13,8 +13,10 @@ use super::answers::answered;
 use super::answers::refuse;
 use super::levels;
 use super::open_checks;
+use field::Checked;
 use field::Field;
 use field::modular;
+use refusal::Check;
 use vector::kernel::Kernel;
 use vector::kernel::Points;
 
@@ -58,11 +60,11 @@ pub fn no_points() -> Points
     }
 }
 
-pub fn points_of(point: u32) -> Points
-    ensures { λ r. ⌜ r ≡ pointsOf 2147483647 point ⌝ }
+pub fn points_of(p: u32, point: u32) -> Points
+    ensures { λ r. ⌜ r ≡ pointsOf p point ⌝ }
 {
-    let minus = modular::neg(Field::MODULUS, point);
-    let square = modular::mul(Field::MODULUS, point, point);
+    let minus = modular::neg(p, point);
+    let square = modular::mul(p, point, point);
     Points {
         on: true,
         point,
@@ -75,8 +77,10 @@ pub fn points_of(point: u32) -> Points
 fn padded_kernel(run: Run) -> Kernel
     ensures { λ r. ⌜ r ≡ paddedKernel run ⌝ }
 {
-    let padding = levels::padding_of(run);
-    let level = levels::level_of(run, Kind::Asked);
+    let start = run.start;
+    let next = run.next;
+    let padding = levels::padding_of(start.items, start.rounds);
+    let level = levels::level_of(start.rounds, run.round, next, Kind::Asked);
     vector::kernel::padding(padding, level)
 }
 
@@ -94,9 +98,9 @@ fn open_kernel(run: Run) -> Kernel
 impl Run {
     // A pass for the total, the next message or the ends (`open` is a word of the contract language).
     pub fn open_pass(self, pass: Pass) -> Step
-        ensures { λ r. ⌜ out r [] [] ≡ leaves self pass [] [] (openCall 2147483647 self pass) ⌝ }
+        ensures { λ r. ⌜ out r [] [] ≡ leaves self pass [] [] (openCall (modulusOf (self .start)) self pass) ⌝ }
     {
-        let Check::Passed = open_checks::may_open(self, pass) else {
+        let Check::Passed = open_checks::may_open(item::modulus_of(self.start), self, pass) else {
             return refuse(self, pass, refusal::ORDER);
         };
         let fresh = new_pass(Kind::Asked, no_points(), open_kernel(self));
@@ -105,15 +109,16 @@ impl Run {
 
     // A pass for the openings at a point.
     pub fn open_at(self, pass: Pass, point: u32) -> Step
-        ensures { λ r. ⌜ out r [] [] ≡ leaves self pass [] [] (openAtCall 2147483647 self pass point) ⌝ }
+        ensures { λ r. ⌜ out r [] [] ≡ leaves self pass [] [] (openAtCall (modulusOf (self .start)) self pass point) ⌝ }
     {
-        let Check::Passed = open_checks::may_open_at(self, pass) else {
+        let p = item::modulus_of(self.start);
+        let Check::Passed = open_checks::may_open_at(p, self, pass) else {
             return refuse(self, pass, refusal::ORDER);
         };
-        let Check::Passed = open_checks::nonzero(point) else {
+        let Checked::Number(b) = Field::nonzero_in(p, point) else {
             return refuse(self, pass, refusal::ARGUMENT);
         };
-        let fresh = new_pass(Kind::Asked, points_of(point), padded_kernel(self));
+        let fresh = new_pass(Kind::Asked, points_of(p, b.to_u32()), padded_kernel(self));
         answered(self, fresh, Answer::Opened)
     }
 

@@ -1,63 +1,13 @@
-// The checks of the calls that start a run or open a pass, each answered by Passed or Failed.
+// The checks of the calls that open a pass, each answered by Passed or Failed.
 ghost use mathlib.Core.Path.{_≡_};
-ghost use lib.Dec.{leb};
-ghost use Rattle.vector.specs.Slice.{isNonzero};
-ghost use Rattle.prover.specs.Records.{passed};
+ghost use Rattle.refusal.specs.Check.{passed};
 ghost use Rattle.prover.specs.Open.{openNext, isOpenings, mayOpen, mayOpenAt};
-ghost use Rattle.prover.specs.Start.{countFits, twistsFit};
-use super::Check;
 use super::Next;
 use super::Pass;
 use super::Run;
 use super::formed;
-use field::Field;
-
-// 3: L from 1 to 32,768.
-pub fn count_fits(items: u32) -> Check
-    ensures { λ r. ⌜ passed r ≡ countFits items ⌝ }
-{
-    if items < 1 {
-        return Check::Failed;
-    }
-    if items > refusal::MAX_ITEMS {
-        return Check::Failed;
-    }
-    Check::Passed
-}
-
-// 3: n of the rule check at most 15.
-pub fn rounds_fit(rounds: u32) -> Check
-    ensures { λ r. ⌜ passed r ≡ leb rounds 15 ⌝ }
-{
-    if rounds > refusal::MAX_ROUNDS {
-        return Check::Failed;
-    }
-    Check::Passed
-}
-
-// 6: as many twists as rounds, each from 1 to P - 1.
-pub fn twists_fit(rounds: u32, twists: &[u32]) -> Check
-    ensures { λ r. ⌜ passed r ≡ twistsFit 2147483647 rounds (now (twists .entry)) ⌝ }
-{
-    let n = rounds as usize;
-    if twists.len() != n {
-        return Check::Failed;
-    }
-    if vector::slice::all_nonzero(Field::MODULUS, twists, n) {
-        return Check::Passed;
-    }
-    Check::Failed
-}
-
-// 6: v, or a point, from 1 to P - 1.
-pub fn nonzero(x: u32) -> Check
-    ensures { λ r. ⌜ passed r ≡ isNonzero 2147483647 x ⌝ }
-{
-    if vector::slice::is_nonzero(Field::MODULUS, x) {
-        return Check::Passed;
-    }
-    Check::Failed
-}
+use refusal::Check;
+use refusal::pass_if;
 
 // What open opens a pass for.
 fn open_next(next: Next) -> bool
@@ -85,10 +35,10 @@ pub fn is_openings(next: Next) -> bool
 }
 
 // 10: a record that a call returned, small, with a pass next.
-pub fn may_open(run: Run, pass: Pass) -> Check
-    ensures { λ r. ⌜ passed r ≡ mayOpen 2147483647 run pass ⌝ }
+pub fn may_open(p: u32, run: Run, pass: Pass) -> Check
+    ensures { λ r. ⌜ passed r ≡ mayOpen p run pass ⌝ }
 {
-    if formed::well_formed(run, pass) {} else {
+    if formed::well_formed(p, run, pass) {} else {
         return Check::Failed;
     }
     let mode = run.mode;
@@ -96,17 +46,14 @@ pub fn may_open(run: Run, pass: Pass) -> Check
         return Check::Failed;
     }
     let next = run.next;
-    if open_next(next) {
-        return Check::Passed;
-    }
-    Check::Failed
+    pass_if(open_next(next))
 }
 
 // 10: a record that a call returned, small, with the openings next and n above 0.
-pub fn may_open_at(run: Run, pass: Pass) -> Check
-    ensures { λ r. ⌜ passed r ≡ mayOpenAt 2147483647 run pass ⌝ }
+pub fn may_open_at(p: u32, run: Run, pass: Pass) -> Check
+    ensures { λ r. ⌜ passed r ≡ mayOpenAt p run pass ⌝ }
 {
-    if formed::well_formed(run, pass) {} else {
+    if formed::well_formed(p, run, pass) {} else {
         return Check::Failed;
     }
     let mode = run.mode;
@@ -117,8 +64,6 @@ pub fn may_open_at(run: Run, pass: Pass) -> Check
     if is_openings(next) {} else {
         return Check::Failed;
     }
-    if 0 < run.rounds {
-        return Check::Passed;
-    }
-    Check::Failed
+    let start = run.start;
+    pass_if(0 < start.rounds)
 }

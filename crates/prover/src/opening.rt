@@ -5,11 +5,11 @@ ghost use lib.ListN.{length};
 ghost use Rattle.vector.specs.Vector.{at};
 ghost use Rattle.vector.specs.Kernel.{emptyKernel};
 ghost use Rattle.vector.specs.Opening.{opening};
+ghost use Rattle.item.specs.Start.{modulusOf};
 ghost use Rattle.prover.specs.Records.{out, leaves};
 ghost use Rattle.prover.specs.Values.{inNinety};
 ghost use Rattle.prover.specs.Opening.{streamed, openingGiven, openingCall};
 use super::Answer;
-use super::Check;
 use super::Pass;
 use super::Run;
 use super::Step;
@@ -18,13 +18,15 @@ use super::checks;
 use super::full_checks;
 use super::open::points_of;
 use super::values;
+use field::Checked;
 use field::Field;
-use field::modular;
+use refusal::Check;
 use vector::kernel::Kernel;
 use vector::kernel::Points;
 
 // The kernel of a pass over the first `count` places, "from last item to first".
 fn stream(
+    p: u32,
     challenges: [u32; 15],
     last: u32,
     points: Points,
@@ -33,13 +35,13 @@ fn stream(
     count: usize,
 ) -> Kernel
     requires { ⌜ (count ≤ length (now f)) × (count ≤ length (now g)) ⌝ }
-    ensures { λ r. ⌜ r ≡ streamed 2147483647 challenges last points (now (f .entry)) (now (g .entry)) count emptyKernel ⌝ }
+    ensures { λ r. ⌜ r ≡ streamed p challenges last points (now (f .entry)) (now (g .entry)) count emptyKernel ⌝ }
 {
     let mut k = vector::kernel::empty();
     let mut i = count;
     while i > 0 {
         i -= 1;
-        let e = vector::kernel::enter(Field::MODULUS, challenges, last, points, k, f[i], g[i]);
+        let e = vector::kernel::enter(p, challenges, last, points, k, f[i], g[i]);
         let next = e.kernel;
         k = next;
     }
@@ -47,24 +49,25 @@ fn stream(
 }
 
 // The twists are in fold 0 already, so that its places enter as they are.
-fn opening_values(run: Run, b: u32, f: &[u32], g: &[u32]) -> [u32; 90]
-    requires { ⌜ (run .rounds ≤ 15) × (2 ^ run .rounds ≤ length (now f)) × (2 ^ run .rounds ≤ length (now g)) ⌝ }
-    ensures { λ r. ⌜ r ≡ inNinety (run .rounds) (opening 2147483647 (run .rounds) (at (run .challenges)) (at (now (f .entry))) (at (now (g .entry))) b) ⌝ }
+fn opening_values(p: u32, run: Run, b: u32, f: &[u32], g: &[u32]) -> [u32; 90]
+    requires { ⌜ (run .start .rounds ≤ 15) × (2 ^ run .start .rounds ≤ length (now f)) × (2 ^ run .start .rounds ≤ length (now g)) ⌝ }
+    ensures { λ r. ⌜ r ≡ inNinety (run .start .rounds) (opening p (run .start .rounds) (at (run .challenges)) (at (now (f .entry))) (at (now (g .entry))) b) ⌝ }
 {
     let challenges = run.challenges;
-    let count = vector::sizes::size_of(run.rounds, 0) as usize;
-    let points = points_of(b);
-    let kernel = stream(challenges, run.rounds, points, f, g, count);
+    let start = run.start;
+    let count = vector::sizes::size_of(start.rounds, 0) as usize;
+    let points = points_of(p, b);
+    let kernel = stream(p, challenges, start.rounds, points, f, g, count);
     let evals = kernel.evals;
-    values::values_of(evals, run.rounds)
+    values::values_of(evals, start.rounds)
 }
 
 // An answered opening.
-fn give_opening(run: Run, pass: Pass, b: u32, f: &[u32], g: &[u32]) -> Step
-    requires { ⌜ (run .rounds ≤ 15) × (2 ^ run .rounds ≤ length (now f)) × (2 ^ run .rounds ≤ length (now g)) ⌝ }
-    ensures { λ r. ⌜ out r (now (f .entry)) (now (g .entry)) ≡ openingGiven 2147483647 run pass b (now (f .entry)) (now (g .entry)) ⌝ }
+fn give_opening(p: u32, run: Run, pass: Pass, b: u32, f: &[u32], g: &[u32]) -> Step
+    requires { ⌜ (run .start .rounds ≤ 15) × (2 ^ run .start .rounds ≤ length (now f)) × (2 ^ run .start .rounds ≤ length (now g)) ⌝ }
+    ensures { λ r. ⌜ out r (now (f .entry)) (now (g .entry)) ≡ openingGiven p run pass b (now (f .entry)) (now (g .entry)) ⌝ }
 {
-    let values = opening_values(run, b, f, g);
+    let values = opening_values(p, run, b, f, g);
     Step {
         run,
         pass,
@@ -75,20 +78,21 @@ fn give_opening(run: Run, pass: Pass, b: u32, f: &[u32], g: &[u32]) -> Step
 
 impl Run {
     pub fn opening(self, pass: Pass, point: u32, f: &[u32], g: &[u32]) -> Step
-        ensures { λ r. ⌜ out r (now (f .entry)) (now (g .entry)) ≡ leaves self pass (now (f .entry)) (now (g .entry)) (openingCall 2147483647 self pass point (now (f .entry)) (now (g .entry))) ⌝ }
+        ensures { λ r. ⌜ out r (now (f .entry)) (now (g .entry)) ≡ leaves self pass (now (f .entry)) (now (g .entry)) (openingCall (modulusOf (self .start)) self pass point (now (f .entry)) (now (g .entry))) ⌝ }
     {
-        let Check::Passed = full_checks::openings_next(self, pass) else {
+        let p = item::modulus_of(self.start);
+        let Check::Passed = full_checks::openings_next(p, self, pass) else {
             return refuse(self, pass, refusal::ORDER);
         };
-        let Check::Passed = full_checks::number_ok(point) else {
+        let Checked::Number(b) = Field::nonzero_in(p, point) else {
             return refuse(self, pass, refusal::ARGUMENT);
         };
         let Check::Passed = checks::both_long(self, f.len(), g.len()) else {
             return refuse(self, pass, refusal::BUFFER);
         };
-        let Check::Passed = full_checks::both_reduced(self, f, g) else {
+        let Check::Passed = full_checks::both_reduced(p, self, f, g) else {
             return refuse(self, pass, refusal::VECTOR);
         };
-        give_opening(self, pass, point, f, g)
+        give_opening(p, self, pass, b.to_u32(), f, g)
     }
 }

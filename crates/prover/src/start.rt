@@ -1,34 +1,33 @@
 // The starts of a run.
 ghost use mathlib.Core.Path.{_≡_};
 ghost use mathlib.Core.List.{[]};
+ghost use Rattle.field.specs.Modulus.{modulus};
 ghost use Rattle.prover.specs.Records.{out, refusedStep};
 ghost use Rattle.prover.specs.Start.{freshRun, zeroRun, zeroPass, started, startLeaves, startPlain, startTwisted, startRule};
 use super::Answer;
-use super::Check;
 use super::Kind;
 use super::Mode;
 use super::Next;
-use super::Pass;
 use super::Run;
 use super::Step;
 use super::answers::answered;
 use super::answers::refuse;
-use super::open;
-use super::open_checks;
+use super::change::empty_pass;
+use field::Checked;
 use field::Field;
+use item::Start;
+use item::starts;
+use refusal::Check;
 
 // A run that has given and taken nothing.
-fn fresh(items: u32, rounds: u32, plain: bool, twists: [u32; 15]) -> Run
-    ensures { λ r. ⌜ r ≡ freshRun items rounds plain twists ⌝ }
+fn fresh(start: Start) -> Run
+    ensures { λ r. ⌜ r ≡ freshRun start ⌝ }
 {
     Run {
-        items,
-        rounds,
-        plain,
+        start,
         mode: Mode::Small,
         next: Next::Total,
         round: 0,
-        twists,
         challenges: [0u32; 15],
         messages: [0u32; 45],
         total: 0,
@@ -37,63 +36,53 @@ fn fresh(items: u32, rounds: u32, plain: bool, twists: [u32; 15]) -> Run
     }
 }
 
-// No pass is open.
-fn shut() -> Pass
-    ensures { λ r. ⌜ r ≡ zeroPass ⌝ }
+fn answer(start: Start) -> Step
+    ensures { λ r. ⌜ out r [] [] ≡ started (freshRun start) ⌝ }
 {
-    open::new_pass(Kind::Shut, open::no_points(), vector::kernel::empty())
-}
-
-fn answer(run: Run) -> Step
-    ensures { λ r. ⌜ out r [] [] ≡ started run ⌝ }
-{
-    answered(run, shut(), Answer::Started)
+    answered(fresh(start), empty_pass(Kind::Shut), Answer::Started)
 }
 
 // A refused start hands back zeros.
 fn no_run(number: u8) -> Step
     ensures { λ r. ⌜ r ≡ refusedStep zeroRun zeroPass number ⌝ }
 {
-    refuse(fresh(0, 0, false, [0u32; 15]), shut(), number)
+    refuse(fresh(starts::none()), empty_pass(Kind::Shut), number)
 }
 
 impl Run {
     pub fn start_plain(items: u32) -> Step
         ensures { λ r. ⌜ out r [] [] ≡ startLeaves (startPlain items) ⌝ }
     {
-        let Check::Passed = open_checks::count_fits(items) else {
+        let Check::Passed = starts::count_fits(items) else {
             return no_run(refusal::COUNT);
         };
-        let rounds = vector::sizes::rounds_of(items);
-        answer(fresh(items, rounds, true, [0u32; 15]))
+        answer(starts::plain(items))
     }
 
     pub fn start_twisted(items: u32, twists: &[u32]) -> Step
-        ensures { λ r. ⌜ out r [] [] ≡ startLeaves (startTwisted 2147483647 items (now (twists .entry))) ⌝ }
+        ensures { λ r. ⌜ out r [] [] ≡ startLeaves (startTwisted modulus items (now (twists .entry))) ⌝ }
     {
-        let Check::Passed = open_checks::count_fits(items) else {
+        let Check::Passed = starts::count_fits(items) else {
             return no_run(refusal::COUNT);
         };
         let rounds = vector::sizes::rounds_of(items);
-        let Check::Passed = open_checks::twists_fit(rounds, twists) else {
+        let Check::Passed = starts::list_fits(field::modulus(), rounds, twists) else {
             return no_run(refusal::ARGUMENT);
         };
-        let kept = vector::slice::take15(twists, rounds as usize);
-        answer(fresh(items, rounds, false, kept))
+        answer(starts::twisted(items, twists))
     }
 
     // The run of a rule check: all 2^n items, twisted by the powers of v.
     pub fn start_rule(rounds: u32, v: u32) -> Step
-        ensures { λ r. ⌜ out r [] [] ≡ startLeaves (startRule 2147483647 rounds v) ⌝ }
+        ensures { λ r. ⌜ out r [] [] ≡ startLeaves (startRule modulus rounds v) ⌝ }
     {
-        let Check::Passed = open_checks::rounds_fit(rounds) else {
+        let Check::Passed = starts::rounds_fit(rounds) else {
             return no_run(refusal::COUNT);
         };
-        let Check::Passed = open_checks::nonzero(v) else {
+        let p = field::modulus();
+        let Checked::Number(x) = Field::nonzero_in(p, v) else {
             return no_run(refusal::ARGUMENT);
         };
-        let items = vector::sizes::size_of(rounds, 0);
-        let twists = vector::weight::powers(Field::MODULUS, v, rounds);
-        answer(fresh(items, rounds, false, twists))
+        answer(starts::rule(p, rounds, x.to_u32()))
     }
 }

@@ -1,33 +1,35 @@
 // The proof file of a plain run.
 ghost use mathlib.Core.Path.{_≡_};
 ghost use Rattle.wire.specs.Proof.{writtenOf, writtenIn};
-ghost use Rattle.prover.specs.Records.{passed};
+ghost use mathlib.Core.List.{[]};
+ghost use Rattle.refusal.specs.Check.{passed};
+ghost use Rattle.item.specs.Start.{modulusOf};
+ghost use Rattle.prover.specs.Records.{out};
 ghost use Rattle.prover.specs.Written.{mayWrite, writeCall, writtenStep, proofOf};
 use super::Answer;
-use super::Check;
 use super::Pass;
 use super::Run;
 use super::Step;
 use super::answers::answered;
 use super::answers::refuse;
 use super::formed;
+use refusal::Check;
+use refusal::pass_if;
 use wire::proof::ProofWritten;
 
 // 10: plain, and the ends were given.
-fn may_write(run: Run, pass: Pass) -> Check
-    ensures { λ r. ⌜ passed r ≡ mayWrite 2147483647 run pass ⌝ }
+fn may_write(p: u32, run: Run, pass: Pass) -> Check
+    ensures { λ r. ⌜ passed r ≡ mayWrite p run pass ⌝ }
 {
-    if formed::well_formed(run, pass) {} else {
+    if formed::well_formed(p, run, pass) {} else {
         return Check::Failed;
     }
-    if run.plain {} else {
+    let start = run.start;
+    if start.plain {} else {
         return Check::Failed;
     }
     let next = run.next;
-    if super::open_checks::is_openings(next) {
-        return Check::Passed;
-    }
-    Check::Failed
+    pass_if(super::open_checks::is_openings(next))
 }
 
 fn written_step(run: Run, pass: Pass, written: ProofWritten) -> Step
@@ -42,14 +44,15 @@ fn written_step(run: Run, pass: Pass, written: ProofWritten) -> Step
 impl Run {
     // Writes the proof into the first places of `file`; the run goes on.
     pub fn write_proof(self, pass: Pass, file: &mut [u8]) -> Step
-        ensures { λ r. ⌜ (r ≡ writtenStep self pass (writeCall 2147483647 self pass (now (file .entry)))) × (now (file .exit) ≡ writtenIn (writeCall 2147483647 self pass (now (file .entry))) (proofOf self) (now (file .entry))) ⌝ }
+        ensures { λ r. ⌜ (out r [] [] ≡ out (writtenStep self pass (writeCall (modulusOf (self .start)) self pass (now (file .entry)))) [] []) × (now (file .exit) ≡ writtenIn (writeCall (modulusOf (self .start)) self pass (now (file .entry))) (proofOf self) (now (file .entry))) ⌝ }
     {
-        let Check::Passed = may_write(self, pass) else {
+        let start = self.start;
+        let Check::Passed = may_write(item::modulus_of(start), self, pass) else {
             return refuse(self, pass, refusal::ORDER);
         };
         let messages = self.messages;
         let written = wire::proof::write_proof(
-            self.rounds,
+            start.rounds,
             self.total,
             messages,
             self.fend,

@@ -10,7 +10,7 @@ use lib.Pow.{shr-mono}
 use Rattle.vector.specs.Rounds.{size}
 use Rattle.vector.specs.Vector.{Vector, at}
 use Rattle.vector.specs.Fold.{fold}
-use Rattle.vector.specs.declared.item.Item.{Item}
+use Rattle.item.specs.declared.Item.{Item}
 use Rattle.vector.specs.declared.kernel.Entered.{Entered}
 use Rattle.vector.specs.Kernel.{entered}
 use Rattle.vector.proofs.KernelOpen.{padded-fold}
@@ -24,21 +24,21 @@ use Rattle.prover.specs.Order.{isTotal, levelOf, foldSize, padding}
 use Rattle.prover.specs.WellFormed.{runFormed}
 use Rattle.prover.specs.Take.{entering, enteredItem, placeOf, placedIn, takes}
 use Rattle.prover.specs.Change.{cleared, paddedBuffer}
-use Rattle.runs.specs.Buffers.{Kept, Written}
+use Rattle.runs.specs.Buffers.{Unchanged, Written}
 use Rattle.runs.proofs.RunFacts.{run-facts, run-level, run-items, run-padding, run-fold}
 use Rattle.runs.proofs.LevelReached.{reaches-last, stops-before}
 use Rattle.runs.proofs.Places.{cleared-kept, cleared-zero, placed-kept, placed-written}
 
 -- THE OPENING: of a vector that is zero from L on, the last places of the fold
-pub padded-written : (p : ℕ) (c : ℕ → ℕ) (f : Vector) (r : Run) (xs : List ℕ) → runFormed p r ≡ true → ((j : ℕ) → r .items ≤ j → f j ≡ 0)
-    → size (r .rounds) (levelOf r Change) ≤ length xs
+pub padded-written : (p : ℕ) (c : ℕ → ℕ) (f : Vector) (r : Run) (xs : List ℕ) → runFormed p r ≡ true → ((j : ℕ) → r .start .items ≤ j → f j ≡ 0)
+    → size (r .start .rounds) (levelOf r Change) ≤ length xs
     → (let i : ℕ = levelOf r Change in
-    Written (fold p c i f) (size (r .rounds) i - (2 ^ r .rounds - r .items) / 2 ^ i) (size (r .rounds) i) xs (paddedBuffer r xs))
+    Written (fold p c i f) (size (r .start .rounds) i - (2 ^ r .start .rounds - r .start .items) / 2 ^ i) (size (r .start .rounds) i) xs (paddedBuffer r xs))
 padded-written p c f r xs ok zeros long =
-    let n : ℕ = r .rounds in
+    let n : ℕ = r .start .rounds in
     let i : ℕ = levelOf r Change in
     let s : ℕ = size n i in
-    let q : ℕ = (2 ^ n - r .items) / 2 ^ i in
+    let q : ℕ = (2 ^ n - r .start .items) / 2 ^ i in
     let same : cleared (s - q) q xs ≡ paddedBuffer r xs =
     ap₂ (λ a b. cleared (a - b) b xs) (sym (run-fold p r ok)) (ap (λ t. t / 2 ^ i) (sym (run-padding p r ok))) in
     let less : q ≤ s = shr-mono i (omega arith) in
@@ -50,7 +50,7 @@ padded-written p c f r xs ok zeros long =
       wrote = λ j l m.
           let back : s - suc (s - suc j) ≡ j = omega arith in
           cleared-zero (s - q) q xs (omega arith) j l (omega arith)
-          ∙ sym (padded-fold p c n (r .items) f (run-items p r ok) zeros i (run-level p r ok Change) (s - suc j) (omega arith))
+          ∙ sym (padded-fold p c n (r .start .items) f (run-items p r ok) zeros i (run-level p r ok Change) (s - suc j) (omega arith))
           ∙ ap (fold p c i f) back;
       below = kept .below;
       above = λ j l. kept .above j (omega arith);
@@ -98,9 +98,9 @@ module _ (p : ℕ) (r : Run) (s : Pass) (x : Item) (fs gs : List ℕ) where
 
 -- AN ITEM of a change pass
 module _ (p : ℕ) (r : Run) (s : Pass) (x : Item) (fs gs : List ℕ) (ok : runFormed p r ≡ true) (change : s .kind ≡ Change) (later : isTotal (r .next) ≡ false)
-    (t : ℕ) (count : 2 ^ r .rounds - r .items + s .taken ≡ t) (ht : t < 2 ^ r .rounds) where
+    (t : ℕ) (count : 2 ^ r .start .rounds - r .start .items + s .taken ≡ t) (ht : t < 2 ^ r .start .rounds) where
   abbrev n : ℕ
-  n = r .rounds
+  n = r .start .rounds
 
   abbrev i : ℕ
   i = levelOf r Change
@@ -142,7 +142,7 @@ module _ (p : ℕ) (r : Run) (s : Pass) (x : Item) (fs gs : List ℕ) (ok : runF
 
   -- ANY ITEM leaves every place but that one
   module _ (h : Levelled (levelOf r Change) t (kernelOf s)) where
-    after-kept : (value : Entered → ℕ) (xs : List ℕ) (a b : ℕ) → Kept (size n i - suc t / 2 ^ i) (size n i - t / 2 ^ i) xs (after value xs a b)
+    after-kept : (value : Entered → ℕ) (xs : List ℕ) (a b : ℕ) → Unchanged (size n i - suc t / 2 ^ i) (size n i - t / 2 ^ i) xs (after value xs a b)
     after-kept value xs a b =
         let few = run-facts p r ok .few in
         let level = run-level p r ok Change in
@@ -151,19 +151,19 @@ module _ (p : ℕ) (r : Run) (s : Pass) (x : Item) (fs gs : List ℕ) (ok : runF
         (stops-before n i few level t ht (kernelOf s) h p (r .challenges) (s .points) a b)
 
     pub item-kept : (let i : ℕ = levelOf r Change in
-        let from : ℕ = size (r .rounds) i - suc t / 2 ^ i in
-        let to : ℕ = size (r .rounds) i - t / 2 ^ i in
+        let from : ℕ = size (r .start .rounds) i - suc t / 2 ^ i in
+        let to : ℕ = size (r .start .rounds) i - t / 2 ^ i in
         let o : Out = takes p r s x fs gs in
-        Kept from to fs (o .f) × Kept from to gs (o .g))
+        Unchanged from to fs (o .f) × Unchanged from to gs (o .g))
     item-kept = (
-      subst (Kept (size n i - suc t / 2 ^ i) (size n i - t / 2 ^ i) fs) (sym first-after) (after-kept (λ e. e .f) fs (entering p r s x) (x .g)),
-      subst (Kept (size n i - suc t / 2 ^ i) (size n i - t / 2 ^ i) gs) (sym second-after) (after-kept (λ e. e .g) gs (entering p r s x) (x .g)),
+      subst (Unchanged (size n i - suc t / 2 ^ i) (size n i - t / 2 ^ i) fs) (sym first-after) (after-kept (λ e. e .f) fs (entering p r s x) (x .g)),
+      subst (Unchanged (size n i - suc t / 2 ^ i) (size n i - t / 2 ^ i) gs) (sym second-after) (after-kept (λ e. e .g) gs (entering p r s x) (x .g)),
     )
 
   -- THE NEXT ITEM of f and g writes the place that it completes
-  module _ (c : ℕ → ℕ) (f g : Vector) (h : Taken p (r .rounds) c (levelOf r Change) (s .points) f g t (kernelOf s))
+  module _ (c : ℕ → ℕ) (f g : Vector) (h : Taken p (r .start .rounds) c (levelOf r Change) (s .points) f g t (kernelOf s))
       (agree : (j : ℕ) → j < levelOf r Change → at (r .challenges) j ≡ c j)
-      (first : entering p r s x ≡ f (2 ^ r .rounds - 1 - t)) (second : x .g ≡ g (2 ^ r .rounds - 1 - t)) where
+      (first : entering p r s x ≡ f (2 ^ r .start .rounds - 1 - t)) (second : x .g ≡ g (2 ^ r .start .rounds - 1 - t)) where
     after-written : (v : Vector) (value : Entered → ℕ) (xs : List ℕ) → size n i ≤ length xs
         → (suc t % 2 ^ i ≡ 0 → value (pair (f (2 ^ n - 1 - t)) (g (2 ^ n - 1 - t))) ≡ v (size n i - suc t / 2 ^ i))
         → Written v (size n i - suc t / 2 ^ i) (size n i - t / 2 ^ i) xs (after value xs (entering p r s x) (x .g))
@@ -178,10 +178,10 @@ module _ (p : ℕ) (r : Run) (s : Pass) (x : Item) (fs gs : List ℕ) (ok : runF
         (arrives-below p n c i (s .points) f g few level (r .challenges) agree t ht (kernelOf s) h)
         v long right)
 
-    pub item-written : size (r .rounds) (levelOf r Change) ≤ length fs → size (r .rounds) (levelOf r Change) ≤ length gs
+    pub item-written : size (r .start .rounds) (levelOf r Change) ≤ length fs → size (r .start .rounds) (levelOf r Change) ≤ length gs
         → (let i : ℕ = levelOf r Change in
-        let from : ℕ = size (r .rounds) i - suc t / 2 ^ i in
-        let to : ℕ = size (r .rounds) i - t / 2 ^ i in
+        let from : ℕ = size (r .start .rounds) i - suc t / 2 ^ i in
+        let to : ℕ = size (r .start .rounds) i - t / 2 ^ i in
         let o : Out = takes p r s x fs gs in
         Written (fold p c i f) from to fs (o .f) × Written (fold p c i g) from to gs (o .g))
     item-written flong glong =

@@ -29,60 +29,60 @@ use Rattle.prover.specs.Open.{pointsOf}
 use Rattle.prover.specs.Values.{inNinety}
 use Rattle.prover.specs.Close.{shutPass, withMessage, withEnds, finished}
 use Rattle.prover.proofs.OpeningValues.{taken-opened}
-use Rattle.runs.specs.Stacks.{Stacks}
+use Rattle.runs.specs.Stacks.{StacksOf}
 use Rattle.runs.proofs.RunFacts.{run-facts, run-level}
 
 -- WHILE THE PASS IS OPEN, after t of the items
 module _ (p : ℕ) (c : ℕ → ℕ) (f g : Vector) (r : Run) (s : Pass) (ok : runFormed p r ≡ true) (t : ℕ)
-    (h : Taken p (r .rounds) c (levelOf r (s .kind)) (s .points) f g t (kernelOf s)) where
+    (h : Taken p (r .start .rounds) c (levelOf r (s .kind)) (s .points) f g t (kernelOf s)) where
   -- one entry for each binary one of t modulo 2^(i+1)
   pub stack-counts : (s .fcount ≡ ones (suc (levelOf r (s .kind))) t) × (s .gcount ≡ ones (suc (levelOf r (s .kind))) t)
   stack-counts =
       let few = run-facts p r ok .few in
-      let first = taken-count p (r .rounds) c (levelOf r (s .kind)) (s .points) f g few (run-level p r ok (s .kind)) t (kernelOf s) h in
+      let first = taken-count p (r .start .rounds) c (levelOf r (s .kind)) (s .points) f g few (run-level p r ok (s .kind)) t (kernelOf s) h in
       (first, h .paired .counts ∙ first)
 
-  pub stacks-taken : Stacks p (r .rounds) c (levelOf r (s .kind)) f g t s
+  pub stacks-taken : StacksOf p (r .start .rounds) c (levelOf r (s .kind)) f g t s
   stacks-taken =
       let few = run-facts p r ok .few in
       let level = run-level p r ok (s .kind) in
-      let most = taken-at-most p (r .rounds) c (levelOf r (s .kind)) (s .points) f g few level t (kernelOf s) h in
+      let most = taken-at-most p (r .start .rounds) c (levelOf r (s .kind)) (s .points) f g few level t (kernelOf s) h in
       let same = h .paired .counts in
       record {
-        first = taken-first p (r .rounds) c (levelOf r (s .kind)) (s .points) f g few level t (kernelOf s) h;
-        second = taken-second p (r .rounds) c (levelOf r (s .kind)) (s .points) f g few level t (kernelOf s) h;
+        first = taken-first p (r .start .rounds) c (levelOf r (s .kind)) (s .points) f g few level t (kernelOf s) h;
+        second = taken-second p (r .start .rounds) c (levelOf r (s .kind)) (s .points) f g few level t (kernelOf s) h;
         few-first = most;
         few-second = omega (arith, most, same);
       }
 
 -- ALL ITEMS TAKEN
 module _ (p : ℕ) (c : ℕ → ℕ) (f g : Vector) (r : Run) (s : Pass) (ok : runFormed p r ≡ true)
-    (h : Taken p (r .rounds) c (levelOf r (s .kind)) (s .points) f g (2 ^ r .rounds) (kernelOf s)) where
+    (h : Taken p (r .start .rounds) c (levelOf r (s .kind)) (s .points) f g (2 ^ r .start .rounds) (kernelOf s)) where
   abbrev At : ℕ → Type 0
-  At i = Taken p (r .rounds) c i (s .points) f g (2 ^ r .rounds) (kernelOf s)
+  At i = Taken p (r .start .rounds) c i (s .points) f g (2 ^ r .start .rounds) (kernelOf s)
 
   -- "Message i, from fold i"
   pub closed-message : r .next ≡ Message
-      → (let m : Numbers = message p (r .rounds) c f g (r .round) in
+      → (let m : Numbers = message p (r .start .rounds) c f g (r .round) in
       finished r s Message ≡ answered (answeredStep (withMessage r (m .even) (m .cross) (m .odd)) shutPass (answer.Message (m .even) (m .cross) (m .odd))))
   closed-message next =
-      let level : levelOf r (s .kind) ≡ r .round = ap (λ a. levelAt (r .rounds) (r .round) a (s .kind)) next in
-      let less : r .round < r .rounds = ltb-true (r .round) (r .rounds) (ap (λ a. roundFits a (r .round) (r .rounds)) (sym next) ∙ run-facts p r ok .fits) in
-      let sums : sumsOf (kernelOf s) ≡ message p (r .rounds) c f g (r .round) =
-      taken-message p (r .rounds) c (s .points) f g (kernelOf s) (r .round) (subst At level h) less in
+      let level : levelOf r (s .kind) ≡ r .round = ap (λ a. levelAt (r .start .rounds) (r .round) a (s .kind)) next in
+      let less : r .round < r .start .rounds = ltb-true (r .round) (r .start .rounds) (ap (λ a. roundFits a (r .round) (r .start .rounds)) (sym next) ∙ run-facts p r ok .fits) in
+      let sums : sumsOf (kernelOf s) ≡ message p (r .start .rounds) c f g (r .round) =
+      taken-message p (r .start .rounds) c (s .points) f g (kernelOf s) (r .round) (subst At level h) less in
       ap (λ (m : Numbers). answered (answeredStep (withMessage r (m .even) (m .cross) (m .odd)) shutPass (answer.Message (m .even) (m .cross) (m .odd)))) sums
 
   -- the end values are fold n
-  pub end-values : r .next ≡ Ends → (getD (s .fvalues) 0 0 ≡ endValue p c (r .rounds) f) × (getD (s .gvalues) 0 0 ≡ endValue p c (r .rounds) g)
+  pub end-values : r .next ≡ Ends → (getD (s .fvalues) 0 0 ≡ endValue p c (r .start .rounds) f) × (getD (s .gvalues) 0 0 ≡ endValue p c (r .start .rounds) g)
   end-values next =
-      let level : levelOf r (s .kind) ≡ r .rounds = ap (λ a. levelAt (r .rounds) (r .round) a (s .kind)) next in (
-        taken-end-first p (r .rounds) c (s .points) f g (kernelOf s) (subst At level h),
-        taken-end-second p (r .rounds) c (s .points) f g (kernelOf s) (subst At level h),
+      let level : levelOf r (s .kind) ≡ r .start .rounds = ap (λ a. levelAt (r .start .rounds) (r .round) a (s .kind)) next in (
+        taken-end-first p (r .start .rounds) c (s .points) f g (kernelOf s) (subst At level h),
+        taken-end-second p (r .start .rounds) c (s .points) f g (kernelOf s) (subst At level h),
       )
 
   pub closed-ends : r .next ≡ Ends
-      → (let a : ℕ = endValue p c (r .rounds) f in
-      let b : ℕ = endValue p c (r .rounds) g in
+      → (let a : ℕ = endValue p c (r .start .rounds) f in
+      let b : ℕ = endValue p c (r .start .rounds) g in
       finished r s Ends ≡ answered (answeredStep (withEnds r a b) shutPass (answer.Ends a b)))
   closed-ends next =
       let e = end-values next in
@@ -91,11 +91,11 @@ module _ (p : ℕ) (c : ℕ → ℕ) (f g : Vector) (r : Run) (s : Pass) (ok : r
   -- "Opening at point b"
   pub closed-opening : r .next ≡ Openings → s .kind ≡ Asked → (b : ℕ) → s .points ≡ pointsOf p b
       → finished r s Openings
-      ≡ answered (record { run = r; pass = shutPass; answer = answer.Opening; values = inNinety (r .rounds) (opening p (r .rounds) c f g b) })
+      ≡ answered (record { run = r; pass = shutPass; answer = answer.Opening; values = inNinety (r .start .rounds) (opening p (r .start .rounds) c f g b) })
   closed-opening next asked b points =
-      let level : levelOf r (s .kind) ≡ r .rounds = ap₂ (λ a k. levelAt (r .rounds) (r .round) a k) next asked in
+      let level : levelOf r (s .kind) ≡ r .start .rounds = ap₂ (λ a k. levelAt (r .start .rounds) (r .round) a k) next asked in
       ap (λ vs. answered (record { run = r; pass = shutPass; answer = answer.Opening; values = vs }))
-      (taken-opened p (r .rounds) c (s .points) f g (kernelOf s) b (ap (λ a. a .on) points) (ap (λ a. a .point) points) (ap (λ a. a .minus) points)
+      (taken-opened p (r .start .rounds) c (s .points) f g (kernelOf s) b (ap (λ a. a .on) points) (ap (λ a. a .point) points) (ap (λ a. a .minus) points)
       (ap (λ a. a .square) points) (subst At level h) (run-facts p r ok .few))
 
 -- FIELD NUMBERS

@@ -16,7 +16,7 @@ use Rattle.prover.specs.Records.{Out}
 use Rattle.prover.specs.Challenge.{challengeTurn, challengedFull}
 use Rattle.prover.proofs.FullFacts.{challenge-round}
 use Rattle.prover.proofs.FullLaws.{Lent, challenge-kept, challenge-lengths}
-use Rattle.runs.specs.Buffers.{Kept, Written}
+use Rattle.runs.specs.Buffers.{Unchanged, Written}
 
 -- the fold of a slice in place
 fold-written : (p : ℕ) (c : ℕ → ℕ) (i h : ℕ) (xs : List ℕ) (v : Vector) → Holds xs (2 * h) (fold p c i v)
@@ -31,9 +31,9 @@ fold-written p c i h xs v l =
 
 module _ (p : ℕ) (r : Run) (s : Pass) (x : ℕ) (fs gs : List ℕ) (turn : challengeTurn p r s ≡ true) where
   -- whatever the buffers hold
-  pub challenge-places : (let h : ℕ = size (r .rounds) (suc (r .round)) in
+  pub challenge-places : (let h : ℕ = size (r .start .rounds) (suc (r .round)) in
       let o : Out = challengedFull p r s x fs gs in
-      Kept 0 h fs (o .f) × Kept 0 h gs (o .g))
+      Unchanged 0 h fs (o .f) × Unchanged 0 h gs (o .g))
   challenge-places =
       let same = challenge-lengths p r s x fs gs turn in
       let kept = challenge-kept p r s x fs gs turn in (
@@ -43,13 +43,13 @@ module _ (p : ℕ) (r : Run) (s : Pass) (x : ℕ) (fs gs : List ℕ) (turn : cha
 
   -- where they hold the current fold of f and of g, under the challenges c
   pub challenge-written : (c : ℕ → ℕ) (f g : Vector) → Lent p c f g r fs gs → c (r .round) ≡ x
-      → (let h : ℕ = size (r .rounds) (suc (r .round)) in
+      → (let h : ℕ = size (r .start .rounds) (suc (r .round)) in
       let o : Out = challengedFull p r s x fs gs in
       Written (fold p c (suc (r .round)) f) 0 h fs (o .f) × Written (fold p c (suc (r .round)) g) 0 h gs (o .g))
   unfolding challengedFull
   challenge-written c f g l same =
       let t = challenge-round p r s turn in
-      let n : ℕ = r .rounds in
+      let n : ℕ = r .start .rounds in
       let i : ℕ = r .round in
       let one : Holds fs (2 * size n (suc i)) (fold p c i f) = rw (t .halves, t .level) at (l .first) in
       let two : Holds gs (2 * size n (suc i)) (fold p c i g) = rw (t .halves, t .level) at (l .second) in

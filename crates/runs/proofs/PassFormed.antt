@@ -20,7 +20,8 @@ use Rattle.prover.specs.Records.{kernelOf}
 use Rattle.prover.specs.Order.{isTotal, isOpenings}
 use Rattle.prover.specs.WellFormed.{kindFits, runFormed, passFormed, wellFormed}
 use Rattle.prover.specs.Open.{newPass, noPoints, pointsOf, paddedKernel}
-use Rattle.runs.specs.Trip.{Raw, partsIn}
+use Rattle.item.specs.declared.Given.{Given}
+use Rattle.item.specs.Item.{contributes}
 use Rattle.runs.specs.Passes.{passAfter}
 use Rattle.runs.specs.Items.{AllWithin}
 use Rattle.runs.proofs.RunFacts.{bounds}
@@ -29,7 +30,7 @@ use Rattle.runs.proofs.PassKernel.{after-counts, after-room}
 use Rattle.runs.proofs.PassTotal.{after-bound}
 
 -- a pass for the total has no stack
-pub after-still : (p : ℕ) (r : Run) (b : ℕ) → isTotal (r .next) ≡ true → (xs : List Raw) → kernelOf (passAfter p r Asked b xs) ≡ emptyKernel
+pub after-still : (p : ℕ) (r : Run) (b : ℕ) → isTotal (r .next) ≡ true → (xs : List Given) → kernelOf (passAfter p r Asked b xs) ≡ emptyKernel
 unfolding passAfter
 after-still p r b e [] = by (r .next) e
   where
@@ -40,7 +41,7 @@ after-still p r b e [] = by (r .next) e
     by Challenge e = absurd (true≢false (sym e))
     by Ends e = absurd (true≢false (sym e))
     by Openings e = absurd (true≢false (sym e))
-after-still p r b e (x ∷ xs) = takes-still p r (passAfter p r Asked b xs) (partsIn p x) [] [] e ∙ after-still p r b e xs
+after-still p r b e (x ∷ xs) = takes-still p r (passAfter p r Asked b xs) (contributes p (r .start) x) [] [] e ∙ after-still p r b e xs
 
 -- no change before the total
 change-later : (m : Mode) (n : Next) → kindFits Change m n ≡ true → isTotal n ≡ false
@@ -51,15 +52,15 @@ change-later Small Ends h = refl
 change-later Small Openings h = refl
 change-later Full n h = absurd (true≢false (sym h))
 
-formed-by : (p : ℕ) (r : Run) (s : Pass) → runFormed p r ≡ true → kindFits (s .kind) (r .mode) (r .next) ≡ true → s .taken ≤ r .items
+formed-by : (p : ℕ) (r : Run) (s : Pass) → runFormed p r ≡ true → kindFits (s .kind) (r .mode) (r .next) ≡ true → s .taken ≤ r .start .items
     → s .fcount ≡ s .gcount → s .fcount ≤ 15 → natAbs (s .total) ≤ s .taken * 47185920 → wellFormed p r s ≡ true
 unfolding wellFormed passFormed
 formed-by p r s h fits within counts room bound =
     rw
-    (h, fits, le-ltb (r .items) (s .taken) within, eq-eqb (s .fcount) (s .gcount) counts, le-ltb 15 (s .fcount) room, le-leb (natAbs (s .total)) (s .taken * 47185920) bound)
+    (h, fits, le-ltb (r .start .items) (s .taken) within, eq-eqb (s .fcount) (s .gcount) counts, le-ltb 15 (s .fcount) room, le-leb (natAbs (s .total)) (s .taken * 47185920) bound)
 
 module _ (p : ℕ) (r : Run) (b : ℕ) (formed : runFormed p r ≡ true) where
-  counts : (k : Kind) → kindFits k (r .mode) (r .next) ≡ true → (xs : List Raw) → length xs ≤ r .items → (k ≡ Shut → xs ≡ [])
+  counts : (k : Kind) → kindFits k (r .mode) (r .next) ≡ true → (xs : List Given) → length xs ≤ r .start .items → (k ≡ Shut → xs ≡ [])
       → (passAfter p r k b xs .fcount ≡ passAfter p r k b xs .gcount) × (passAfter p r k b xs .fcount ≤ 15)
   unfolding passAfter
   counts Shut fits xs within none = rw (none refl) (refl, omega arith)
@@ -76,7 +77,7 @@ module _ (p : ℕ) (r : Run) (b : ℕ) (formed : runFormed p r ≡ true) where
       (after-counts p r b e Change refl formed xs within, after-room p r b e Change refl formed xs within)
 
   -- with no pass open there are no items
-  pub after-formed : (k : Kind) (xs : List Raw) → kindFits k (r .mode) (r .next) ≡ true → AllWithin xs → length xs ≤ r .items
+  pub after-formed : (k : Kind) (xs : List Given) → kindFits k (r .mode) (r .next) ≡ true → AllWithin xs → length xs ≤ r .start .items
       → (k ≡ Shut → xs ≡ []) → wellFormed p r (passAfter p r k b xs) ≡ true
   after-formed k xs fits good within none =
       let s : Pass = passAfter p r k b xs in

@@ -22,13 +22,14 @@ use Rattle.prover.specs.Order.{isTotal, isOpenings, levelOf, padding}
 use Rattle.prover.specs.WellFormed.{runFormed}
 use Rattle.prover.specs.Open.{newPass, noPoints, pointsOf, paddedKernel, openKernel}
 use Rattle.prover.specs.Take.{entering, enteredItem}
-use Rattle.runs.specs.Trip.{Raw, partsIn}
+use Rattle.item.specs.declared.Given.{Given}
+use Rattle.item.specs.Item.{contributes}
 use Rattle.runs.specs.Passes.{openedPass, passAfter}
 use Rattle.runs.specs.Items.{pairsOf}
 use Rattle.runs.proofs.RunFacts.{Bounds, bounds}
 use Rattle.runs.proofs.PassRecord.{takes-kernel, after-kind, after-points, after-entering}
 
-pub pairs-length : (p : ℕ) (r : Run) (xs : List Raw) → length (pairsOf p r xs) ≡ length xs
+pub pairs-length : (p : ℕ) (r : Run) (xs : List Given) → length (pairsOf p r xs) ≡ length xs
 unfolding pairsOf
 pairs-length p r [] = refl
 pairs-length p r (x ∷ xs) = ap suc (pairs-length p r xs)
@@ -60,29 +61,29 @@ module _ (p : ℕ) (r : Run) (b : ℕ) (other : isTotal (r .next) ≡ false) whe
 
   module _ (k : Kind) (isopen : isOpen k ≡ true) where
     -- THE STACKS of a pass, item by item
-    pub after-kernel : (xs : List Raw)
+    pub after-kernel : (xs : List Given)
         → kernelOf (passAfter p r k b xs)
         ≡ streamOf p (r .challenges) (levelOf r k) (openedPass p r k b .points) (paddingKernel (padding r) (levelOf r k)) (pairsOf p r xs)
     unfolding passAfter pairsOf streamOf enteredItem
     after-kernel [] = opened-kernel k isopen
     after-kernel (x ∷ xs) =
         let s : Pass = passAfter p r k b xs in
-        let a : ℕ = entering p r s (partsIn p x) in
+        let a : ℕ = entering p r s (contributes p (r .start) x) in
         let q : Kernel = streamOf p (r .challenges) (levelOf r k) (openedPass p r k b .points) (paddingKernel (padding r) (levelOf r k)) (pairsOf p r xs) in
-        takes-kernel p r s (partsIn p x) [] [] other
-        ∙ ap (λ m. entered p (r .challenges) (levelOf r m) (s .points) (kernelOf s) a (partsIn p x .g) .kernel) (after-kind p r k b xs)
-        ∙ ap (λ at. entered p (r .challenges) (levelOf r k) at (kernelOf s) a (partsIn p x .g) .kernel) (after-points p r k b xs)
-        ∙ ap (λ m. entered p (r .challenges) (levelOf r k) (openedPass p r k b .points) m a (partsIn p x .g) .kernel) (after-kernel xs)
-        ∙ ap (λ f. entered p (r .challenges) (levelOf r k) (openedPass p r k b .points) q f (partsIn p x .g) .kernel) (after-entering p r k b xs x)
+        takes-kernel p r s (contributes p (r .start) x) [] [] other
+        ∙ ap (λ m. entered p (r .challenges) (levelOf r m) (s .points) (kernelOf s) a (contributes p (r .start) x .g) .kernel) (after-kind p r k b xs)
+        ∙ ap (λ at. entered p (r .challenges) (levelOf r k) at (kernelOf s) a (contributes p (r .start) x .g) .kernel) (after-points p r k b xs)
+        ∙ ap (λ m. entered p (r .challenges) (levelOf r k) (openedPass p r k b .points) m a (contributes p (r .start) x .g) .kernel) (after-kernel xs)
+        ∙ ap (λ f. entered p (r .challenges) (levelOf r k) (openedPass p r k b .points) q f (contributes p (r .start) x .g) .kernel) (after-entering p r k b xs x)
 
-    module _ (formed : runFormed p r ≡ true) (xs : List Raw) (within : length xs ≤ r .items) where
+    module _ (formed : runFormed p r ≡ true) (xs : List Given) (within : length xs ≤ r .start .items) where
       -- their levels, whatever the items
       pub after-levels : Levelled (levelOf r k) (padding r + length xs) (kernelOf (passAfter p r k b xs))
       after-levels =
           let h : Bounds r = bounds p r formed in
-          let fits : padding r + length (pairsOf p r xs) ≤ 2 ^ r .rounds = omega (arith, pairs-length p r xs, h .padding, h .enough) in
+          let fits : padding r + length (pairsOf p r xs) ≤ 2 ^ r .start .rounds = omega (arith, pairs-length p r xs, h .padding, h .enough) in
           rw (after-kernel xs, ← pairs-length p r xs)
-          (levelled-list (r .rounds) (levelOf r k) (h .few) (h .level k) p (r .challenges) (openedPass p r k b .points) (padding r) (pairsOf p r xs) fits)
+          (levelled-list (r .start .rounds) (levelOf r k) (h .few) (h .level k) p (r .challenges) (openedPass p r k b .points) (padding r) (pairsOf p r xs) fits)
 
       pub after-counts : passAfter p r k b xs .fcount ≡ passAfter p r k b xs .gcount
       after-counts = sym (after-levels .paired .counts)
@@ -90,9 +91,9 @@ module _ (p : ℕ) (r : Run) (b : ℕ) (other : isTotal (r .next) ≡ false) whe
       pub after-room : passAfter p r k b xs .fcount ≤ 15
       after-room =
           let h : Bounds r = bounds p r formed in
-          let fits : padding r + length xs ≤ 2 ^ r .rounds = omega (arith, h .padding, h .enough) in
+          let fits : padding r + length xs ≤ 2 ^ r .start .rounds = omega (arith, h .padding, h .enough) in
           omega (
             arith,
             levelled-count (levelOf r k) (padding r + length xs) (kernelOf (passAfter p r k b xs)) after-levels,
-            ones-fit (r .rounds) (suc (levelOf r k)) (padding r + length xs) (h .few) fits,
+            ones-fit (r .start .rounds) (suc (levelOf r k)) (padding r + length xs) (h .few) fits,
           )

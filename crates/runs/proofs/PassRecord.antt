@@ -6,8 +6,8 @@ use Prim.Native.Nat.{ℕ, suc, _+_, _-_}
 use native.Mathlib.Numerals.{add-one}
 use lib.ListN.{length}
 use Rattle.algebra.specs.Mod.{addMod, mulMod}
-use Rattle.field.specs.Total.{plusItem}
-use Rattle.vector.specs.declared.item.Item.{Item}
+use Rattle.field.specs.Total.{plus}
+use Rattle.item.specs.declared.Item.{Item}
 use Rattle.vector.specs.declared.kernel.Points.{Points}
 use Rattle.vector.specs.declared.kernel.Kernel.{Kernel}
 use Rattle.vector.specs.Kernel.{emptyKernel, paddingKernel}
@@ -16,13 +16,17 @@ use Rattle.prover.specs.declared.Kind.the-variants.{Shut, Asked, Change}
 use Rattle.prover.specs.declared.Run.{Run}
 use Rattle.prover.specs.declared.Pass.{Pass}
 use Rattle.prover.specs.declared.Answer.the-variants as answer
+use Rattle.refusal.specs.Outcome.{answered}
+use Rattle.prover.specs.Reply as reply
 use Rattle.prover.specs.Records.{kernelOf, withKernel, Out, out, answeredStep, noValues}
 use Rattle.prover.specs.Order.{isTotal, isOpenings, levelOf, padding}
 use Rattle.prover.specs.Open.{newPass, noPoints, pointsOf, paddedKernel, openKernel}
 use Rattle.prover.specs.Take.{entering, oneMore, summedItem, enteredItem, placedIn, takes}
 use Rattle.prover.proofs.Outcomes.{takes-sum, takes-climb}
-use Rattle.runs.specs.Trip.{Raw, partsIn, entersAs}
-use Rattle.runs.specs.Passes.{startOf, openedPass, passAfter}
+use Rattle.item.specs.declared.Given.{Given}
+use Rattle.item.specs.Item.{contributes}
+use Rattle.runs.specs.Trip.{entersAs}
+use Rattle.runs.specs.Passes.{openedPass, passAfter}
 
 -- ONE MORE ITEM of any pass
 module _ (p : ℕ) (r : Run) (s : Pass) (y : Item) (f g : List ℕ) where
@@ -44,8 +48,8 @@ module _ (p : ℕ) (r : Run) (s : Pass) (y : Item) (f g : List ℕ) where
   pub takes-run : takes p r s y f g .run ≡ r
   takes-run = either (λ o. o .run) r refl refl
 
-  pub takes-answer : takes p r s y f g .answer ≡ answer.Taken
-  takes-answer = either (λ o. o .answer) answer.Taken refl refl
+  pub takes-answer : takes p r s y f g .answer ≡ answered reply.taken
+  takes-answer = either (λ o. o .answer) (answered reply.taken) refl refl
 
   pub takes-values : takes p r s y f g .values ≡ noValues
   takes-values = either (λ o. o .values) noValues refl refl
@@ -64,7 +68,7 @@ module _ (p : ℕ) (r : Run) (s : Pass) (y : Item) (f g : List ℕ) where
 
   -- a pass for the total
   module _ (h : isTotal (r .next) ≡ true) where
-    pub takes-total : takes p r s y f g .pass .total ≡ plusItem (s .total) (y .reading) (y .weight)
+    pub takes-total : takes p r s y f g .pass .total ≡ plus (s .total) (y .worth)
     unfolding summedItem
     takes-total = ap (λ o. o .pass .total) (takes-sum p r s y f g h)
 
@@ -106,27 +110,27 @@ module _ (p : ℕ) (r : Run) (b : ℕ) where
 
 -- A PASS AFTER ITS ITEMS
 module _ (p : ℕ) (r : Run) (k : Kind) (b : ℕ) where
-  pub after-kind : (xs : List Raw) → passAfter p r k b xs .kind ≡ k
+  pub after-kind : (xs : List Given) → passAfter p r k b xs .kind ≡ k
   unfolding passAfter
   after-kind [] = opened-new p r b (λ s. s .kind) k k (λ points q. refl)
-  after-kind (x ∷ xs) = takes-kind p r (passAfter p r k b xs) (partsIn p x) [] [] ∙ after-kind xs
+  after-kind (x ∷ xs) = takes-kind p r (passAfter p r k b xs) (contributes p (r .start) x) [] [] ∙ after-kind xs
 
-  pub after-taken : (xs : List Raw) → passAfter p r k b xs .taken ≡ length xs
+  pub after-taken : (xs : List Given) → passAfter p r k b xs .taken ≡ length xs
   unfolding passAfter
   after-taken [] = opened-new p r b (λ s. s .taken) 0 k (λ points q. refl)
-  after-taken (x ∷ xs) = takes-taken p r (passAfter p r k b xs) (partsIn p x) [] [] ∙ ap suc (after-taken xs)
+  after-taken (x ∷ xs) = takes-taken p r (passAfter p r k b xs) (contributes p (r .start) x) [] [] ∙ ap suc (after-taken xs)
 
-  pub after-points : (xs : List Raw) → passAfter p r k b xs .points ≡ openedPass p r k b .points
+  pub after-points : (xs : List Given) → passAfter p r k b xs .points ≡ openedPass p r k b .points
   unfolding passAfter
   after-points [] = refl
-  after-points (x ∷ xs) = takes-points p r (passAfter p r k b xs) (partsIn p x) [] [] ∙ after-points xs
+  after-points (x ∷ xs) = takes-points p r (passAfter p r k b xs) (contributes p (r .start) x) [] [] ∙ after-points xs
 
-  pub after-item : (xs : List Raw) (x : Raw) (f g : List ℕ) → takes p r (passAfter p r k b xs) (partsIn p x) f g .pass ≡ passAfter p r k b (x ∷ xs)
+  pub after-item : (xs : List Given) (x : Given) (f g : List ℕ) → takes p r (passAfter p r k b xs) (contributes p (r .start) x) f g .pass ≡ passAfter p r k b (x ∷ xs)
   unfolding passAfter
-  after-item xs x f g = takes-buffers p r (passAfter p r k b xs) (partsIn p x) f g [] []
+  after-item xs x f g = takes-buffers p r (passAfter p r k b xs) (contributes p (r .start) x) f g [] []
 
   -- "from index L-1 down"
-  pub after-entering : (xs : List Raw) (x : Raw)
-      → entering p r (passAfter p r k b xs) (partsIn p x) ≡ entersAs p (startOf r) (r .items - 1 - length xs) (partsIn p x .f)
+  pub after-entering : (xs : List Given) (x : Given)
+      → entering p r (passAfter p r k b xs) (contributes p (r .start) x) ≡ entersAs p (r .start) (r .start .items - 1 - length xs) (contributes p (r .start) x .f)
   unfolding entering
-  after-entering xs x = ap (λ t. entersAs p (startOf r) (r .items - 1 - t) (partsIn p x .f)) (after-taken xs)
+  after-entering xs x = ap (λ t. entersAs p (r .start) (r .start .items - 1 - t) (contributes p (r .start) x .f)) (after-taken xs)

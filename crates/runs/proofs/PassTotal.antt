@@ -1,35 +1,39 @@
 -- The sum of a pass for the total: exact for items within their limits, and small in any pass.
-use mathlib.Core.Path.{_≡_, refl, ap, _∙_}
+use mathlib.Core.Path.{_≡_, refl, ap₂, _∙_}
 use mathlib.Core.Bool.{Bool, true, false}
 use mathlib.Core.List.{List, [], _∷_}
 use Prim.Native.Nat.{ℕ, _*_, _≤_}
 use native.Mathlib.Nat.{mul-le-mul}
 use native.Mathlib.Omega.{arith}
-use lib.IntN.{pos, natAbs, _+ℤ_, _*ℤ_}
+use lib.IntN.{pos, natAbs}
 use lib.ListN.{length}
-use Rattle.field.specs.Total.{plusItem}
+use Rattle.field.specs.Total.{plus}
 use Rattle.field.proofs.Signed.{natAbs-add, natAbs-mul}
 use Rattle.field.proofs.Totals.{plus-exact}
 use Rattle.prover.specs.declared.Kind.{Kind}
 use Rattle.prover.specs.declared.Run.{Run}
 use Rattle.prover.specs.Order.{isTotal}
-use Rattle.runs.specs.Trip.{Raw, reading, numbers, partsIn, worth, sumOf}
+use Rattle.item.specs.declared.Start.{Start}
+use Rattle.item.specs.declared.Given.{Given}
+use Rattle.item.specs.declared.Given.the-variants.{Reading, Numbers}
+use Rattle.item.specs.Item.{contributes}
+use Rattle.runs.specs.Trip.{worth, sumOf}
 use Rattle.runs.specs.Passes.{passAfter}
 use Rattle.runs.specs.Items.{Within, AllWithin}
 use Rattle.runs.proofs.PassRecord.{takes-total, takes-none, opened-new}
 
-worth-bound : (x : Raw) → Within x → natAbs (worth x) ≤ 47185920
-worth-bound (reading z w) h = rw (natAbs-mul z (pos w)) (mul-le-mul (h .0) (h .1))
-worth-bound (numbers a b) h = omega arith
+worth-bound : (x : Given) → Within x → natAbs (worth x) ≤ 47185920
+worth-bound (Reading z w) h = rw (natAbs-mul z (pos w)) (mul-le-mul (h .0) (h .1))
+worth-bound (Numbers a b) h = omega arith
 
-pub sum-bound : (xs : List Raw) → AllWithin xs → natAbs (sumOf xs) ≤ length xs * 47185920
+pub sum-bound : (xs : List Given) → AllWithin xs → natAbs (sumOf xs) ≤ length xs * 47185920
 unfolding sumOf AllWithin
 sum-bound [] h = omega arith
 sum-bound (x ∷ xs) h = omega (arith, sum-bound xs (h .1), worth-bound x (h .0), natAbs-add (sumOf xs) (worth x))
 
-worth-parts : (p : ℕ) (x : Raw) → partsIn p x .reading *ℤ pos (partsIn p x .weight) ≡ worth x
-worth-parts p (reading z w) = refl
-worth-parts p (numbers a b) = refl
+worth-same : (p : ℕ) (start : Start) (x : Given) → contributes p start x .worth ≡ worth x
+worth-same p start (Reading z w) = refl
+worth-same p start (Numbers a b) = refl
 
 module _ (p : ℕ) (r : Run) (k : Kind) (b : ℕ) where
   opened-total : passAfter p r k b [] .total ≡ pos 0
@@ -37,22 +41,21 @@ module _ (p : ℕ) (r : Run) (k : Kind) (b : ℕ) where
   opened-total = opened-new p r b (λ s. s .total) (pos 0) k (λ points q. refl)
 
   -- READINGS TIMES MINUTES, as long as no more than 32,768 items were taken
-  pub after-total : isTotal (r .next) ≡ true → (xs : List Raw) → AllWithin xs → length xs ≤ 32768 → passAfter p r k b xs .total ≡ sumOf xs
+  pub after-total : isTotal (r .next) ≡ true → (xs : List Given) → AllWithin xs → length xs ≤ 32768 → passAfter p r k b xs .total ≡ sumOf xs
   unfolding passAfter sumOf AllWithin
   after-total e [] h few = opened-total
   after-total e (x ∷ xs) h few =
-      takes-total p r (passAfter p r k b xs) (partsIn p x) [] [] e
-      ∙ ap (λ t. plusItem t (partsIn p x .reading) (partsIn p x .weight)) (after-total e xs (h .1) (omega arith))
-      ∙ plus-exact (sumOf xs) (partsIn p x .reading) (partsIn p x .weight) (omega (arith, sum-bound xs (h .1)))
-      ∙ ap (λ w. sumOf xs +ℤ w) (worth-parts p x)
+      takes-total p r (passAfter p r k b xs) (contributes p (r .start) x) [] [] e
+      ∙ ap₂ plus (after-total e xs (h .1) (omega arith)) (worth-same p (r .start) x)
+      ∙ plus-exact (sumOf xs) (worth x) (omega (arith, sum-bound xs (h .1))) (omega (arith, worth-bound x (h .0)))
 
   -- no other pass sums
-  pub after-none : isTotal (r .next) ≡ false → (xs : List Raw) → passAfter p r k b xs .total ≡ pos 0
+  pub after-none : isTotal (r .next) ≡ false → (xs : List Given) → passAfter p r k b xs .total ≡ pos 0
   unfolding passAfter
   after-none e [] = opened-total
-  after-none e (x ∷ xs) = takes-none p r (passAfter p r k b xs) (partsIn p x) [] [] e ∙ after-none e xs
+  after-none e (x ∷ xs) = takes-none p r (passAfter p r k b xs) (contributes p (r .start) x) [] [] e ∙ after-none e xs
 
-  pub after-bound : (xs : List Raw) → AllWithin xs → length xs ≤ 32768 → natAbs (passAfter p r k b xs .total) ≤ length xs * 47185920
+  pub after-bound : (xs : List Given) → AllWithin xs → length xs ≤ 32768 → natAbs (passAfter p r k b xs .total) ≤ length xs * 47185920
   after-bound xs h few = by (isTotal (r .next)) refl
     where
       by : (t : Bool) → isTotal (r .next) ≡ t → natAbs (passAfter p r k b xs .total) ≤ length xs * 47185920

@@ -15,11 +15,11 @@ use Rattle.algebra.proofs.Primes.{by-dec}
 use Rattle.vector.specs.Vector.{Vector, at}
 use Rattle.vector.proofs.Arrivals.{multiple-completes}
 use Rattle.prover.specs.Change.{cleared}
-use Rattle.runs.specs.Buffers.{Kept, Written}
+use Rattle.runs.specs.Buffers.{Unchanged, Written}
 use Rattle.runs.proofs.LevelReached.{count-stays}
 
 -- what is written stays within its places
-pub written-kept : (v : Vector) (from to : ℕ) (before after : List ℕ) → Written v from to before after → Kept from to before after
+pub written-kept : (v : Vector) (from to : ℕ) (before after : List ℕ) → Written v from to before after → Unchanged from to before after
 written-kept v from to before after w = record { size = w .size; below = w .below; above = w .above }
 
 -- nothing written
@@ -27,12 +27,12 @@ none-written : (v : Vector) (from to : ℕ) (xs : List ℕ) → from ≡ to → 
 none-written v from to xs e =
     record { size = refl; wrote = λ j l m. absurd (omega arith); below = λ j l. refl; above = λ j l. refl }
 
-none-kept : (from to : ℕ) (xs : List ℕ) → Kept from to xs xs
+none-kept : (from to : ℕ) (xs : List ℕ) → Unchanged from to xs xs
 none-kept from to xs = record { size = refl; below = λ j l. refl; above = λ j l. refl }
 
 -- one place written
 module _ (from to place x : ℕ) (xs : List ℕ) (first : place ≡ from) (next : to ≡ suc from) where
-  one-kept : Kept from to xs (set xs place x)
+  one-kept : Unchanged from to xs (set xs place x)
   one-kept =
       record {
         size = length-set xs place x;
@@ -53,7 +53,7 @@ module _ (from to place x : ℕ) (xs : List ℕ) (first : place ≡ from) (next 
       }
 
 -- k places from one on become zero
-pub cleared-kept : (from k : ℕ) (xs : List ℕ) → Kept from (from + k) xs (cleared from k xs)
+pub cleared-kept : (from k : ℕ) (xs : List ℕ) → Unchanged from (from + k) xs (cleared from k xs)
 unfolding cleared
 cleared-kept from zero xs = none-kept from (from + zero) xs
 cleared-kept from (suc k) xs =
@@ -88,9 +88,9 @@ module _ (i t S level place x : ℕ) (xs : List ℕ) (there : place ≡ S - 1 - 
       (λ l. let e : suc t % 2 ^ i ≡ 0 = omega arith in rw (eq-eqb level i (last e)) (done (multiple-completes i t e) e))
       (λ l. let ne : suc t % 2 ^ i ≡ 0 → ⊥ = λ e. l (omega arith) in rw (ne-eqb level i (λ e. omega (arith, before ne))) (waits (count-stays i t ne)))
 
-  pub placed-kept : Kept (S - suc t / 2 ^ i) (S - t / 2 ^ i) xs placed
+  pub placed-kept : Unchanged (S - suc t / 2 ^ i) (S - t / 2 ^ i) xs placed
   placed-kept =
-      by-count (Kept (S - suc t / 2 ^ i) (S - t / 2 ^ i) xs)
+      by-count (Unchanged (S - suc t / 2 ^ i) (S - t / 2 ^ i) xs)
       (λ up e. one-kept (S - suc t / 2 ^ i) (S - t / 2 ^ i) place x xs (omega arith) (omega arith))
       (λ still. none-kept (S - suc t / 2 ^ i) (S - t / 2 ^ i) xs)
 

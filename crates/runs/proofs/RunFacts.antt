@@ -27,33 +27,33 @@ change-level n i Openings = refl
 
 pub shut-formed : (p : ℕ) (r : Run) → runFormed p r ≡ true → wellFormed p r shutPass ≡ true
 unfolding wellFormed passFormed
-shut-formed p r h = rw (h, le-ltb (r .items) 0 (omega arith))
+shut-formed p r h = rw (h, le-ltb (r .start .items) 0 (omega arith))
 
 module _ (p : ℕ) (r : Run) (ok : runFormed p r ≡ true) where
   -- its facts, with no pass open
   pub run-facts : Formed r shutPass
   run-facts = formed p r shutPass (shut-formed p r ok)
 
-  pub run-level : (k : Kind) → levelOf r k ≤ r .rounds
-  run-level k = level-at-most (r .rounds) (r .round) (r .next) k (run-facts .round)
+  pub run-level : (k : Kind) → levelOf r k ≤ r .start .rounds
+  run-level k = level-at-most (r .start .rounds) (r .round) (r .next) k (run-facts .round)
 
-  pub run-items : r .items ≤ 2 ^ r .rounds
-  run-items = subst (λ n. r .items ≤ 2 ^ n) (sym (run-facts .rounds)) (rounds-enough (r .items) (run-facts .most))
+  pub run-items : r .start .items ≤ 2 ^ r .start .rounds
+  run-items = subst (λ n. r .start .items ≤ 2 ^ n) (sym (run-facts .rounds)) (rounds-enough (r .start .items) (run-facts .most))
 
-  pub run-padding : padding r ≡ 2 ^ r .rounds - r .items
+  pub run-padding : padding r ≡ 2 ^ r .start .rounds - r .start .items
   run-padding = padding-is r shutPass run-facts
 
-  pub run-fold : foldSize r ≡ size (r .rounds) (levelOf r Change)
-  run-fold = size-32 (r .rounds) (levelOf r Shut) (run-facts .few) ∙ ap (size (r .rounds)) (change-level (r .rounds) (r .round) (r .next))
+  pub run-fold : foldSize r ≡ size (r .start .rounds) (levelOf r Change)
+  run-fold = size-32 (r .start .rounds) (levelOf r Shut) (run-facts .few) ∙ ap (size (r .start .rounds)) (change-level (r .start .rounds) (r .round) (r .next))
 
 -- the same as one record
 pub record Bounds (r : Run) : Type 0 where
-  pub some : 1 ≤ r .items
-  pub most : r .items ≤ 32768
-  pub few : r .rounds ≤ 15
-  pub enough : r .items ≤ 2 ^ r .rounds
-  pub level : (k : Kind) → levelOf r k ≤ r .rounds
-  pub padding : padding r ≡ 2 ^ r .rounds - r .items
+  pub some : 1 ≤ r .start .items
+  pub most : r .start .items ≤ 32768
+  pub few : r .start .rounds ≤ 15
+  pub enough : r .start .items ≤ 2 ^ r .start .rounds
+  pub level : (k : Kind) → levelOf r k ≤ r .start .rounds
+  pub padding : padding r ≡ 2 ^ r .start .rounds - r .start .items
 
 pub bounds : (p : ℕ) (r : Run) → runFormed p r ≡ true → Bounds r
 bounds p r ok =

@@ -6,7 +6,7 @@ use lib.ListN.{length}
 use Rattle.vector.specs.Vector.{Vector, at}
 
 -- the places from one up to another may differ, all others stay
-pub record Kept (from to : ℕ) (before after : List ℕ) : Type 0 where
+pub record Unchanged (from to : ℕ) (before after : List ℕ) : Type 0 where
   pub size : length after ≡ length before
   pub below : (j : ℕ) → j < from → at after j ≡ at before j
   pub above : (j : ℕ) → to ≤ j → at after j ≡ at before j

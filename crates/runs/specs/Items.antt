@@ -6,23 +6,25 @@ use lib.ListN.{length, replicate}
 use Rattle.refusal.specs.Limit.{maxWeight}
 use Rattle.vector.specs.Fold.{Pair}
 use Rattle.prover.specs.declared.Run.{Run}
-use Rattle.runs.specs.Trip.{Raw, reading, numbers, partsIn, Trip, entersAs}
-use Rattle.runs.specs.Passes.{startOf}
+use Rattle.item.specs.declared.Given.{Given}
+use Rattle.item.specs.declared.Given.the-variants.{Reading, Numbers}
+use Rattle.item.specs.Item.{contributes}
+use Rattle.runs.specs.Trip.{Trip, entersAs}
 
 -- "from index L-1 down": the newest item of a pass has the lowest index
-unfoldable pub pairsOf : ℕ → Run → List Raw → List Pair
+unfoldable pub pairsOf : ℕ → Run → List Given → List Pair
 pairsOf p r [] = []
-pairsOf p r (x ∷ xs) = (entersAs p (startOf r) (r .items - 1 - length xs) (partsIn p x .f), partsIn p x .g) ∷ pairsOf p r xs
+pairsOf p r (x ∷ xs) = (entersAs p (r .start) (r .start .items - 1 - length xs) (contributes p (r .start) x .f), contributes p (r .start) x .g) ∷ pairsOf p r xs
 
 -- "reading (signed 16-bit ..), weight (unsigned 16-bit, minutes, 0 to 1,440)"
-abbrev pub Within : Raw → Type 0
-Within (reading z w) = (natAbs z ≤ 32768) × (w ≤ maxWeight)
-Within (numbers a b) = Unit {0}
+abbrev pub Within : Given → Type 0
+Within (Reading z w) = (natAbs z ≤ 32768) × (w ≤ maxWeight)
+Within (Numbers a b) = Unit {0}
 
-unfoldable pub AllWithin : List Raw → Type 0
+unfoldable pub AllWithin : List Given → Type 0
 AllWithin [] = Unit {0}
 AllWithin (x ∷ xs) = Within x × AllWithin xs
 
 -- a trip whose last items are these, with zero pairs before them
-abbrev pub ownTrip : Run → List Raw → Trip
-ownTrip r xs = record { start = startOf r; items = replicate (r .items - length xs) (numbers 0 0) ++ xs }
+abbrev pub ownTrip : Run → List Given → Trip
+ownTrip r xs = record { start = r .start; items = replicate (r .start .items - length xs) (Numbers 0 0) ++ xs }

@@ -13,11 +13,10 @@ use Rattle.prover.specs.Open.{newPass, noPoints, pointsOf, paddedKernel, openKe
 use Rattle.prover.specs.Take.{takes}
 use Rattle.prover.specs.Change.{changePass}
 use Rattle.prover.specs.Close.{shutPass}
-use Rattle.runs.specs.Trip.{Raw, numbers, partsIn, Start, Trip, itemOf}
-
--- what the run's start fixed
-abbrev pub startOf : Run → Start
-startOf r = record { items = r .items; rounds = r .rounds; plain = r .plain; twists = r .twists }
+use Rattle.item.specs.declared.Given.{Given}
+use Rattle.item.specs.declared.Given.the-variants.{Numbers}
+use Rattle.item.specs.Item.{contributes}
+use Rattle.runs.specs.Trip.{Trip, itemOf}
 
 -- the record that an answered opening of a pass hands back: for what is next, at a point for openings, or for a change
 abbrev pub openedPass : ℕ → Run → Kind → ℕ → Pass
@@ -26,10 +25,10 @@ openedPass p r Asked b = cond (isOpenings (r .next)) (newPass Asked (pointsOf p 
 openedPass p r Change b = changePass r
 
 -- and after the answered items
-unfoldable pub passAfter : ℕ → Run → Kind → ℕ → List Raw → Pass
+unfoldable pub passAfter : ℕ → Run → Kind → ℕ → List Given → Pass
 passAfter p r k b [] = openedPass p r k b
-passAfter p r k b (x ∷ xs) = takes p r (passAfter p r k b xs) (partsIn p x) [] [] .pass
+passAfter p r k b (x ∷ xs) = takes p r (passAfter p r k b xs) (contributes p (r .start) x) [] [] .pass
 
 -- "A pass gives the trip's items if its answered items, in order, are items L-1, L-2 and so on"
-abbrev pub Gives : Trip → List Raw → Type 0
-Gives T xs = (q : ℕ) → q < length xs → getD xs q (numbers 0 0) ≡ itemOf T (T .start .items - length xs + q)
+abbrev pub Gives : Trip → List Given → Type 0
+Gives T xs = (q : ℕ) → q < length xs → getD xs q (Numbers 0 0) ≡ itemOf T (T .start .items - length xs + q)

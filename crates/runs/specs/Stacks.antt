@@ -9,7 +9,7 @@ use Rattle.prover.specs.declared.Pass.{Pass}
 use Rattle.prover.specs.Records.{kernelOf}
 
 -- of a pass that folds to level i and has taken t of the 2^n items of f and g, under the challenges c
-pub record Stacks (p n : ℕ) (c : ℕ → ℕ) (i : ℕ) (f g : Vector) (t : ℕ) (s : Pass) : Type 0 where
+pub record StacksOf (p n : ℕ) (c : ℕ → ℕ) (i : ℕ) (f g : Vector) (t : ℕ) (s : Pass) : Type 0 where
   pub first : stackF (kernelOf s) ≡ entries (combine p) c n f t i
   pub second : stackG (kernelOf s) ≡ entries (combine p) c n g t i
   -- at most one entry for each level 0 to i

@@ -1,12 +1,16 @@
 use mathlib.Core.Path.{sym, ap, _∙_}
 use denote.Ref.{now}
-use Rattle.prover.specs.Records.{passed}
+use Rattle.refusal.specs.Check.{passed}
 use Rattle.prover.specs.Full.{endsTurn, endsGiven, endsCall}
 use Rattle.prover.proofs.FullOutcomes.{read-turn, read-short, read-unreduced, read-given}
 use Rattle.prover.proofs.FullFacts.{both-there}
+use Rattle.prover.specs.Records.{leaves}
 use borrow.Author.Needs.{needs}
 use Rattle.prover.proofs.Run.ends.Statement.{statement}
 use Rattle.prover.proofs.Run.ends.Tie as tie
+
+modulus-of-requires : tie.Need-modulus-of-requires
+modulus-of-requires c κs = search needs
 
 ends-next-requires : tie.Need-ends-next-requires
 ends-next-requires c κs = search needs
@@ -23,8 +27,8 @@ refuse-requires c κs = search needs
 returns : tie.Need-returns
 unfolding endsCall
 returns c =
-    let s = c .before .before .before .before .before .before .args in
-    rw (c .refuse .ensures) (sym (read-turn 2147483647 (s .self) (s .pass) (now (s .f)) (now (s .g)) (endsTurn 2147483647 (s .self) (s .pass)) (endsGiven (s .self) (s .pass) (now (s .f)) (now (s .g))) (sym (c .before .before .before .ends-next .ensures) ∙ ap passed (c .before .enum-told2 .given .1))))
+    let s = c .before .before .before .before .before .before .before .args in
+    rw (c .refuse .ensures) (sym (read-turn (c .before .before .before .before .modulus-of .result) (s .self) (s .pass) (now (s .f)) (now (s .g)) (endsTurn (c .before .before .before .before .modulus-of .result) (s .self) (s .pass)) (endsGiven (s .self) (s .pass) (now (s .f)) (now (s .g))) (sym (c .before .before .before .ends-next .ensures) ∙ ap passed (c .before .enum-told2 .given .1))) ∙ ap (λ p. leaves (s .self) (s .pass) (now (s .f)) (now (s .g)) (endsCall p (s .self) (s .pass) (now (s .f)) (now (s .g)))) (c .before .before .before .before .modulus-of .ensures))
 
 both-long-requires : tie.Need-both-long-requires
 both-long-requires c κs = search needs
@@ -41,8 +45,8 @@ refuse-requires-2 c κs = search needs
 returns-2 : tie.Need-returns-2
 unfolding endsCall
 returns-2 c =
-    let s = c .before .before .before .before .before .before .before .before .before .args in
-    rw (c .refuse2 .ensures) (sym (read-short 2147483647 (s .self) (s .pass) (now (s .f)) (now (s .g)) (endsTurn 2147483647 (s .self) (s .pass)) (endsGiven (s .self) (s .pass) (now (s .f)) (now (s .g))) (sym (c .before .before .before .before .before .before .ends-next .ensures) ∙ ap passed (c .before .before .before .before .enum-told .given .1)) (sym (c .before .before .before .both-long .ensures) ∙ ap passed (c .before .enum-told4 .given .1))))
+    let s = c .before .before .before .before .before .before .before .before .before .before .args in
+    rw (c .refuse2 .ensures) (sym (read-short (c .before .before .before .before .before .before .before .modulus-of .result) (s .self) (s .pass) (now (s .f)) (now (s .g)) (endsTurn (c .before .before .before .before .before .before .before .modulus-of .result) (s .self) (s .pass)) (endsGiven (s .self) (s .pass) (now (s .f)) (now (s .g))) (sym (c .before .before .before .before .before .before .ends-next .ensures) ∙ ap passed (c .before .before .before .before .enum-told .given .1)) (sym (c .before .before .before .both-long .ensures) ∙ ap passed (c .before .enum-told4 .given .1))) ∙ ap (λ p. leaves (s .self) (s .pass) (now (s .f)) (now (s .g)) (endsCall p (s .self) (s .pass) (now (s .f)) (now (s .g)))) (c .before .before .before .before .before .before .before .modulus-of .ensures))
 
 both-reduced-requires : tie.Need-both-reduced-requires
 both-reduced-requires c κs = search needs
@@ -59,24 +63,25 @@ refuse-requires-3 c κs = search needs
 returns-3 : tie.Need-returns-3
 unfolding endsCall
 returns-3 c =
-    let s = c .before .before .before .before .before .before .before .before .before .before .before .before .args in
-    rw (c .refuse3 .ensures) (sym (read-unreduced 2147483647 (s .self) (s .pass) (now (s .f)) (now (s .g)) (endsTurn 2147483647 (s .self) (s .pass)) (endsGiven (s .self) (s .pass) (now (s .f)) (now (s .g))) (sym (c .before .before .before .before .before .before .before .before .before .ends-next .ensures) ∙ ap passed (c .before .before .before .before .before .before .before .enum-told .given .1)) (sym (c .before .before .before .before .before .before .both-long .ensures) ∙ ap passed (c .before .before .before .before .enum-told3 .given .1)) (sym (c .before .before .before .both-reduced .ensures) ∙ ap passed (c .before .enum-told6 .given .1))))
+    let s = c .before .before .before .before .before .before .before .before .before .before .before .before .before .args in
+    rw (c .refuse3 .ensures) (sym (read-unreduced (c .before .before .before .before .before .before .before .before .before .before .modulus-of .result) (s .self) (s .pass) (now (s .f)) (now (s .g)) (endsTurn (c .before .before .before .before .before .before .before .before .before .before .modulus-of .result) (s .self) (s .pass)) (endsGiven (s .self) (s .pass) (now (s .f)) (now (s .g))) (sym (c .before .before .before .before .before .before .before .before .before .ends-next .ensures) ∙ ap passed (c .before .before .before .before .before .before .before .enum-told .given .1)) (sym (c .before .before .before .before .before .before .both-long .ensures) ∙ ap passed (c .before .before .before .before .enum-told3 .given .1)) (sym (c .before .before .before .both-reduced .ensures) ∙ ap passed (c .before .enum-told6 .given .1))) ∙ ap (λ p. leaves (s .self) (s .pass) (now (s .f)) (now (s .g)) (endsCall p (s .self) (s .pass) (now (s .f)) (now (s .g)))) (c .before .before .before .before .before .before .before .before .before .before .modulus-of .ensures))
 
 give-ends-requires : tie.Need-give-ends-requires
 give-ends-requires c κs =
-    let s = c .before .before .before .before .before .before .before .before .before .before .before .args in
-    both-there 2147483647 (s .self) (s .pass) (now (s .f)) (now (s .g)) (sym (c .before .before .before .before .before .before .before .before .ends-next .ensures) ∙ ap passed (c .before .before .before .before .before .before .enum-told .given .1)) (sym (c .before .before .before .before .before .both-long .ensures) ∙ ap passed (c .before .before .before .enum-told3 .given .1))
+    let s = c .before .before .before .before .before .before .before .before .before .before .before .before .args in
+    both-there (c .before .before .before .before .before .before .before .before .before .modulus-of .result) (s .self) (s .pass) (now (s .f)) (now (s .g)) (sym (c .before .before .before .before .before .before .before .before .ends-next .ensures) ∙ ap passed (c .before .before .before .before .before .before .enum-told .given .1)) (sym (c .before .before .before .before .before .both-long .ensures) ∙ ap passed (c .before .before .before .enum-told3 .given .1))
 
 returns-4 : tie.Need-returns-4
 unfolding endsCall
 returns-4 c =
-    let s = c .before .before .before .before .before .before .before .before .before .before .before .before .args in
-    c .give-ends .ensures ∙ sym (read-given 2147483647 (s .self) (s .pass) (now (s .f)) (now (s .g)) (endsTurn 2147483647 (s .self) (s .pass)) (endsGiven (s .self) (s .pass) (now (s .f)) (now (s .g))) (sym (c .before .before .before .before .before .before .before .before .before .ends-next .ensures) ∙ ap passed (c .before .before .before .before .before .before .before .enum-told .given .1)) (sym (c .before .before .before .before .before .before .both-long .ensures) ∙ ap passed (c .before .before .before .before .enum-told3 .given .1)) (sym (c .before .before .before .both-reduced .ensures) ∙ ap passed (c .before .enum-told5 .given .1)))
+    let s = c .before .before .before .before .before .before .before .before .before .before .before .before .before .args in
+    c .give-ends .ensures ∙ sym (read-given (c .before .before .before .before .before .before .before .before .before .before .modulus-of .result) (s .self) (s .pass) (now (s .f)) (now (s .g)) (endsTurn (c .before .before .before .before .before .before .before .before .before .before .modulus-of .result) (s .self) (s .pass)) (endsGiven (s .self) (s .pass) (now (s .f)) (now (s .g))) (sym (c .before .before .before .before .before .before .before .before .before .ends-next .ensures) ∙ ap passed (c .before .before .before .before .before .before .before .enum-told .given .1)) (sym (c .before .before .before .before .before .before .both-long .ensures) ∙ ap passed (c .before .before .before .before .enum-told3 .given .1)) (sym (c .before .before .before .both-reduced .ensures) ∙ ap passed (c .before .enum-told5 .given .1))) ∙ ap (λ p. leaves (s .self) (s .pass) (now (s .f)) (now (s .g)) (endsCall p (s .self) (s .pass) (now (s .f)) (now (s .g)))) (c .before .before .before .before .before .before .before .before .before .before .modulus-of .ensures)
 
 pub ends-spec : {M : Type 1} → statement M
 ends-spec =
     tie.close
     (tie.spec
+    modulus-of-requires
     ends-next-requires
     enum-told
     enum-told-2

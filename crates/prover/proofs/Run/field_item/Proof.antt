@@ -1,117 +1,17 @@
-use borrow.Author.Tests.{ltb-true}
+use mathlib.Core.Path.{ap, _∙_}
 use denote.Ref.{now}
-use mathlib.Core.Bool.{not}
-use Rattle.refusal.specs.Number as number
-use Rattle.refusal.specs.Outcome.{refused, refusedAt}
-use Rattle.prover.specs.Take.{nextIndex}
-use Rattle.prover.proofs.Facts.{formed, holds}
-use mathlib.Core.Path.{_≡_, sym, ap, _∙_}
-use native.Mathlib.Omega.{arith}
-use mir.Syntax.{w16}
-use mir.Val.{toZ, ofZ}
-use Rattle.vector.specs.Item.{partsOf, numberParts}
-use Rattle.prover.specs.Records.{passed}
-use Rattle.prover.specs.Calls.{fieldItemCall}
-use Rattle.prover.proofs.Outcomes.{item-shut, item-beyond, item-other, item-bad, item-short, item-taken}
+use Rattle.item.specs.declared.Given.the-variants.{Numbers}
+use Rattle.prover.specs.Records.{leaves}
+use Rattle.prover.specs.Calls.{giveCall}
 use borrow.Author.Needs.{needs}
 use Rattle.prover.proofs.Run.field_item.Statement.{statement}
 use Rattle.prover.proofs.Run.field_item.Tie as tie
 
-pass-open-requires : tie.Need-pass-open-requires
-pass-open-requires c κs = search needs
+modulus-of-requires : tie.Need-modulus-of-requires
+modulus-of-requires c κs = search needs
 
-enum-told : tie.Need-enum-told
-enum-told c = search needs
-
-enum-told-2 : tie.Need-enum-told-2
-enum-told-2 c = search needs
-
-refuse-requires : tie.Need-refuse-requires
-refuse-requires c κs = search needs
-
-returns : tie.Need-returns
-unfolding fieldItemCall
-returns c =
-    let s = c .before .before .before .before .before .before .args in
-    rw (c .refuse .ensures) (sym (item-shut 2147483647 (s .self) (s .pass) (not (s .self .plain)) (numberParts 2147483647 (s .a) (s .b)) (refused number.vector) (now (s .f)) (now (s .g)) (sym (c .before .before .before .pass-open .ensures) ∙ ap passed (c .before .enum-told2 .given .1))))
-
-item-wanted-requires : tie.Need-item-wanted-requires
-item-wanted-requires c κs = search needs
-
-enum-told-3 : tie.Need-enum-told-3
-enum-told-3 c = search needs
-
-enum-told-4 : tie.Need-enum-told-4
-enum-told-4 c = search needs
-
-refuse-requires-2 : tie.Need-refuse-requires-2
-refuse-requires-2 c κs = search needs
-
-returns-2 : tie.Need-returns-2
-unfolding fieldItemCall
-returns-2 c =
-    let s = c .before .before .before .before .before .before .before .before .before .args in
-    rw (c .refuse2 .ensures) (sym (item-beyond 2147483647 (s .self) (s .pass) (not (s .self .plain)) (numberParts 2147483647 (s .a) (s .b)) (refused number.vector) (now (s .f)) (now (s .g)) (sym (c .before .before .before .before .before .before .pass-open .ensures) ∙ ap passed (c .before .before .before .before .enum-told .given .1)) (sym (c .before .before .before .item-wanted .ensures) ∙ ap passed (c .before .enum-told4 .given .1))))
-
-is-twisted-requires : tie.Need-is-twisted-requires
-is-twisted-requires c κs = search needs
-
-enum-told-5 : tie.Need-enum-told-5
-enum-told-5 c = search needs
-
-enum-told-6 : tie.Need-enum-told-6
-enum-told-6 c = search needs
-
-refuse-requires-3 : tie.Need-refuse-requires-3
-refuse-requires-3 c κs = search needs
-
-returns-3 : tie.Need-returns-3
-unfolding fieldItemCall
-returns-3 c =
-    let s = c .before .before .before .before .before .before .before .before .before .before .before .before .args in
-    rw (c .refuse3 .ensures) (sym (item-other 2147483647 (s .self) (s .pass) (not (s .self .plain)) (numberParts 2147483647 (s .a) (s .b)) (refused number.vector) (now (s .f)) (now (s .g)) (sym (c .before .before .before .before .before .before .before .before .before .pass-open .ensures) ∙ ap passed (c .before .before .before .before .before .before .before .enum-told .given .1)) (sym (c .before .before .before .before .before .before .item-wanted .ensures) ∙ ap passed (c .before .before .before .before .enum-told3 .given .1)) (sym (c .before .before .before .is-twisted .ensures) ∙ ap passed (c .before .enum-told6 .given .1))))
-
-numbers-requires : tie.Need-numbers-requires
-numbers-requires c κs = search needs
-
-enum-known-x : tie.Need-enum-known-x
-enum-known-x c = search needs
-
-enum-told-7 : tie.Need-enum-told-7
-enum-told-7 c = search needs
-
-refuse-requires-4 : tie.Need-refuse-requires-4
-refuse-requires-4 c κs = search needs
-
-returns-4 : tie.Need-returns-4
-unfolding fieldItemCall
-returns-4 c =
-    let s = c .before .before .before .before .before .before .before .before .before .before .before .before .before .before .before .args in
-    rw (c .refuse4 .ensures) (sym (item-bad 2147483647 (s .self) (s .pass) (not (s .self .plain)) (numberParts 2147483647 (s .a) (s .b)) (refused number.vector) (now (s .f)) (now (s .g)) (sym (c .before .before .before .before .before .before .before .before .before .before .before .before .pass-open .ensures) ∙ ap passed (c .before .before .before .before .before .before .before .before .before .before .enum-told .given .1)) (sym (c .before .before .before .before .before .before .before .before .before .item-wanted .ensures) ∙ ap passed (c .before .before .before .before .before .before .before .enum-told3 .given .1)) (sym (c .before .before .before .before .before .before .is-twisted .ensures) ∙ ap passed (c .before .before .before .before .enum-told5 .given .1)) (sym (c .before .before .before .numbers .ensures) ∙ ap partsOf (c .before .enum-told7 .given .1))))
-
-places-there-requires : tie.Need-places-there-requires
-places-there-requires c κs = search needs
-
-enum-told-8 : tie.Need-enum-told-8
-enum-told-8 c = search needs
-
-enum-told-9 : tie.Need-enum-told-9
-enum-told-9 c = search needs
-
-refuse-requires-5 : tie.Need-refuse-requires-5
-refuse-requires-5 c κs = search needs
-
-returns-5 : tie.Need-returns-5
-unfolding fieldItemCall
-returns-5 c =
-    let s = c .before .before .before .before .before .before .before .before .before .before .before .before .before .before .before .before .before .before .before .args in
-    rw (c .refuse5 .ensures) (sym (item-short 2147483647 (s .self) (s .pass) (not (s .self .plain)) (numberParts 2147483647 (s .a) (s .b)) (refused number.vector) (now (s .f)) (now (s .g)) (sym (c .before .before .before .before .before .before .before .before .before .before .before .before .before .before .before .before .pass-open .ensures) ∙ ap passed (c .before .before .before .before .before .before .before .before .before .before .before .before .before .before .enum-told .given .1)) (sym (c .before .before .before .before .before .before .before .before .before .before .before .before .before .item-wanted .ensures) ∙ ap passed (c .before .before .before .before .before .before .before .before .before .before .before .enum-told3 .given .1)) (sym (c .before .before .before .before .before .before .before .before .before .before .is-twisted .ensures) ∙ ap passed (c .before .before .before .before .before .before .before .before .enum-told5 .given .1)) _ (sym (c .before .before .before .before .before .before .before .numbers .ensures) ∙ ap partsOf (c .before .before .before .before .before .x .given .1)) (sym (c .before .before .before .places-there .ensures) ∙ ap passed (c .before .enum-told9 .given .1))))
-
-take-requires : tie.Need-take-requires
-take-requires c κs =
-    let s = c .before .before .before .before .before .before .before .before .before .before .before .before .before .before .before .before .before .before .before .before .args in
-    let h = formed 2147483647 (s .self) (s .pass) (holds _ _ (sym (c .before .before .before .before .before .before .before .before .before .before .before .before .before .before .before .before .before .pass-open .ensures) ∙ ap passed (c .before .before .before .before .before .before .before .before .before .before .before .before .before .before .before .enum-told .given .1)) .0) in
-    (h .few, h .round, h .most, ltb-true _ _ (sym (c .before .before .before .before .before .before .before .before .before .before .before .before .before .before .item-wanted .ensures) ∙ ap passed (c .before .before .before .before .before .before .before .before .before .before .before .before .enum-told3 .given .1)))
+give-requires : tie.Need-give-requires
+give-requires c κs = search needs
 
 same-length : tie.Need-same-length
 same-length c = search needs
@@ -119,42 +19,17 @@ same-length c = search needs
 same-length-2 : tie.Need-same-length-2
 same-length-2 c = search needs
 
-returns-6 : tie.Need-returns-6
-unfolding fieldItemCall
-returns-6 c =
-    let s = c .before .before .before .before .before .before .before .before .before .before .before .before .before .before .before .before .before .before .before .before .before .before .before .before .before .args in
-    c .before .before .before .before .take .ensures ∙ sym (item-taken 2147483647 (s .self) (s .pass) (not (s .self .plain)) (numberParts 2147483647 (s .a) (s .b)) (refused number.vector) (now (s .f)) (now (s .g)) (sym (c .before .before .before .before .before .before .before .before .before .before .before .before .before .before .before .before .before .before .before .before .before .before .pass-open .ensures) ∙ ap passed (c .before .before .before .before .before .before .before .before .before .before .before .before .before .before .before .before .before .before .before .before .enum-told .given .1)) (sym (c .before .before .before .before .before .before .before .before .before .before .before .before .before .before .before .before .before .before .before .item-wanted .ensures) ∙ ap passed (c .before .before .before .before .before .before .before .before .before .before .before .before .before .before .before .before .before .enum-told3 .given .1)) (sym (c .before .before .before .before .before .before .before .before .before .before .before .before .before .before .before .before .is-twisted .ensures) ∙ ap passed (c .before .before .before .before .before .before .before .before .before .before .before .before .before .before .enum-told5 .given .1)) _ (sym (c .before .before .before .before .before .before .before .before .before .before .before .before .before .numbers .ensures) ∙ ap partsOf (c .before .before .before .before .before .before .before .before .before .before .before .x .given .1)) (sym (c .before .before .before .before .before .before .before .before .before .places-there .ensures) ∙ ap passed (c .before .before .before .before .before .before .before .enum-told8 .given .1)))
+returns : tie.Need-returns
+returns c =
+    let s = c .before .before .before .before .before .before .before .before .before .before .args in
+    c .before .before .before .before .give .ensures ∙ ap (λ p. leaves (s .self) (s .pass) (now (s .f)) (now (s .g)) (giveCall p (s .self) (s .pass) (Numbers (s .a) (s .b)) (now (s .f)) (now (s .g)))) (c .before .before .before .before .before .before .before .modulus-of .ensures)
 
 pub field-item-spec : {M : Type 1} → statement M
 field-item-spec =
     tie.close
     (tie.spec
-    pass-open-requires
-    enum-told
-    enum-told-2
-    refuse-requires
-    returns
-    item-wanted-requires
-    enum-told-3
-    enum-told-4
-    refuse-requires-2
-    returns-2
-    is-twisted-requires
-    enum-told-5
-    enum-told-6
-    refuse-requires-3
-    returns-3
-    numbers-requires
-    enum-known-x
-    enum-told-7
-    refuse-requires-4
-    returns-4
-    places-there-requires
-    enum-told-8
-    enum-told-9
-    refuse-requires-5
-    returns-5
-    take-requires
+    modulus-of-requires
+    give-requires
     same-length
     same-length-2
-    returns-6)
+    returns)

@@ -1,10 +1,15 @@
 use mathlib.Core.Path.{sym, ap, _∙_}
 use mathlib.Core.List.{[]}
-use Rattle.prover.specs.Records.{leaves, passed}
+use Rattle.refusal.specs.Check.{passed}
+use Rattle.prover.specs.Records.{leaves}
 use Rattle.prover.proofs.OpenFacts.{open-order, open-answered}
+use Rattle.prover.specs.Open.{openCall}
 use borrow.Author.Needs.{needs}
 use Rattle.prover.proofs.Run.open_pass.Statement.{statement}
 use Rattle.prover.proofs.Run.open_pass.Tie as tie
+
+modulus-of-requires : tie.Need-modulus-of-requires
+modulus-of-requires c κs = search needs
 
 may-open-requires : tie.Need-may-open-requires
 may-open-requires c κs = search needs
@@ -19,7 +24,7 @@ refuse-requires : tie.Need-refuse-requires
 refuse-requires c κs = search needs
 
 returns : tie.Need-returns
-returns c = rw (c .refuse .ensures) (ap (leaves (c .before .before .before .before .args .self) (c .before .before .before .before .args .pass) [] []) (sym (open-order 2147483647 (c .before .before .before .before .args .self) (c .before .before .before .before .args .pass) (sym (c .before .before .before .may-open .ensures) ∙ ap passed (c .before .enum-told2 .given .1)))))
+returns c = rw (c .refuse .ensures) (ap (leaves (c .before .before .before .before .before .args .self) (c .before .before .before .before .before .args .pass) [] []) (sym (open-order (c .before .before .before .before .modulus-of .result) (c .before .before .before .before .before .args .self) (c .before .before .before .before .before .args .pass) (sym (c .before .before .before .may-open .ensures) ∙ ap passed (c .before .enum-told2 .given .1)))) ∙ ap (λ p. leaves (c .before .before .before .before .before .args .self) (c .before .before .before .before .before .args .pass) [] [] (openCall p (c .before .before .before .before .before .args .self) (c .before .before .before .before .before .args .pass))) (c .before .before .before .before .modulus-of .ensures))
 
 no-points-requires : tie.Need-no-points-requires
 no-points-requires c κs = search needs
@@ -34,12 +39,13 @@ answered-requires : tie.Need-answered-requires
 answered-requires c κs = search needs
 
 returns-2 : tie.Need-returns-2
-returns-2 c = rw (c .answered .ensures, c .before .new-pass .ensures, c .before .before .open-kernel .ensures, c .before .before .before .no-points .ensures) (ap (leaves (c .before .before .before .before .before .before .before .args .self) (c .before .before .before .before .before .before .before .args .pass) [] []) (sym (open-answered 2147483647 (c .before .before .before .before .before .before .before .args .self) (c .before .before .before .before .before .before .before .args .pass) (sym (c .before .before .before .before .before .before .may-open .ensures) ∙ ap passed (c .before .before .before .before .enum-told .given .1)))))
+returns-2 c = rw (c .answered .ensures, c .before .new-pass .ensures, c .before .before .open-kernel .ensures, c .before .before .before .no-points .ensures) (ap (leaves (c .before .before .before .before .before .before .before .before .args .self) (c .before .before .before .before .before .before .before .before .args .pass) [] []) (sym (open-answered (c .before .before .before .before .before .before .before .modulus-of .result) (c .before .before .before .before .before .before .before .before .args .self) (c .before .before .before .before .before .before .before .before .args .pass) (sym (c .before .before .before .before .before .before .may-open .ensures) ∙ ap passed (c .before .before .before .before .enum-told .given .1)))) ∙ ap (λ p. leaves (c .before .before .before .before .before .before .before .before .args .self) (c .before .before .before .before .before .before .before .before .args .pass) [] [] (openCall p (c .before .before .before .before .before .before .before .before .args .self) (c .before .before .before .before .before .before .before .before .args .pass))) (c .before .before .before .before .before .before .before .modulus-of .ensures))
 
 pub open-pass-spec : {M : Type 1} → statement M
 open-pass-spec =
     tie.close
     (tie.spec
+    modulus-of-requires
     may-open-requires
     enum-told
     enum-told-2

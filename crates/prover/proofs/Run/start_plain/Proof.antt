@@ -1,5 +1,5 @@
 use mathlib.Core.Path.{sym, ap, _∙_}
-use Rattle.prover.specs.Records.{passed}
+use Rattle.refusal.specs.Check.{passed}
 use Rattle.prover.specs.Start.{startLeaves}
 use Rattle.prover.proofs.StartFacts.{plain-count, plain-answered}
 use borrow.Author.Needs.{needs}
@@ -21,17 +21,14 @@ no-run-requires c κs = search needs
 returns : tie.Need-returns
 returns c = rw (c .no-run .ensures) (ap startLeaves (sym (plain-count (c .before .before .before .before .args .items) (sym (c .before .before .before .count-fits .ensures) ∙ ap passed (c .before .enum-told2 .given .1)))))
 
-rounds-of-requires : tie.Need-rounds-of-requires
-rounds-of-requires c κs = search needs
-
-fresh-requires : tie.Need-fresh-requires
-fresh-requires c κs = search needs
+plain-requires : tie.Need-plain-requires
+plain-requires c κs = search needs
 
 answer-requires : tie.Need-answer-requires
 answer-requires c κs = search needs
 
 returns-2 : tie.Need-returns-2
-returns-2 c = rw (c .answer .ensures, c .before .fresh .ensures, c .before .before .rounds-of .ensures) (ap startLeaves (sym (plain-answered (c .before .before .before .before .before .before .args .items) (sym (c .before .before .before .before .before .count-fits .ensures) ∙ ap passed (c .before .before .before .enum-told .given .1)))))
+returns-2 c = rw (c .answer .ensures, c .before .plain .ensures) (ap startLeaves (sym (plain-answered (c .before .before .before .before .before .args .items) (sym (c .before .before .before .before .count-fits .ensures) ∙ ap passed (c .before .before .enum-told .given .1)))))
 
 pub start-plain-spec : {M : Type 1} → statement M
 start-plain-spec =
@@ -42,7 +39,6 @@ start-plain-spec =
     enum-told-2
     no-run-requires
     returns
-    rounds-of-requires
-    fresh-requires
+    plain-requires
     answer-requires
     returns-2)

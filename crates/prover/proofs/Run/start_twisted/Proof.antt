@@ -1,8 +1,9 @@
 use mathlib.Core.Path.{sym, ap, _∙_}
-use Rattle.prover.specs.Records.{passed}
+use Rattle.refusal.specs.Check.{passed}
 use denote.Ref.{now}
 use Rattle.prover.specs.Start.{startLeaves}
 use Rattle.prover.proofs.StartFacts.{twisted-count, twisted-argument, twisted-answered}
+use Rattle.field.specs.Modulus.{modulus}
 use borrow.Author.Needs.{needs}
 use Rattle.prover.proofs.Run.start_twisted.Statement.{statement}
 use Rattle.prover.proofs.Run.start_twisted.Tie as tie
@@ -20,13 +21,16 @@ no-run-requires : tie.Need-no-run-requires
 no-run-requires c κs = search needs
 
 returns : tie.Need-returns
-returns c = rw (c .no-run .ensures) (ap startLeaves (sym (twisted-count 2147483647 (c .before .before .before .before .before .args .items) (now (c .before .before .before .before .before .args .twists)) (sym (c .before .before .before .count-fits .ensures) ∙ ap passed (c .before .enum-told2 .given .1)))))
+returns c = rw (c .no-run .ensures) (ap startLeaves (sym (twisted-count modulus (c .before .before .before .before .before .args .items) (now (c .before .before .before .before .before .args .twists)) (sym (c .before .before .before .count-fits .ensures) ∙ ap passed (c .before .enum-told2 .given .1)))))
 
 rounds-of-requires : tie.Need-rounds-of-requires
 rounds-of-requires c κs = search needs
 
-twists-fit-requires : tie.Need-twists-fit-requires
-twists-fit-requires c κs = search needs
+modulus-requires : tie.Need-modulus-requires
+modulus-requires c κs = search needs
+
+list-fits-requires : tie.Need-list-fits-requires
+list-fits-requires c κs = search needs
 
 enum-told-3 : tie.Need-enum-told-3
 enum-told-3 c = search needs
@@ -38,22 +42,16 @@ no-run-requires-2 : tie.Need-no-run-requires-2
 no-run-requires-2 c κs = search needs
 
 returns-2 : tie.Need-returns-2
-returns-2 c = rw (c .no-run2 .ensures) (ap startLeaves (sym (twisted-argument 2147483647 (c .before .before .before .before .before .before .before .before .before .args .items) (now (c .before .before .before .before .before .before .before .before .before .args .twists)) (sym (c .before .before .before .before .before .before .before .count-fits .ensures) ∙ ap passed (c .before .before .before .before .before .enum-told .given .1)) (rw (c .before .before .before .before .rounds-of .ensures) at (sym (c .before .before .before .twists-fit .ensures) ∙ ap passed (c .before .enum-told4 .given .1))))))
+returns-2 c = rw (c .no-run2 .ensures) (ap startLeaves (sym (twisted-argument modulus (c .before .before .before .before .before .before .before .before .before .before .args .items) (now (c .before .before .before .before .before .before .before .before .before .before .args .twists)) (sym (c .before .before .before .before .before .before .before .before .count-fits .ensures) ∙ ap passed (c .before .before .before .before .before .before .enum-told .given .1)) (rw (c .before .before .before .before .modulus .ensures, c .before .before .before .before .before .rounds-of .ensures) at (sym (c .before .before .before .list-fits .ensures) ∙ ap passed (c .before .enum-told4 .given .1))))))
 
-cast-take15 : tie.Need-cast-take15
-cast-take15 c = search needs
-
-take15-requires : tie.Need-take15-requires
-take15-requires c κs = search needs
-
-fresh-requires : tie.Need-fresh-requires
-fresh-requires c κs = search needs
+twisted-requires : tie.Need-twisted-requires
+twisted-requires c κs = search needs
 
 answer-requires : tie.Need-answer-requires
 answer-requires c κs = search needs
 
 returns-3 : tie.Need-returns-3
-returns-3 c = rw (c .answer .ensures, c .before .fresh .ensures, c .before .before .take15 .ensures, c .before .before .before .before .before .before .rounds-of .ensures) (ap startLeaves (sym (twisted-answered 2147483647 (c .before .before .before .before .before .before .before .before .before .before .before .args .items) (now (c .before .before .before .before .before .before .before .before .before .before .before .args .twists)) (sym (c .before .before .before .before .before .before .before .before .before .count-fits .ensures) ∙ ap passed (c .before .before .before .before .before .before .before .enum-told .given .1)) (rw (c .before .before .before .before .before .before .rounds-of .ensures) at (sym (c .before .before .before .before .before .twists-fit .ensures) ∙ ap passed (c .before .before .before .enum-told3 .given .1))))))
+returns-3 c = rw (c .answer .ensures, c .before .twisted .ensures) (ap startLeaves (sym (twisted-answered modulus (c .before .before .before .before .before .before .before .before .before .before .before .args .items) (now (c .before .before .before .before .before .before .before .before .before .before .before .args .twists)) (sym (c .before .before .before .before .before .before .before .before .before .count-fits .ensures) ∙ ap passed (c .before .before .before .before .before .before .before .enum-told .given .1)) (rw (c .before .before .before .before .before .modulus .ensures, c .before .before .before .before .before .before .rounds-of .ensures) at (sym (c .before .before .before .before .list-fits .ensures) ∙ ap passed (c .before .before .enum-told3 .given .1))))))
 
 pub start-twisted-spec : {M : Type 1} → statement M
 start-twisted-spec =
@@ -65,13 +63,12 @@ start-twisted-spec =
     no-run-requires
     returns
     rounds-of-requires
-    twists-fit-requires
+    modulus-requires
+    list-fits-requires
     enum-told-3
     enum-told-4
     no-run-requires-2
     returns-2
-    cast-take15
-    take15-requires
-    fresh-requires
+    twisted-requires
     answer-requires
     returns-3)

@@ -1,11 +1,16 @@
 use mathlib.Core.Path.{_≡_, sym, ap, _∙_}
 use denote.Ref.{now}
-use Rattle.prover.specs.Records.{passed}
+use Rattle.refusal.specs.Check.{passed}
 use Rattle.prover.proofs.Facts.{formed, holds}
 use Rattle.prover.proofs.Outcomes.{change-never, change-short, change-opened}
+use Rattle.prover.specs.Records.{leaves}
+use Rattle.prover.specs.Change.{toFullCall}
 use borrow.Author.Needs.{needs}
 use Rattle.prover.proofs.Run.to_full.Statement.{statement}
 use Rattle.prover.proofs.Run.to_full.Tie as tie
+
+modulus-of-requires : tie.Need-modulus-of-requires
+modulus-of-requires c κs = search needs
 
 may-change-requires : tie.Need-may-change-requires
 may-change-requires c κs = search needs
@@ -21,8 +26,8 @@ refuse-requires c κs = search needs
 
 returns : tie.Need-returns
 returns c =
-    let s = c .before .before .before .before .before .before .args in
-    rw (c .refuse .ensures) (sym (change-never 2147483647 (s .self) (s .pass) (now (s .f)) (now (s .g)) (sym (c .before .before .before .may-change .ensures) ∙ ap passed (c .before .enum-told2 .given .1))))
+    let s = c .before .before .before .before .before .before .before .args in
+    rw (c .refuse .ensures) (sym (change-never (c .before .before .before .before .modulus-of .result) (s .self) (s .pass) (now (s .f)) (now (s .g)) (sym (c .before .before .before .may-change .ensures) ∙ ap passed (c .before .enum-told2 .given .1))) ∙ ap (λ p. leaves (s .self) (s .pass) (now (s .f)) (now (s .g)) (toFullCall p (s .self) (s .pass) (now (s .f)) (now (s .g)))) (c .before .before .before .before .modulus-of .ensures))
 
 both-long-requires : tie.Need-both-long-requires
 both-long-requires c κs = search needs
@@ -38,19 +43,19 @@ refuse-requires-2 c κs = search needs
 
 returns-2 : tie.Need-returns-2
 returns-2 c =
-    let s = c .before .before .before .before .before .before .before .before .before .args in
-    rw (c .refuse2 .ensures) (sym (change-short 2147483647 (s .self) (s .pass) (now (s .f)) (now (s .g)) (sym (c .before .before .before .before .before .before .may-change .ensures) ∙ ap passed (c .before .before .before .before .enum-told .given .1)) (sym (c .before .before .before .both-long .ensures) ∙ ap passed (c .before .enum-told4 .given .1))))
+    let s = c .before .before .before .before .before .before .before .before .before .before .args in
+    rw (c .refuse2 .ensures) (sym (change-short (c .before .before .before .before .before .before .before .modulus-of .result) (s .self) (s .pass) (now (s .f)) (now (s .g)) (sym (c .before .before .before .before .before .before .may-change .ensures) ∙ ap passed (c .before .before .before .before .enum-told .given .1)) (sym (c .before .before .before .both-long .ensures) ∙ ap passed (c .before .enum-told4 .given .1))) ∙ ap (λ p. leaves (s .self) (s .pass) (now (s .f)) (now (s .g)) (toFullCall p (s .self) (s .pass) (now (s .f)) (now (s .g)))) (c .before .before .before .before .before .before .before .modulus-of .ensures))
 
 pad-buffer-requires : tie.Need-pad-buffer-requires
 pad-buffer-requires c κs =
-    let s = c .before .before .before .before .before .before .before .before .before .args in
-    let h = formed 2147483647 (s .self) (s .pass) (holds _ _ (sym (c .before .before .before .before .before .before .may-change .ensures) ∙ ap passed (c .before .before .before .before .enum-told .given .1)) .0) in
+    let s = c .before .before .before .before .before .before .before .before .before .before .args in
+    let h = formed (c .before .before .before .before .before .before .before .modulus-of .result) (s .self) (s .pass) (holds _ _ (sym (c .before .before .before .before .before .before .may-change .ensures) ∙ ap passed (c .before .before .before .before .enum-told .given .1)) .0) in
     (h .few, h .round)
 
 pad-buffer-requires-2 : tie.Need-pad-buffer-requires-2
 pad-buffer-requires-2 c κs =
-    let s = c .before .before .before .before .before .before .before .before .before .before .before .before .before .args in
-    let h = formed 2147483647 (s .self) (s .pass) (holds _ _ (sym (c .before .before .before .before .before .before .before .before .before .before .may-change .ensures) ∙ ap passed (c .before .before .before .before .before .before .before .before .enum-told .given .1)) .0) in
+    let s = c .before .before .before .before .before .before .before .before .before .before .before .before .before .before .args in
+    let h = formed (c .before .before .before .before .before .before .before .before .before .before .before .modulus-of .result) (s .self) (s .pass) (holds _ _ (sym (c .before .before .before .before .before .before .before .before .before .before .may-change .ensures) ∙ ap passed (c .before .before .before .before .before .before .before .before .enum-told .given .1)) .0) in
     (h .few, h .round)
 
 change-pass-requires : tie.Need-change-pass-requires
@@ -67,13 +72,14 @@ same-length-2 c = search needs
 
 returns-3 : tie.Need-returns-3
 returns-3 c =
-    let s = c .before .before .before .before .before .before .before .before .before .before .before .before .before .before .before .before .before .before .args in
-    rw (c .before .before .before .before .before .before .before .before .pad-buffer .ensures, c .before .before .before .before .pad-buffer2 .ensures, c .answered .ensures, c .before .change-pass .ensures) (sym (change-opened 2147483647 (s .self) (s .pass) (now (s .f)) (now (s .g)) (sym (c .before .before .before .before .before .before .before .before .before .before .before .before .before .before .before .may-change .ensures) ∙ ap passed (c .before .before .before .before .before .before .before .before .before .before .before .before .before .enum-told .given .1)) (sym (c .before .before .before .before .before .before .before .before .before .before .before .before .both-long .ensures) ∙ ap passed (c .before .before .before .before .before .before .before .before .before .before .enum-told3 .given .1))))
+    let s = c .before .before .before .before .before .before .before .before .before .before .before .before .before .before .before .before .before .before .before .args in
+    rw (c .before .before .before .before .before .before .before .before .pad-buffer .ensures, c .before .before .before .before .pad-buffer2 .ensures, c .answered .ensures, c .before .change-pass .ensures) (sym (change-opened (c .before .before .before .before .before .before .before .before .before .before .before .before .before .before .before .before .modulus-of .result) (s .self) (s .pass) (now (s .f)) (now (s .g)) (sym (c .before .before .before .before .before .before .before .before .before .before .before .before .before .before .before .may-change .ensures) ∙ ap passed (c .before .before .before .before .before .before .before .before .before .before .before .before .before .enum-told .given .1)) (sym (c .before .before .before .before .before .before .before .before .before .before .before .before .both-long .ensures) ∙ ap passed (c .before .before .before .before .before .before .before .before .before .before .enum-told3 .given .1))) ∙ ap (λ p. leaves (s .self) (s .pass) (now (s .f)) (now (s .g)) (toFullCall p (s .self) (s .pass) (now (s .f)) (now (s .g)))) (c .before .before .before .before .before .before .before .before .before .before .before .before .before .before .before .before .modulus-of .ensures))
 
 pub to-full-spec : {M : Type 1} → statement M
 to-full-spec =
     tie.close
     (tie.spec
+    modulus-of-requires
     may-change-requires
     enum-told
     enum-told-2

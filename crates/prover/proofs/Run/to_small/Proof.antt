@@ -11,4 +11,8 @@ unfolding toSmallCall
 returns c = rw (c .refuse .ensures)
 
 pub to-small-spec : {M : Type 1} → statement M
-to-small-spec = tie.close (tie.spec refuse-requires returns)
+to-small-spec =
+    tie.close
+    (tie.spec
+    refuse-requires
+    returns)

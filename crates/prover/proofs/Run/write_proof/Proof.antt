@@ -2,13 +2,21 @@ use mathlib.Core.Path.{_≡_, refl, sym, ap, _∙_}
 use denote.Ref.{now}
 use mir.Syntax.{w64}
 use mir.Val.{toZ, ofZ}
-use Rattle.wire.specs.Proof.{writtenOf, writtenIn}
-use Rattle.prover.specs.Records.{passed}
+use Rattle.wire.specs.Proof.{writtenIn}
+use Rattle.refusal.specs.Check.{passed}
 use Rattle.prover.specs.Written.{writtenStep, writeCall, proofOf}
 use Rattle.prover.proofs.Outcomes.{write-never, write-then}
+use mathlib.Core.List.{[]}
+use Rattle.field.specs.Modulus.{modulus}
+use Rattle.item.specs.Start.{modulusOf}
+use Rattle.wire.specs.Proof.{writeProof}
+use Rattle.prover.specs.Records.{out}
 use borrow.Author.Needs.{needs}
 use Rattle.prover.proofs.Run.write_proof.Statement.{statement}
 use Rattle.prover.proofs.Run.write_proof.Tie as tie
+
+modulus-of-requires : tie.Need-modulus-of-requires
+modulus-of-requires c κs = search needs
 
 may-write-requires : tie.Need-may-write-requires
 may-write-requires c κs = search needs
@@ -25,9 +33,9 @@ refuse-requires c κs = search needs
 returns : tie.Need-returns
 unfolding writtenIn
 returns c =
-    let s = c .before .before .before .before .before .args in
-    let e = write-never 2147483647 (s .self) (s .pass) (now (s .file)) (sym (c .before .before .before .may-write .ensures) ∙ ap passed (c .before .enum-told2 .given .1)) in
-    (c .refuse .ensures ∙ ap (writtenStep (s .self) (s .pass)) (sym e), ap (λ o. writtenIn o (proofOf (s .self)) (now (s .file))) (sym e))
+    let s = c .before .before .before .before .before .before .before .args in
+    let e = ap (λ p. writeCall p (s .self) (s .pass) (now (s .file))) (sym (c .before .before .before .before .modulus-of .ensures)) ∙ write-never (c .before .before .before .before .modulus-of .result) (s .self) (s .pass) (now (s .file)) (sym (c .before .before .before .may-write .ensures) ∙ ap passed (c .before .enum-told2 .given .1)) in
+    (ap (λ o. out o [] []) (c .refuse .ensures ∙ ap (writtenStep (s .self) (s .pass)) (sym e)), ap (λ o. writtenIn o (proofOf (s .self)) (now (s .file))) (sym e))
 
 write-proof-requires : tie.Need-write-proof-requires
 write-proof-requires c κs = search needs
@@ -39,24 +47,29 @@ same-length : tie.Need-same-length
 same-length c = search needs
 
 -- the total, as the code passes it on
+
 kept : (c : tie.After-struct-told)
-    → toZ w64 (ofZ w64 (c .before .before .before .before .before .before .before .args .self .total))
-    ≡ c .before .before .before .before .before .before .before .args .self .total
+    → toZ w64 (ofZ w64 (c .before .before .before .before .before .before .before .before .before .args .self .total))
+    ≡ c .before .before .before .before .before .before .before .before .before .args .self .total
 kept c = search needs
 
 returns-2 : tie.Need-returns-2
+unfolding modulusOf modulus
 returns-2 c =
-    let s = c .before .before .before .before .before .before .before .before .before .before .before .args in
-    let e = write-then 2147483647 (s .self) (s .pass) (now (s .file)) (sym (c .before .before .before .before .before .before .before .before .before .may-write .ensures) ∙ ap passed (c .before .before .before .before .before .before .before .enum-told .given .1)) in
+    let s = c .before .before .before .before .before .before .before .before .before .before .before .before .before .args in
+    let e =
+    ap (λ p. writeCall p (s .self) (s .pass) (now (s .file))) (sym (c .before .before .before .before .before .before .before .before .before .before .modulus-of .ensures)) ∙ write-then (c .before .before .before .before .before .before .before .before .before .before .modulus-of .result) (s .self) (s .pass) (now (s .file)) (sym (c .before .before .before .before .before .before .before .before .before .may-write .ensures) ∙ ap passed (c .before .before .before .before .before .before .before .enum-told .given .1))
+    ∙ ap (λ p. writeProof p (s .self .start .rounds) (s .self .total) (s .self .messages) (s .self .fend) (s .self .gend) (now (s .file))) (c .before .before .before .before .before .before .before .before .before .before .modulus-of .ensures) in
     let z = s .self .total in
     let t : toZ w64 (ofZ w64 z) ≡ z = kept (c .before .before .before .before) in
     let w = simp t at (c .before .before .before .write-proof .ensures) in
-    (c .written-step .ensures ∙ ap (writtenStep (s .self) (s .pass)) (w .0 ∙ sym e), w .1 ∙ ap (λ o. writtenIn o (proofOf (s .self)) (now (s .file))) (sym e))
+    (ap (λ o. out o [] []) (c .written-step .ensures ∙ ap (writtenStep (s .self) (s .pass)) (w .0 ∙ sym e)), w .1 ∙ ap (λ o. writtenIn o (proofOf (s .self)) (now (s .file))) (sym e))
 
 pub write-proof-spec : {M : Type 1} → statement M
 write-proof-spec =
     tie.close
     (tie.spec
+    modulus-of-requires
     may-write-requires
     enum-told
     enum-told-2

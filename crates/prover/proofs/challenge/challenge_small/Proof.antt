@@ -12,4 +12,9 @@ returns : tie.Need-returns
 returns c = rw (c .answered .ensures, c .before .keep-challenge .ensures)
 
 pub challenge-small-spec : {M : Type 1} → statement M
-challenge-small-spec = tie.close (tie.spec keep-challenge-requires answered-requires returns)
+challenge-small-spec =
+    tie.close
+    (tie.spec
+    keep-challenge-requires
+    answered-requires
+    returns)

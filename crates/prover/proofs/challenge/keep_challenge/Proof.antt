@@ -22,7 +22,7 @@ round-or-ends-requires c κs = search needs
 
 returns : tie.Need-returns
 returns c =
-    let z = c .before .before .before .before .before .before .before .args .run .total in
+    let z = c .before .before .before .before .before .before .before .before .args .run .total in
     let t : toZ w64 (ofZ w64 z) ≡ z = search needs in
     rw (t, c .before .before .before .round-or-ends .ensures)
 

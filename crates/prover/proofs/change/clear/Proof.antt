@@ -2,9 +2,9 @@ use mathlib.Core.Path.{_≡_, refl, sym, ap, _∙_}
 use Prim.Native.Nat.{_+_, _-_, _≤_}
 use native.Mathlib.Numerals.{add-one}
 use native.Mathlib.Omega.{arith}
-use borrow.Author.Needs.{needs}
 use lib.ListN.{length, set, length-set}
 use Rattle.prover.specs.Change.{cleared}
+use borrow.Author.Needs.{needs}
 use Rattle.prover.proofs.change.clear.Statement.{statement}
 use Rattle.prover.proofs.change.clear.Tie as tie
 

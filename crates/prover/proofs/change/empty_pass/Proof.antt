@@ -15,4 +15,10 @@ returns : tie.Need-returns
 returns c = rw (c .new-pass .ensures, c .before .empty .ensures, c .before .before .no-points .ensures)
 
 pub empty-pass-spec : {M : Type 1} → statement M
-empty-pass-spec = tie.close (tie.spec no-points-requires empty-requires new-pass-requires returns)
+empty-pass-spec =
+    tie.close
+    (tie.spec
+    no-points-requires
+    empty-requires
+    new-pass-requires
+    returns)

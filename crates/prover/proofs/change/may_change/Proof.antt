@@ -17,11 +17,11 @@ returns-2 c = simp (c .if2 .left, ← c .before .is-small .ensures, c .before .b
 change-at-requires : tie.Need-change-at-requires
 change-at-requires c κs = search needs
 
-returns-3 : tie.Need-returns-3
-returns-3 c = simp (c .if3 .taken, ← c .before .change-at .ensures, c .before .before .if2 .taken, ← c .before .before .before .is-small .ensures, c .before .before .before .before .if1 .taken, ← c .before .before .before .before .before .well-formed .ensures)
+pass-if-requires : tie.Need-pass-if-requires
+pass-if-requires c κs = search needs
 
-returns-4 : tie.Need-returns-4
-returns-4 c = simp (c .if3 .left, ← c .before .change-at .ensures, c .before .before .if2 .taken, ← c .before .before .before .is-small .ensures, c .before .before .before .before .if1 .taken, ← c .before .before .before .before .before .well-formed .ensures)
+returns-3 : tie.Need-returns-3
+returns-3 c = simp (c .pass-if .ensures, c .before .change-at .ensures, c .before .before .before .if2 .taken, ← c .before .before .before .before .is-small .ensures, c .before .before .before .before .before .if1 .taken, ← c .before .before .before .before .before .before .well-formed .ensures)
 
 pub may-change-spec : {M : Type 1} → statement M
 may-change-spec =
@@ -32,5 +32,5 @@ may-change-spec =
     is-small-requires
     returns-2
     change-at-requires
-    returns-3
-    returns-4)
+    pass-if-requires
+    returns-3)

@@ -24,9 +24,9 @@ same-length c = search needs
 
 returns : tie.Need-returns
 returns c =
-    let r = c .before .before .before .before .before .before .before .before .args .run in
+    let r = c .before .before .before .before .before .before .before .before .before .args .run in
     let z : foldSize r - paddingPlaces r ≡ 0 = omega (arith, c .before .before .before .before .before .before .fold-size .ensures, c .before .before .before .before .before .padding-places .ensures) in
-    c .before .before .clear .ensures ∙ ap₂ (λ a b. cleared a b (c .before .before .before .before .before .before .before .before .args .v .now)) (sym z) (c .before .before .before .before .before .padding-places .ensures)
+    c .before .before .clear .ensures ∙ ap₂ (λ a b. cleared a b (c .before .before .before .before .before .before .before .before .before .args .v .now)) (sym z) (c .before .before .before .before .before .padding-places .ensures)
 
 cast-clear-2 : tie.Need-cast-clear-2
 cast-clear-2 c = search needs
@@ -42,7 +42,7 @@ same-length-2 c = search needs
 
 returns-2 : tie.Need-returns-2
 returns-2 c =
-    c .before .before .clear2 .ensures ∙ ap₂ (λ a b. cleared (a - b) b (c .before .before .before .before .before .before .before .before .args .v .now)) (c .before .before .before .before .before .before .fold-size .ensures) (c .before .before .before .before .before .padding-places .ensures)
+    c .before .before .clear2 .ensures ∙ ap₂ (λ a b. cleared (a - b) b (c .before .before .before .before .before .before .before .before .before .args .v .now)) (c .before .before .before .before .before .before .fold-size .ensures) (c .before .before .before .before .before .padding-places .ensures)
 
 pub pad-buffer-spec : {M : Type 1} → statement M
 pad-buffer-spec =

@@ -14,10 +14,16 @@ padding-of-requires : tie.Need-padding-of-requires
 padding-of-requires c κs = search needs
 
 shr-result : tie.Need-shr-result
-shr-result c = omega (arith, c .before .level-of .ensures, level-at-most (c .before .before .args .run .rounds) (c .before .before .args .run .round) (c .before .before .args .run .next) Change (c .before .before .pre .1))
+shr-result c = omega (arith, c .before .level-of .ensures, level-at-most (c .before .before .before .args .run .start .rounds) (c .before .before .before .args .run .round) (c .before .before .before .args .run .next) Change (c .before .before .before .pre .1))
 
 returns : tie.Need-returns
 returns c = ap₂ (λ a b. a / 2 ^ b) (c .padding-of .ensures) (c .before .level-of .ensures)
 
 pub padding-places-spec : {M : Type 1} → statement M
-padding-places-spec = tie.close (tie.spec level-of-requires padding-of-requires shr-result returns)
+padding-places-spec =
+    tie.close
+    (tie.spec
+    level-of-requires
+    padding-of-requires
+    shr-result
+    returns)

@@ -19,4 +19,11 @@ returns-3 : tie.Need-returns-3
 returns-3 c = simp (le-leb _ _ (c .if2 .left), le-leb _ _ (c .before .if1 .left), ← c .before .before .fold-size .ensures)
 
 pub both-long-spec : {M : Type 1} → statement M
-both-long-spec = tie.close (tie.spec fold-size-requires cast-size returns returns-2 returns-3)
+both-long-spec =
+    tie.close
+    (tie.spec
+    fold-size-requires
+    cast-size
+    returns
+    returns-2
+    returns-3)

@@ -1,12 +1,16 @@
-use borrow.Author.Tests.{le-ltb, lt-ltb}
+use borrow.Author.Needs.{needs}
 use Rattle.prover.proofs.checks.item_wanted.Statement.{statement}
 use Rattle.prover.proofs.checks.item_wanted.Tie as tie
 
-returns : tie.Need-returns
-returns c = simp (lt-ltb _ _ (c .if1 .taken))
+pass-if-requires : tie.Need-pass-if-requires
+pass-if-requires c κs = search needs
 
-returns-2 : tie.Need-returns-2
-returns-2 c = simp (le-ltb _ _ (c .if1 .left))
+returns : tie.Need-returns
+returns c = c .pass-if .ensures
 
 pub item-wanted-spec : {M : Type 1} → statement M
-item-wanted-spec = tie.close (tie.spec returns returns-2)
+item-wanted-spec =
+    tie.close
+    (tie.spec
+    pass-if-requires
+    returns)

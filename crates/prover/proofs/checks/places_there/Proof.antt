@@ -26,4 +26,11 @@ returns-3 c = simp (c .both-long .ensures, c .before .enum-told3 .given .1)
 pub places-there-spec : {M : Type 1} → statement M
 places-there-spec =
     tie.close
-    (tie.spec enum-told enum-told-2 enum-told-3 both-long-requires returns returns-2 returns-3)
+    (tie.spec
+    enum-told
+    enum-told-2
+    enum-told-3
+    both-long-requires
+    returns
+    returns-2
+    returns-3)

@@ -1,12 +1,16 @@
-use borrow.Author.Tests.{eq-eqb, ne-eqb}
+use borrow.Author.Needs.{needs}
 use Rattle.prover.proofs.close.all_taken.Statement.{statement}
 use Rattle.prover.proofs.close.all_taken.Tie as tie
 
-returns : tie.Need-returns
-returns c = simp (eq-eqb _ _ (c .if1 .taken))
+pass-if-requires : tie.Need-pass-if-requires
+pass-if-requires c κs = search needs
 
-returns-2 : tie.Need-returns-2
-returns-2 c = simp (ne-eqb _ _ (c .if1 .left))
+returns : tie.Need-returns
+returns c = c .pass-if .ensures
 
 pub all-taken-spec : {M : Type 1} → statement M
-all-taken-spec = tie.close (tie.spec returns returns-2)
+all-taken-spec =
+    tie.close
+    (tie.spec
+    pass-if-requires
+    returns)

@@ -16,4 +16,9 @@ returns c = rw (c .answered .ensures, c .before .empty-pass .ensures, c .before 
 
 pub close-message-spec : {M : Type 1} → statement M
 close-message-spec =
-    tie.close (tie.spec keep-message-requires empty-pass-requires answered-requires returns)
+    tie.close
+    (tie.spec
+    keep-message-requires
+    empty-pass-requires
+    answered-requires
+    returns)

@@ -12,4 +12,9 @@ returns : tie.Need-returns
 returns c = rw (c .empty-pass .ensures, c .before .values-of .ensures)
 
 pub close-openings-spec : {M : Type 1} → statement M
-close-openings-spec = tie.close (tie.spec values-of-requires empty-pass-requires returns)
+close-openings-spec =
+    tie.close
+    (tie.spec
+    values-of-requires
+    empty-pass-requires
+    returns)

@@ -16,7 +16,7 @@ answered-requires c κs = search needs
 
 returns : tie.Need-returns
 returns c =
-    let z = c .before .before .before .before .before .before .before .before .args .pass .total in
+    let z = c .before .before .before .before .before .before .before .before .before .args .pass .total in
     let t : toZ w64 (ofZ w64 z) ≡ z = search needs in
     rw (c .answered .ensures, c .before .before .before .before .before .before .empty-pass .ensures, c .before .before .before .before .before .before .before .round-or-ends .ensures, t, c .before .before .before .before .before .if1 .taken)
 

@@ -19,7 +19,7 @@ close-message-requires : tie.Need-close-message-requires
 close-message-requires c κs =
     let r = c .before .before .args .run in
     let h = simp (c .enum-told2 .given .1) at (c .before .before .pre .0) in
-    omega (arith, ltb-true (r .round) (r .rounds) h)
+    omega (arith, ltb-true (r .round) (r .start .rounds) h)
 
 enum-told-3 : tie.Need-enum-told-3
 enum-told-3 c = search needs

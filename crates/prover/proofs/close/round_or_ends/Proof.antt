@@ -9,4 +9,8 @@ returns-2 : tie.Need-returns-2
 returns-2 c = simp (le-ltb _ _ (c .if1 .left))
 
 pub round-or-ends-spec : {M : Type 1} → statement M
-round-or-ends-spec = tie.close (tie.spec returns returns-2)
+round-or-ends-spec =
+    tie.close
+    (tie.spec
+    returns
+    returns-2)

@@ -1,8 +1,6 @@
-use mathlib.Core.Path.{_≡_, sym, ap, _∙_}
+use mathlib.Core.Path.{_≡_}
 use mir.Syntax.{w64}
 use mir.Val.{toZ, ofZ}
-use mathlib.Core.Bool.{true, false}
-use Rattle.field.specs.Total.{inLimits}
 use borrow.Author.Needs.{needs}
 use Rattle.prover.proofs.close.total_fits.Statement.{statement}
 use Rattle.prover.proofs.close.total_fits.Tie as tie
@@ -14,25 +12,28 @@ returns : tie.Need-returns
 returns c = simp (c .if1 .left, ← c .before .is-total .ensures)
 
 returns-2 : tie.Need-returns-2
-returns-2 c = simp (c .if2 .left, c .before .if1 .taken, ← c .before .before .is-total .ensures)
+returns-2 c = simp (c .if2 .left, c .before .before .if1 .taken, ← c .before .before .before .is-total .ensures)
 
 within-requires : tie.Need-within-requires
 within-requires c κs = search needs
 
+pass-if-requires : tie.Need-pass-if-requires
+pass-if-requires c κs = search needs
+
 returns-3 : tie.Need-returns-3
 returns-3 c =
-    let z = c .before .before .before .before .before .before .args .pass .total in
+    let z = c .before .before .before .before .before .before .before .args .pass .total in
     let t : toZ w64 (ofZ w64 z) ≡ z = search needs in
-    let w : inLimits 2147483647 z ≡ true = sym (simp t at (c .before .within .ensures)) ∙ c .if3 .taken in
-    simp (c .before .before .before .if2 .taken, c .before .before .before .before .if1 .taken, ← c .before .before .before .before .before .is-total .ensures, w)
-
-returns-4 : tie.Need-returns-4
-returns-4 c =
-    let z = c .before .before .before .before .before .before .args .pass .total in
-    let t : toZ w64 (ofZ w64 z) ≡ z = search needs in
-    let w : inLimits 2147483647 z ≡ false = sym (simp t at (c .before .within .ensures)) ∙ c .if3 .left in
-    simp (c .before .before .before .if2 .taken, c .before .before .before .before .if1 .taken, ← c .before .before .before .before .before .is-total .ensures, w)
+    let w = simp t at (c .before .within .ensures) in
+    simp (c .pass-if .ensures, c .before .before .before .if2 .taken, c .before .before .before .before .before .if1 .taken, ← c .before .before .before .before .before .before .is-total .ensures, w)
 
 pub total-fits-spec : {M : Type 1} → statement M
 total-fits-spec =
-    tie.close (tie.spec is-total-requires returns returns-2 within-requires returns-3 returns-4)
+    tie.close
+    (tie.spec
+    is-total-requires
+    returns
+    returns-2
+    within-requires
+    pass-if-requires
+    returns-3)

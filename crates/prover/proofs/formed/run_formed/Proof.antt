@@ -35,7 +35,7 @@ within-requires c κs = search needs
 returns-5 : tie.Need-returns-5
 unfolding runFormed
 returns-5 c =
-    let z = c .before .before .before .before .before .before .before .before .before .before .before .args .run .total in
+    let z = c .before .before .before .before .before .before .before .before .before .before .before .before .args .run .total in
     let t : toZ w64 (ofZ w64 z) ≡ z = search needs in
     let w = simp t at (c .within .ensures) in
     simp (c .before .before .if4 .taken, ← c .before .before .before .round-fits .ensures, eq-eqb _ _ (c .before .before .before .before .if3 .left), ← c .before .before .before .before .before .before .rounds-of .ensures, le-ltb _ _ (c .before .before .before .before .before .before .before .if2 .left), le-ltb _ _ (c .before .before .before .before .before .before .before .before .before .if1 .left), w)

@@ -18,4 +18,10 @@ unfolding wellFormed
 returns-2 c = simp (c .if1 .left, ← c .before .run-formed .ensures)
 
 pub well-formed-spec : {M : Type 1} → statement M
-well-formed-spec = tie.close (tie.spec run-formed-requires pass-formed-requires returns returns-2)
+well-formed-spec =
+    tie.close
+    (tie.spec
+    run-formed-requires
+    pass-formed-requires
+    returns
+    returns-2)

@@ -20,4 +20,9 @@ returns c = rw (c .answered .ensures, c .before .keep-ends .ensures)
 pub give-ends-spec : {M : Type 1} → statement M
 give-ends-spec =
     tie.close
-    (tie.spec shared-slice-read-a shared-slice-read-b keep-ends-requires answered-requires returns)
+    (tie.spec
+    shared-slice-read-a
+    shared-slice-read-b
+    keep-ends-requires
+    answered-requires
+    returns)

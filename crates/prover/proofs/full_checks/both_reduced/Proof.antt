@@ -17,11 +17,11 @@ returns c = simp (c .if1 .left, ← c .before .all-reduced .ensures, ← c .befo
 all-reduced-requires-2 : tie.Need-all-reduced-requires-2
 all-reduced-requires-2 c κs = search needs
 
-returns-2 : tie.Need-returns-2
-returns-2 c = simp (c .if2 .taken, ← c .before .all-reduced2 .ensures, c .before .before .if1 .taken, ← c .before .before .before .all-reduced .ensures, ← c .before .before .before .before .fold-size .ensures)
+pass-if-requires : tie.Need-pass-if-requires
+pass-if-requires c κs = search needs
 
-returns-3 : tie.Need-returns-3
-returns-3 c = simp (c .if2 .left, ← c .before .all-reduced2 .ensures, c .before .before .if1 .taken, ← c .before .before .before .all-reduced .ensures, ← c .before .before .before .before .fold-size .ensures)
+returns-2 : tie.Need-returns-2
+returns-2 c = simp (c .pass-if .ensures, c .before .all-reduced2 .ensures, c .before .before .if1 .taken, ← c .before .before .before .all-reduced .ensures, ← c .before .before .before .before .fold-size .ensures)
 
 pub both-reduced-spec : {M : Type 1} → statement M
 both-reduced-spec =
@@ -32,5 +32,5 @@ both-reduced-spec =
     all-reduced-requires
     returns
     all-reduced-requires-2
-    returns-2
-    returns-3)
+    pass-if-requires
+    returns-2)

@@ -11,12 +11,18 @@ returns c = simp (c .if1 .left, ← c .before .well-formed .ensures)
 is-challenge-requires : tie.Need-is-challenge-requires
 is-challenge-requires c κs = search needs
 
-returns-2 : tie.Need-returns-2
-returns-2 c = simp (c .if2 .taken, ← c .before .is-challenge .ensures, c .before .before .if1 .taken, ← c .before .before .before .well-formed .ensures)
+pass-if-requires : tie.Need-pass-if-requires
+pass-if-requires c κs = search needs
 
-returns-3 : tie.Need-returns-3
-returns-3 c = simp (c .if2 .left, ← c .before .is-challenge .ensures, c .before .before .if1 .taken, ← c .before .before .before .well-formed .ensures)
+returns-2 : tie.Need-returns-2
+returns-2 c = simp (c .pass-if .ensures, c .before .is-challenge .ensures, c .before .before .if1 .taken, ← c .before .before .before .well-formed .ensures)
 
 pub challenge-next-spec : {M : Type 1} → statement M
 challenge-next-spec =
-    tie.close (tie.spec well-formed-requires returns is-challenge-requires returns-2 returns-3)
+    tie.close
+    (tie.spec
+    well-formed-requires
+    returns
+    is-challenge-requires
+    pass-if-requires
+    returns-2)

@@ -15,4 +15,10 @@ returns-2 : tie.Need-returns-2
 returns-2 c = rw (← c .before .well-formed .ensures, c .if1 .left)
 
 pub full-formed-spec : {M : Type 1} → statement M
-full-formed-spec = tie.close (tie.spec well-formed-requires is-full-requires returns returns-2)
+full-formed-spec =
+    tie.close
+    (tie.spec
+    well-formed-requires
+    is-full-requires
+    returns
+    returns-2)

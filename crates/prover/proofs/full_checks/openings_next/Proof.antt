@@ -1,4 +1,3 @@
-use borrow.Author.Tests.{le-ltb, lt-ltb}
 use borrow.Author.Needs.{needs}
 use Rattle.prover.proofs.full_checks.openings_next.Statement.{statement}
 use Rattle.prover.proofs.full_checks.openings_next.Tie as tie
@@ -15,13 +14,19 @@ is-openings-requires c κs = search needs
 returns-2 : tie.Need-returns-2
 returns-2 c = simp (c .if2 .left, ← c .before .is-openings .ensures, c .before .before .if1 .taken, ← c .before .before .before .full-formed .ensures)
 
-returns-3 : tie.Need-returns-3
-returns-3 c = simp (lt-ltb _ _ (c .if3 .taken), c .before .before .if2 .taken, ← c .before .before .before .is-openings .ensures, c .before .before .before .before .if1 .taken, ← c .before .before .before .before .before .full-formed .ensures)
+pass-if-requires : tie.Need-pass-if-requires
+pass-if-requires c κs = search needs
 
-returns-4 : tie.Need-returns-4
-returns-4 c = simp (le-ltb _ _ (c .if3 .left), c .before .before .if2 .taken, ← c .before .before .before .is-openings .ensures, c .before .before .before .before .if1 .taken, ← c .before .before .before .before .before .full-formed .ensures)
+returns-3 : tie.Need-returns-3
+returns-3 c = simp (c .pass-if .ensures, c .before .before .before .if2 .taken, ← c .before .before .before .before .is-openings .ensures, c .before .before .before .before .before .if1 .taken, ← c .before .before .before .before .before .before .full-formed .ensures)
 
 pub openings-next-spec : {M : Type 1} → statement M
 openings-next-spec =
     tie.close
-    (tie.spec full-formed-requires returns is-openings-requires returns-2 returns-3 returns-4)
+    (tie.spec
+    full-formed-requires
+    returns
+    is-openings-requires
+    returns-2
+    pass-if-requires
+    returns-3)

@@ -17,4 +17,10 @@ unfolding enteredItem
 returns c = simp (c .enter .ensures, c .before .kernel-of .ensures, c .before .before .level-of .ensures)
 
 pub climb-spec : {M : Type 1} → statement M
-climb-spec = tie.close (tie.spec level-of-requires kernel-of-requires enter-requires returns)
+climb-spec =
+    tie.close
+    (tie.spec
+    level-of-requires
+    kernel-of-requires
+    enter-requires
+    returns)

@@ -25,9 +25,16 @@ returns-2 c = simp (c .enum-told2 .given .1)
 returns-3 : tie.Need-returns-3
 returns-3 c =
     let told = c .enum-told3 .given .1 in
-    simp told (ap (eqb (c .before .before .before .args .level)) (simp told at (c .before .before .level-of .ensures)))
+    simp told (ap (eqb (c .before .before .before .before .args .level)) (simp told at (c .before .before .level-of .ensures)))
 
 pub place-done-spec : {M : Type 1} → statement M
 place-done-spec =
     tie.close
-    (tie.spec level-of-requires enum-told enum-told-2 enum-told-3 returns returns-2 returns-3)
+    (tie.spec
+    level-of-requires
+    enum-told
+    enum-told-2
+    enum-told-3
+    returns
+    returns-2
+    returns-3)

@@ -17,14 +17,14 @@ padding-of-requires : tie.Need-padding-of-requires
 padding-of-requires c κs = search needs
 
 add-q : tie.Need-add-q
-add-q c = record { fits = omega (arith, padding-small (c .before .before .before .before .args .run) (c .before .before .before .before .pre .0), c .before .padding-of .ensures) }
+add-q c = record { fits = omega (arith, padding-small (c .before .before .before .before .before .args .run) (c .before .before .before .before .before .pre .0), c .before .padding-of .ensures) }
 
 shr-q : tie.Need-shr-q
-shr-q c = omega (arith, c .before .before .before .level-of .ensures, level-at-most (c .before .before .before .before .args .run .rounds) (c .before .before .before .before .args .run .round) (c .before .before .before .before .args .run .next) (c .before .before .before .before .args .pass .kind) (c .before .before .before .before .pre .1))
+shr-q c = omega (arith, c .before .before .before .level-of .ensures, level-at-most (c .before .before .before .before .before .args .run .start .rounds) (c .before .before .before .before .before .args .run .round) (c .before .before .before .before .before .args .run .next) (c .before .before .before .before .before .args .pass .kind) (c .before .before .before .before .before .pre .1))
 
 returns : tie.Need-returns
 returns c =
-    let s = c .before .before .before .before .before .args in
+    let s = c .before .before .before .before .before .before .args in
     let q : (c .before .before .padding-of .result + s .pass .taken) / 2 ^ c .before .before .before .before .level-of .result ≡ (padding (s .run) + s .pass .taken) / 2 ^ levelOf (s .run) (s .pass .kind) = ap₂ (λ a b. (a + s .pass .taken) / 2 ^ b) (c .before .before .padding-of .ensures) (c .before .before .before .before .level-of .ensures) in
     omega (arith, q, c .before .before .before .fold-size .ensures)
 
@@ -39,7 +39,7 @@ cast-result c = search needs
 
 returns-2 : tie.Need-returns-2
 returns-2 c =
-    let s = c .before .before .before .before .before .args in
+    let s = c .before .before .before .before .before .before .args in
     let q : (c .before .before .padding-of .result + s .pass .taken) / 2 ^ c .before .before .before .before .level-of .result ≡ (padding (s .run) + s .pass .taken) / 2 ^ levelOf (s .run) (s .pass .kind) = ap₂ (λ a b. (a + s .pass .taken) / 2 ^ b) (c .before .before .padding-of .ensures) (c .before .before .before .before .level-of .ensures) in
     omega (arith, q, c .before .before .before .fold-size .ensures)
 

@@ -12,4 +12,9 @@ returns : tie.Need-returns
 returns c = simp (c .size-of .ensures, c .before .level-of .ensures)
 
 pub fold-size-spec : {M : Type 1} → statement M
-fold-size-spec = tie.close (tie.spec level-of-requires size-of-requires returns)
+fold-size-spec =
+    tie.close
+    (tie.spec
+    level-of-requires
+    size-of-requires
+    returns)

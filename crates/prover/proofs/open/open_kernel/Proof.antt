@@ -23,4 +23,10 @@ returns-2 c = rw (c .padded-kernel .ensures) (sym (ap (λ b. cond b emptyKernel 
 
 pub open-kernel-spec : {M : Type 1} → statement M
 open-kernel-spec =
-    tie.close (tie.spec is-total-requires empty-requires returns padded-kernel-requires returns-2)
+    tie.close
+    (tie.spec
+    is-total-requires
+    empty-requires
+    returns
+    padded-kernel-requires
+    returns-2)

@@ -16,4 +16,9 @@ returns c = rw (c .padding .ensures, c .before .level-of .ensures, c .before .be
 
 pub padded-kernel-spec : {M : Type 1} → statement M
 padded-kernel-spec =
-    tie.close (tie.spec padding-of-requires level-of-requires padding-requires returns)
+    tie.close
+    (tie.spec
+    padding-of-requires
+    level-of-requires
+    padding-requires
+    returns)

@@ -12,4 +12,9 @@ returns : tie.Need-returns
 returns c = rw (c .mul .ensures, c .before .neg .ensures)
 
 pub points-of-spec : {M : Type 1} → statement M
-points-of-spec = tie.close (tie.spec neg-requires mul-requires returns)
+points-of-spec =
+    tie.close
+    (tie.spec
+    neg-requires
+    mul-requires
+    returns)

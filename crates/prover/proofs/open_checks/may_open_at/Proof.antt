@@ -1,4 +1,3 @@
-use borrow.Author.Tests.{le-ltb, lt-ltb}
 use borrow.Author.Needs.{needs}
 use Rattle.prover.proofs.open_checks.may_open_at.Statement.{statement}
 use Rattle.prover.proofs.open_checks.may_open_at.Tie as tie
@@ -21,11 +20,11 @@ is-openings-requires c κs = search needs
 returns-3 : tie.Need-returns-3
 returns-3 c = simp (c .if3 .left, ← c .before .is-openings .ensures, c .before .before .if2 .taken, ← c .before .before .before .is-small .ensures, c .before .before .before .before .if1 .taken, ← c .before .before .before .before .before .well-formed .ensures)
 
-returns-4 : tie.Need-returns-4
-returns-4 c = simp (lt-ltb _ _ (c .if4 .taken), c .before .before .if3 .taken, ← c .before .before .before .is-openings .ensures, c .before .before .before .before .if2 .taken, ← c .before .before .before .before .before .is-small .ensures, c .before .before .before .before .before .before .if1 .taken, ← c .before .before .before .before .before .before .before .well-formed .ensures)
+pass-if-requires : tie.Need-pass-if-requires
+pass-if-requires c κs = search needs
 
-returns-5 : tie.Need-returns-5
-returns-5 c = simp (le-ltb _ _ (c .if4 .left), c .before .before .if3 .taken, ← c .before .before .before .is-openings .ensures, c .before .before .before .before .if2 .taken, ← c .before .before .before .before .before .is-small .ensures, c .before .before .before .before .before .before .if1 .taken, ← c .before .before .before .before .before .before .before .well-formed .ensures)
+returns-4 : tie.Need-returns-4
+returns-4 c = simp (c .pass-if .ensures, c .before .before .before .if3 .taken, ← c .before .before .before .before .is-openings .ensures, c .before .before .before .before .before .if2 .taken, ← c .before .before .before .before .before .before .is-small .ensures, c .before .before .before .before .before .before .before .if1 .taken, ← c .before .before .before .before .before .before .before .before .well-formed .ensures)
 
 pub may-open-at-spec : {M : Type 1} → statement M
 may-open-at-spec =
@@ -37,5 +36,5 @@ may-open-at-spec =
     returns-2
     is-openings-requires
     returns-3
-    returns-4
-    returns-5)
+    pass-if-requires
+    returns-4)

@@ -11,4 +11,8 @@ unfolding openingGiven
 returns c = rw (c .opening-values .ensures)
 
 pub give-opening-spec : {M : Type 1} → statement M
-give-opening-spec = tie.close (tie.spec opening-values-requires returns)
+give-opening-spec =
+    tie.close
+    (tie.spec
+    opening-values-requires
+    returns)

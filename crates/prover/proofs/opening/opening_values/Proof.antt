@@ -23,8 +23,8 @@ points-of-requires c κs = search needs
 
 stream-requires : tie.Need-stream-requires
 stream-requires c κs =
-    let n = c .before .before .before .before .before .args .run .rounds in
-    let count : c .before .size-of .result ≡ 2 ^ n = c .before .size-of .ensures ∙ size-32 n 0 (c .before .before .before .before .before .pre .0) ∙ size-all n in
+    let n = c .before .before .before .before .before .before .args .run .start .rounds in
+    let count : c .before .size-of .result ≡ 2 ^ n = c .before .size-of .ensures ∙ size-32 n 0 (c .before .before .before .before .before .before .pre .0) ∙ size-all n in
     (omega arith, omega arith)
 
 values-of-requires : tie.Need-values-of-requires
@@ -32,13 +32,13 @@ values-of-requires c κs = search needs
 
 returns : tie.Need-returns
 returns c =
-    let s = c .before .before .before .before .before .before .before .before .args in
-    let n = s .run .rounds in
-    let few = c .before .before .before .before .before .before .before .before .pre .0 in
+    let s = c .before .before .before .before .before .before .before .before .before .args in
+    let n = s .run .start .rounds in
+    let few = c .before .before .before .before .before .before .before .before .before .pre .0 in
     let count : c .before .before .before .before .size-of .result ≡ 2 ^ n = c .before .before .before .before .size-of .ensures ∙ size-32 n 0 few ∙ size-all n in
     c .values-of .ensures
-    ∙ ap (λ k. valuesOf (k .evals) n) (c .before .before .stream .ensures ∙ ap₂ (λ points m. streamed 2147483647 (s .run .challenges) n points (now (s .f)) (now (s .g)) m emptyKernel) (c .before .before .before .points-of .ensures) count)
-    ∙ stream-values 2147483647 n (s .b) (s .run .challenges) (now (s .f)) (now (s .g)) few
+    ∙ ap (λ k. valuesOf (k .evals) n) (c .before .before .stream .ensures ∙ ap₂ (λ points m. streamed (c .before .before .before .before .before .before .before .before .before .args .p) (s .run .challenges) n points (now (s .f)) (now (s .g)) m emptyKernel) (c .before .before .before .points-of .ensures) count)
+    ∙ stream-values (c .before .before .before .before .before .before .before .before .before .args .p) n (s .b) (s .run .challenges) (now (s .f)) (now (s .g)) few
 
 pub opening-values-spec : {M : Type 1} → statement M
 opening-values-spec =

@@ -2,18 +2,18 @@ use mathlib.Core.Path.{_≡_, refl, sym, ap, _∙_}
 use Prim.Native.Nat.{_-_, _≤_}
 use native.Mathlib.Omega.{arith}
 use denote.Ref.{now}
-use borrow.Author.Needs.{needs}
 use Rattle.prover.specs.Opening.{streamed}
 use Rattle.prover.proofs.OpeningLaws.{place-streamed}
+use borrow.Author.Needs.{needs}
 use Rattle.prover.proofs.opening.stream.Statement.{statement}
 use Rattle.prover.proofs.opening.stream.Tie as tie
 
 abbrev Inv-loop : tie.InvT-loop
-Inv-loop challenges last points f g count k₀ i₀ k i =
-    (i ≤ count) × (streamed 2147483647 challenges last points f g i k ≡ streamed 2147483647 challenges last points f g i₀ k₀)
+Inv-loop p challenges last points f g count k₀ i₀ k i =
+    (i ≤ count) × (streamed p challenges last points f g i k ≡ streamed p challenges last points f g i₀ k₀)
 
 abbrev μ-loop : tie.MeasureT-loop
-μ-loop challenges last points f g count k₀ i₀ k i = i
+μ-loop p challenges last points f g count k₀ i₀ k i = i
 
 empty-requires : tie.Need-empty-requires Inv-loop μ-loop
 empty-requires c κs = search needs
@@ -46,7 +46,7 @@ loop-again : tie.Need-loop-again Inv-loop μ-loop
 loop-again c =
     let s = c .before .before .before .before .before .before .before .before .before .args in
     let l = c .before .before .before .before .before .loop in
-    (omega arith, ap (λ e. streamed 2147483647 (s .challenges) (s .last) (s .points) (now (s .f)) (now (s .g)) (l .i - 1) (e .kernel)) (c .before .enter .ensures) ∙ sym (place-streamed 2147483647 (s .challenges) (s .last) (s .points) (now (s .f)) (now (s .g)) (l .i) (l .k) (c .before .before .before .before .loop-test .taken)) ∙ l .inv .1)
+    (omega arith, ap (λ e. streamed (s .p) (s .challenges) (s .last) (s .points) (now (s .f)) (now (s .g)) (l .i - 1) (e .kernel)) (c .before .enter .ensures) ∙ sym (place-streamed (s .p) (s .challenges) (s .last) (s .points) (now (s .f)) (now (s .g)) (l .i) (l .k) (c .before .before .before .before .loop-test .taken)) ∙ l .inv .1)
 
 returns : tie.Need-returns Inv-loop μ-loop
 unfolding streamed
@@ -54,7 +54,7 @@ returns c =
     let s = c .before .before .before .before .before .args in
     let l = c .before .loop in
     let none : l .i ≡ 0 = omega arith in
-    sym (ap (λ m. streamed 2147483647 (s .challenges) (s .last) (s .points) (now (s .f)) (now (s .g)) m (l .k)) none) ∙ l .inv .1 ∙ ap (streamed 2147483647 (s .challenges) (s .last) (s .points) (now (s .f)) (now (s .g)) (s .count)) (c .before .before .empty .ensures)
+    sym (ap (λ m. streamed (s .p) (s .challenges) (s .last) (s .points) (now (s .f)) (now (s .g)) m (l .k)) none) ∙ l .inv .1 ∙ ap (streamed (s .p) (s .challenges) (s .last) (s .points) (now (s .f)) (now (s .g)) (s .count)) (c .before .before .empty .ensures)
 
 pub stream-spec : {M : Type 1} → statement M
 stream-spec =

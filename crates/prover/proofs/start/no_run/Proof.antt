@@ -2,17 +2,27 @@ use borrow.Author.Needs.{needs}
 use Rattle.prover.proofs.start.no_run.Statement.{statement}
 use Rattle.prover.proofs.start.no_run.Tie as tie
 
+none-requires : tie.Need-none-requires
+none-requires c κs = search needs
+
 fresh-requires : tie.Need-fresh-requires
 fresh-requires c κs = search needs
 
-shut-requires : tie.Need-shut-requires
-shut-requires c κs = search needs
+empty-pass-requires : tie.Need-empty-pass-requires
+empty-pass-requires c κs = search needs
 
 refuse-requires : tie.Need-refuse-requires
 refuse-requires c κs = search needs
 
 returns : tie.Need-returns
-returns c = rw (c .refuse .ensures, c .before .shut .ensures, c .before .before .fresh .ensures)
+returns c = rw (c .refuse .ensures, c .before .empty-pass .ensures, c .before .before .fresh .ensures, c .before .before .before .none .ensures)
 
 pub no-run-spec : {M : Type 1} → statement M
-no-run-spec = tie.close (tie.spec fresh-requires shut-requires refuse-requires returns)
+no-run-spec =
+    tie.close
+    (tie.spec
+    none-requires
+    fresh-requires
+    empty-pass-requires
+    refuse-requires
+    returns)

@@ -2,10 +2,10 @@ use mathlib.Core.Path.{_≡_, refl}
 use Prim.Native.Nat.{_≤_, _-_}
 use native.Mathlib.Omega.{arith}
 use lib.Seq.{sets}
-use borrow.Author.Needs.{needs}
 use Rattle.vector.specs.Opening.{tripleValues}
 use Rattle.prover.specs.Values.{tripleIn}
 use Rattle.prover.proofs.OpeningValues.{triple-stored}
+use borrow.Author.Needs.{needs}
 use Rattle.prover.proofs.values.triples.Statement.{statement}
 use Rattle.prover.proofs.values.triples.Tie as tie
 

@@ -26,4 +26,10 @@ returns-2 c =
 
 pub values-of-spec : {M : Type 1} → statement M
 values-of-spec =
-    tie.close (tie.spec returns triples-requires mul-triples triples-requires-2 returns-2)
+    tie.close
+    (tie.spec
+    returns
+    triples-requires
+    mul-triples
+    triples-requires-2
+    returns-2)
