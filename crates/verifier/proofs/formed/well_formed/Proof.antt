@@ -9,21 +9,21 @@ in-count-requires c κs = search needs
 
 returns : tie.Need-returns
 unfolding wellFormed
-returns c = simp (c .if1 .left, ← c .before .in-count .ensures)
+returns c = simp (c@if1 .left, ← c@in-count .ensures)
 
 rounds-of-requires : tie.Need-rounds-of-requires
 rounds-of-requires c κs = search needs
 
 returns-2 : tie.Need-returns-2
 unfolding wellFormed
-returns-2 c = simp (ne-eqb _ _ (c .if2 .taken), ← c .before .before .rounds-of .ensures, c .before .before .before .if1 .taken, ← c .before .before .before .before .in-count .ensures)
+returns-2 c = simp (ne-eqb _ _ (c@if2 .taken), ← c@rounds-of .ensures, c@if1 .taken, ← c@in-count .ensures)
 
 turn-fits-requires : tie.Need-turn-fits-requires
 turn-fits-requires c κs = search needs
 
 returns-3 : tie.Need-returns-3
 unfolding wellFormed
-returns-3 c = simp (c .turn-fits .ensures, eq-eqb _ _ (c .before .if2 .left), ← c .before .before .before .rounds-of .ensures, c .before .before .before .before .if1 .taken, ← c .before .before .before .before .before .in-count .ensures)
+returns-3 c = simp (c@turn-fits .ensures, eq-eqb _ _ (c@if2 .left), ← c@rounds-of .ensures, c@if1 .taken, ← c@in-count .ensures)
 
 pub well-formed-spec : {M : Type 1} → statement M
 well-formed-spec =

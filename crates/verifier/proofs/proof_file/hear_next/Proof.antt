@@ -8,7 +8,7 @@ use Rattle.verifier.proofs.proof_file.hear_next.Tie as tie
 
 returns : tie.Need-returns
 unfolding hearsNext
-returns c = simp (c .if1 .taken)
+returns c = simp (c@if1 .taken)
 
 proof-message-requires : tie.Need-proof-message-requires
 proof-message-requires c κs = search needs
@@ -22,12 +22,12 @@ enum-told c = search needs
 -- the file has the bytes
 returns-2 : tie.Need-returns-2
 returns-2 c =
-    let s = c .before .before .before .before .before .args in
+    let s = c@args in
     absurd
     (not-nothing
-    (ap messageOf (sym (c .enum-told .given .1))
-    ∙ c .before .before .proof-message .ensures
-    ∙ message-there (s .file .now) (s .round) (c .before .before .before .before .before .pre .1)))
+    (ap messageOf (sym (c@enum-told .given .1))
+    ∙ c@proof-message .ensures
+    ∙ message-there (s .file .now) (s .round) (c@pre .1)))
 
 hear-requires : tie.Need-hear-requires
 hear-requires c κs = search needs
@@ -35,10 +35,10 @@ hear-requires c κs = search needs
 returns-3 : tie.Need-returns-3
 unfolding hearsNext
 returns-3 c =
-    let s = c .before .before .before .before .before .before .before .before .args in
-    let read = ap messageOf (sym (c .before .before .before .even .given .1)) ∙ c .before .before .before .before .before .proof-message .ensures in
-    let same = message-read (s .file .now) (s .round) (c .before .before .before .before .before .before .before .before .pre .1) read in
-    simp (c .before .before .before .before .before .before .if1 .left, ← same, ← c .before .hear .ensures)
+    let s = c@args in
+    let read = ap messageOf (sym (c@even .given .1)) ∙ c@proof-message .ensures in
+    let same = message-read (s .file .now) (s .round) (c@pre .1) read in
+    simp (c@if1 .left, ← same, ← c@hear .ensures)
 
 pub hear-next-spec : {M : Type 1} → statement M
 hear-next-spec =

@@ -17,18 +17,18 @@ close-requires c κs = search needs
 
 hear-all-requires : tie.Need-hear-all-requires
 hear-all-requires c κs =
-    let s = c .before .before .before .args in
-    let pre = c .before .before .before .pre in
-    let k = close-keeps 2147483647 (s .v) (s .file .now) (c .before .image .result) (c .close .ensures) in
+    let s = c@args in
+    let pre = c@pre in
+    let k = close-keeps 2147483647 (s .v) (s .file .now) (c@image .result) (c@close .ensures) in
     (k .0 ∙ pre .0, omega (arith, k .1), omega (arith, k .1))
 
 compare-requires : tie.Need-compare-requires
 compare-requires c κs =
-    let s = c .before .before .before .before .args in
-    let pre = c .before .before .before .before .pre in
-    let k = close-keeps 2147483647 (s .v) (s .file .now) (c .before .before .image .result) (c .before .close .ensures) in
-    let closed = c .before .close .result .verifier in
-    let e = ap (λ w. w .rounds) (c .hear-all .ensures) ∙ heard-first 2147483647 closed (fileMessage (s .file .now)) (closed .rounds) .rounds ∙ k .1 in
+    let s = c@args in
+    let pre = c@pre in
+    let k = close-keeps 2147483647 (s .v) (s .file .now) (c@image .result) (c@close .ensures) in
+    let closed = c@close .result .verifier in
+    let e = ap (λ w. w .rounds) (c@hear-all .ensures) ∙ heard-first 2147483647 closed (fileMessage (s .file .now)) (closed .rounds) .rounds ∙ k .1 in
     (pre .2 ∙ sym e, omega (arith, e))
 
 find-requires : tie.Need-find-requires
@@ -36,9 +36,9 @@ find-requires c κs = search needs
 
 returns : tie.Need-returns
 returns c =
-    let s = c .before .before .before .before .before .before .args in
+    let s = c@args in
     let t : toZ w64 (ofZ w64 (s .total)) ≡ s .total = search needs in
-    judged 2147483647 (s .v) (s .file .now) (s .total) (c .before .before .before .before .image .result) (c .before .before .before .before .image .ensures ∙ ap (image 2147483647) t) (c .before .before .before .close .ensures) (c .before .before .hear-all .ensures) (c .before .compare .ensures) (c .find .ensures)
+    judged 2147483647 (s .v) (s .file .now) (s .total) (c@image .result) (c@image .ensures ∙ ap (image 2147483647) t) (c@close .ensures) (c@hear-all .ensures) (c@compare .ensures) (c@find .ensures)
 
 pub judge-spec : {M : Type 1} → statement M
 judge-spec =
