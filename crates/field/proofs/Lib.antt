@@ -4,3 +4,4 @@ pub mod Signed
 pub mod Integers
 pub mod Totals
 pub mod ModulusLaws
+pub mod Checks

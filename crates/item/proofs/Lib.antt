@@ -1,0 +1,2 @@
+pub mod PartsRows
+pub mod Sizes
