@@ -2,6 +2,7 @@
 use Prim.Native.Nat.{ℕ}
 use mathlib.Core.Bool.{false}
 use lib.ListN.{replicate}
+use Rattle.refusal.specs.Number as number
 use Rattle.refusal.specs.Outcome.{Outcome, answered, refused, refusedAt}
 use Rattle.item.specs.Start.{noStart}
 use Rattle.verifier.specs.declared.Verifier.{Verifier}
@@ -45,6 +46,12 @@ abbrev pub leaves : Verifier → Outcome Replied → Handed
 leaves v (answered s) = record { verifier = s .verifier; outcome = answered (s .reply) }
 leaves v (refused k) = record { verifier = v; outcome = refused k }
 leaves v (refusedAt k i) = record { verifier = v; outcome = refusedAt k i }
+
+-- the refusal of an item or of a file, as the call's own; it is asked for only where there is one
+abbrev pub refusalOf : {A B : Type 0} → Outcome A → Outcome B
+refusalOf (answered x) = refused number.order
+refusalOf (refused k) = refused k
+refusalOf (refusedAt k i) = refusedAt k i
 
 -- "the verdict is yes .. Otherwise no, with the first round that failed, or n"
 pub data Finding : Type 0 where

@@ -4,8 +4,9 @@ ghost use Prim.Native.Nat.{_+_, _*_, _≤_, _<_};
 ghost use lib.ListN.{length};
 ghost use Rattle.refusal.specs.Outcome.{answered, refused};
 ghost use Rattle.wire.specs.Proof.{proofRounds, proofOf};
+ghost use Rattle.verifier.specs.Records.{refusalOf};
 ghost use Rattle.verifier.specs.Claims.{failedNow};
-ghost use Rattle.verifier.specs.ProofFile.{fileMessage, hearsNext, hearsFirst, compares, judges, judgedIn, leavesJudged, fileRefusal};
+ghost use Rattle.verifier.specs.ProofFile.{fileMessage, hearsNext, hearsFirst, compares, judges, judgedIn, leavesJudged};
 use super::Judged;
 use super::Verdict;
 use super::Verifier;
@@ -26,7 +27,7 @@ pub fn refuse(v: Verifier, number: u8) -> Judged
 
 // The refusal of a file, by what its reader answered.
 pub(crate) fn refuse_read(v: Verifier, read: ProofRead) -> Judged
-    ensures { λ r. ⌜ judgedIn r ≡ leavesJudged v (fileRefusal (proofOf read)) ⌝ }
+    ensures { λ r. ⌜ judgedIn r ≡ leavesJudged v (refusalOf (proofOf read)) ⌝ }
 {
     match read {
         // Not reached: the caller has the total.

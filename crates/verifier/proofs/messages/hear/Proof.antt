@@ -9,7 +9,7 @@ add-requires c κs = search needs
 
 returns : tie.Need-returns
 unfolding hears passedWith failedNow
-returns c = simp (ne-eqb _ _ (c@if1 .taken), ← c@add .ensures)
+returns c = simp (ne-eqb _ _ (c .before .before .if1 .taken), ← c .before .before .before .before .add .ensures)
 
 cast-next-claim : tie.Need-cast-next-claim
 cast-next-claim c = search needs
@@ -23,12 +23,12 @@ array-read-next-claim c = search needs
 next-claim-requires : tie.Need-next-claim-requires
 next-claim-requires c κs = search needs
 
-add-t10 : tie.Need-add-t10
-add-t10 c = search needs
+add-t11 : tie.Need-add-t11
+add-t11 c = search needs
 
 returns-2 : tie.Need-returns-2
 unfolding hears passedWith failedNow
-returns-2 c = simp (c@next-claim .ensures, eq-eqb _ _ (c@if1 .left), ← c@add .ensures)
+returns-2 c = simp (c .before .before .next-claim .ensures, eq-eqb _ _ (c .before .before .before .before .if1 .left), ← c .before .before .before .before .before .before .add .ensures)
 
 pub hear-spec : {M : Type 1} → statement M
 hear-spec =
@@ -40,5 +40,5 @@ hear-spec =
     mul-next-claim
     array-read-next-claim
     next-claim-requires
-    add-t10
+    add-t11
     returns-2)
