@@ -1,37 +1,35 @@
 -- Demand 2 for rule checks: twisted runs of 2^n items with the twists v^(2^j).
-use Rattle.vector.specs.Message as vector
-use Rattle.verifier.proofs.Verdicts.{true-messages}
 use mathlib.Core.Path.{_≡_, refl, sym, ap, _∙_}
 use mathlib.Core.Bool.{true}
 use mathlib.Core.List.{List}
 use Prim.Native.Nat.{ℕ, _*_, _^_, _≤_, _<_}
 use native.Mathlib.Omega.{arith}
+use lib.Pow.{pow-pos, pow-mono}
 use borrow.Author.Tests.{le-leb, lt-ltb}
-use Rattle.algebra.specs.Mod.{residue, mulMod}
+use Rattle.algebra.specs.Mod.{residue, mulMod, powMod}
 use Rattle.algebra.proofs.Congruence.{residue-small, residue-twice, base-of, residue-lt}
 use Rattle.refusal.specs.Outcome.{answered}
 use Rattle.field.specs.Number.{isReduced}
+use Rattle.vector.specs.Message as vector
 use Rattle.vector.specs.Vector.{Vector, at, padded, sum, dot}
 use Rattle.vector.specs.Fold.{endValue}
 use Rattle.vector.specs.Message.{Message}
 use Rattle.vector.specs.Slice.{fifteen}
 use Rattle.vector.proofs.Overwrite.{fifteen-at}
+use Rattle.vector.proofs.Rounds.{rounds-power}
+use Rattle.vector.proofs.TwistPowers.{twists-weight}
 use Rattle.item.specs.Start.{countFits, listFits, ruleStart}
 use Rattle.item.proofs.PartsRows.{numbers-taken}
 use Rattle.verifier.specs.declared.Verifier.{Verifier}
 use Rattle.verifier.specs.Records.{leaves, yes}
-use Rattle.verifier.specs.Starts.{freshVerifier}
+use Rattle.verifier.specs.Starts.{freshVerifier, ruleVerifier}
 use Rattle.verifier.specs.Sums.{entering}
 use Rattle.verifier.specs.Claims.{closedWith}
 use Rattle.verifier.specs.Calls.{closeClaim, verdict}
 use Rattle.verifier.specs.Trips.{afterCalls, givenItems, numberItems, messages, verdictOf}
+use Rattle.verifier.proofs.Verdicts.{true-messages}
 use Rattle.verifier.proofs.EndSums.{state}
 use Rattle.verifier.proofs.Runs.{AllReduced, list-length, Run, reaches, ready-open, run-ends, run-verdict, claim-next, message-reduced}
-use Rattle.algebra.specs.Mod.{powMod}
-use lib.Pow.{pow-pos, pow-mono}
-use Rattle.vector.proofs.Rounds.{rounds-power}
-use Rattle.vector.proofs.TwistPowers.{twists-weight}
-use Rattle.verifier.specs.Starts.{ruleVerifier}
 
 -- 2^n items are as many as a run may have
 rule-count : (n : ℕ) → n ≤ 15 → countFits (2 ^ n) ≡ true

@@ -1,5 +1,5 @@
 use mathlib.Core.Path.{ap, _∙_}
-use Rattle.verifier.specs.Records.{blank, leaves}
+use Rattle.verifier.specs.Records.{leaves}
 use Rattle.refusal.specs.Outcome.{refused}
 use lib.ListN.{replicate}
 use mathlib.Core.Bool.{false}
