@@ -1,26 +1,19 @@
 // The test for records that no call returns.
 ghost use mathlib.Core.Path.{_≡_};
-ghost use Rattle.verifier.specs.WellFormed.{inCount, turnFits, wellFormed};
+ghost use Rattle.verifier.specs.WellFormed.{turnFits, wellFormed};
 use super::Verifier;
-
-pub fn in_count(items: u32) -> bool
-    ensures { λ r. ⌜ r ≡ inCount items ⌝ }
-{
-    if items < 1 {
-        return false;
-    }
-    items <= refusal::MAX_ITEMS
-}
+use refusal::Check;
 
 // The pass and the rounds fit each other.
 fn turn_fits(v: Verifier) -> bool
     ensures { λ r. ⌜ r ≡ turnFits v ⌝ }
 {
+    let start = v.start;
     if v.closed {
-        if v.taken != v.items {
+        if v.taken != start.items {
             return false;
         }
-        return v.round <= v.rounds;
+        return v.round <= start.rounds;
     }
     if v.failed {
         return false;
@@ -28,16 +21,17 @@ fn turn_fits(v: Verifier) -> bool
     if v.round != 0 {
         return false;
     }
-    v.taken <= v.items
+    v.taken <= start.items
 }
 
 pub fn well_formed(v: Verifier) -> bool
     ensures { λ r. ⌜ r ≡ wellFormed v ⌝ }
 {
-    if in_count(v.items) {} else {
+    let start = v.start;
+    let Check::Passed = item::starts::count_fits(start.items) else {
         return false;
-    }
-    if v.rounds != vector::sizes::rounds_of(v.items) {
+    };
+    if start.rounds != vector::sizes::rounds_of(start.items) {
         return false;
     }
     turn_fits(v)

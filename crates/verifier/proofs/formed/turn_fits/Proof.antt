@@ -6,11 +6,11 @@ use Rattle.verifier.proofs.formed.turn_fits.Tie as tie
 
 returns : tie.Need-returns
 unfolding turnFits
-returns c = simp (ne-eqb _ _ (c .if2 .taken), c .before .before .if1 .taken)
+returns c = simp (ne-eqb _ _ (c .if2 .taken), c .before .before .before .if1 .taken)
 
 returns-2 : tie.Need-returns-2
 unfolding turnFits
-returns-2 c = simp (eq-eqb _ _ (c .before .if2 .left), c .before .before .before .if1 .taken)
+returns-2 c = simp (eq-eqb _ _ (c .before .before .if2 .left), c .before .before .before .before .before .if1 .taken)
 
 returns-3 : tie.Need-returns-3
 unfolding turnFits
@@ -21,7 +21,7 @@ unfolding turnFits
 returns-4 c = simp (ne-eqb _ _ (c .if4 .taken), c .before .before .if3 .left, c .before .before .before .if1 .left)
 
 returns-5 : tie.Need-returns-5
-returns-5 c = turn-open (c .before .before .before .before .before .args .v) (c .before .before .before .before .if1 .left) (c .before .before .before .if3 .left) (c .before .if4 .left)
+returns-5 c = turn-open (c .before .before .before .before .before .before .before .args .v) (c .before .before .before .before .before .if1 .left) (c .before .before .before .before .if3 .left) (c .before .before .if4 .left)
 
 pub turn-fits-spec : {M : Type 1} → statement M
 turn-fits-spec = tie.close (tie.spec returns returns-2 returns-3 returns-4 returns-5)

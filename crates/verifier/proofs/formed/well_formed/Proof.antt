@@ -1,31 +1,42 @@
-use Rattle.verifier.specs.WellFormed.{wellFormed}
-use borrow.Author.Tests.{eq-eqb, ne-eqb}
+use mathlib.Core.Path.{_∙_}
+use Rattle.verifier.proofs.Invariant.{told, untold, other-count, other-rounds, fixed-start}
 use borrow.Author.Needs.{needs}
 use Rattle.verifier.proofs.formed.well_formed.Statement.{statement}
 use Rattle.verifier.proofs.formed.well_formed.Tie as tie
 
-in-count-requires : tie.Need-in-count-requires
-in-count-requires c κs = search needs
+count-fits-requires : tie.Need-count-fits-requires
+count-fits-requires c κs = search needs
+
+enum-told : tie.Need-enum-told
+enum-told c = search needs
+
+enum-told-2 : tie.Need-enum-told-2
+enum-told-2 c = search needs
 
 returns : tie.Need-returns
-unfolding wellFormed
-returns c = simp (c .if1 .left, ← c .before .in-count .ensures)
+returns c = other-count (c .before .before .before .before .args .v) (untold (c .enum-told2 .given .1) (c .before .before .count-fits .ensures))
 
 rounds-of-requires : tie.Need-rounds-of-requires
 rounds-of-requires c κs = search needs
 
 returns-2 : tie.Need-returns-2
-unfolding wellFormed
-returns-2 c = simp (ne-eqb _ _ (c .if2 .taken), ← c .before .before .rounds-of .ensures, c .before .before .before .if1 .taken, ← c .before .before .before .before .in-count .ensures)
+returns-2 c = other-rounds (c .before .before .before .before .before .before .before .args .v) (told (c .before .before .before .enum-told .given .1) (c .before .before .before .before .before .count-fits .ensures)) (c .before .before .rounds-of .ensures) (c .if1 .taken)
 
 turn-fits-requires : tie.Need-turn-fits-requires
 turn-fits-requires c κs = search needs
 
 returns-3 : tie.Need-returns-3
-unfolding wellFormed
-returns-3 c = simp (c .turn-fits .ensures, eq-eqb _ _ (c .before .if2 .left), ← c .before .before .before .rounds-of .ensures, c .before .before .before .before .if1 .taken, ← c .before .before .before .before .before .in-count .ensures)
+returns-3 c = c .turn-fits .ensures ∙ fixed-start (c .before .before .before .before .before .before .before .before .args .v) (told (c .before .before .before .before .enum-told .given .1) (c .before .before .before .before .before .before .count-fits .ensures)) (c .before .before .before .rounds-of .ensures) (c .before .if1 .left)
 
 pub well-formed-spec : {M : Type 1} → statement M
 well-formed-spec =
     tie.close
-    (tie.spec in-count-requires returns rounds-of-requires returns-2 turn-fits-requires returns-3)
+    (tie.spec
+    count-fits-requires
+    enum-told
+    enum-told-2
+    returns
+    rounds-of-requires
+    returns-2
+    turn-fits-requires
+    returns-3)
