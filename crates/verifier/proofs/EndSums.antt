@@ -25,7 +25,7 @@ use Rattle.vector.proofs.Sums.{sum-same}
 use Rattle.vector.proofs.EndValues.{weighted, weighted-step, end-padded}
 use Rattle.verifier.specs.declared.Verifier.{Verifier}
 use Rattle.verifier.specs.Records.{leaves}
-use Rattle.verifier.specs.WellFormed.{turnFits, wellFormed}
+use Rattle.verifier.specs.WellFormed.{turnOf, wellFormed}
 use Rattle.verifier.specs.Starts.{freshVerifier}
 use Rattle.verifier.specs.Sums.{entering, oneMore, takes}
 use Rattle.verifier.specs.Calls.{passOpen, give}
@@ -86,7 +86,7 @@ module _ (p : ℕ) (start : Start) (given : ℕ → Given) where
 
     module _ (count : countFits (start .items) ≡ true) (own : start .rounds ≡ roundsOf (start .items)) where
       pub open-while : (m : ℕ) → m ≤ start .items → passOpen (state m) ≡ true
-      unfolding passOpen wellFormed turnFits freshVerifier state
+      unfolding passOpen wellFormed turnOf freshVerifier state
       open-while m h = rw (count, eq-eqb (start .rounds) (roundsOf (start .items)) own, le-leb m (start .items) h)
 
       -- where every item passes its checks, the sums are as above

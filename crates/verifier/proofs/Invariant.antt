@@ -4,7 +4,7 @@ use mathlib.Core.Bool.{Bool, true, false, cond, not, true≢false}
 use Prim.Native.Nat.{ℕ, _≤_, _<_}
 use native.Mathlib.Omega.{arith}
 use lib.Dec.{eqb, leb, ltb}
-use borrow.Author.Tests.{eqb-true, eq-eqb, ne-eqb, le-leb, leb-true, lt-ltb, le-ltb, ltb-true}
+use borrow.Author.Tests.{eqb-true, le-leb, leb-true, lt-ltb, le-ltb, ltb-true}
 use Rattle.refusal.specs.declared.Check.{Check}
 use Rattle.refusal.specs.declared.Check.the-variants as check
 use Rattle.refusal.specs.Check.{passed}
@@ -13,7 +13,7 @@ use Rattle.vector.specs.Rounds.{roundsOf}
 use Rattle.vector.proofs.Rounds.{rounds-at-most}
 use Rattle.item.specs.Start.{countFits}
 use Rattle.verifier.specs.declared.Verifier.{Verifier}
-use Rattle.verifier.specs.WellFormed.{turnFits, wellFormed}
+use Rattle.verifier.specs.WellFormed.{turnOf, turnFits, wellFormed}
 use Rattle.verifier.specs.Calls.{passOpen, messageTurn, verdictTurn, hasRounds}
 
 -- a check that passed
@@ -67,17 +67,17 @@ pub record Open (v : Verifier) : Type 0 where
   pub first : v .round ≡ 0
 
 pub open-turn : (v : Verifier) → turnFits v ≡ true → v .closed ≡ false → Open v
-unfolding turnFits
+unfolding turnOf
 open-turn v h e =
     let a = unless (v .failed) (cond (eqb (v .round) 0) (leb (v .taken) (v .start .items)) false) (pick-false (v .closed) _ _ e h) in
     record { going = a .0; first = eqb-true (v .round) 0 (both (eqb (v .round) 0) (leb (v .taken) (v .start .items)) (a .1) .0) }
 
 pub closed-taken : (v : Verifier) → turnFits v ≡ true → v .closed ≡ true → eqb (v .taken) (v .start .items) ≡ true
-unfolding turnFits
+unfolding turnOf
 closed-taken v h e = both (eqb (v .taken) (v .start .items)) (leb (v .round) (v .start .rounds)) (pick-true (v .closed) _ _ e h) .0
 
 pub closed-turn : (v : Verifier) → v .closed ≡ true → eqb (v .taken) (v .start .items) ≡ true → v .round ≤ v .start .rounds → turnFits v ≡ true
-unfolding turnFits
+unfolding turnOf
 closed-turn v a b c = rw (a, b, le-leb (v .round) (v .start .rounds) c)
 
 pub record Formed (v : Verifier) : Type 0 where
@@ -89,7 +89,7 @@ pub record Formed (v : Verifier) : Type 0 where
   pub turn : v .round ≤ v .start .rounds
 
 turn-says : (v : Verifier) → turnFits v ≡ true → (v .taken ≤ v .start .items) × (v .round ≤ v .start .rounds)
-unfolding turnFits
+unfolding turnOf
 turn-says v h = by (v .closed) h
   where
     by : (b : Bool)
@@ -148,13 +148,13 @@ unfolding hasRounds
 opening-safe v h = formed-says v (both (wellFormed v) (ltb 0 (v .start .rounds)) h .0) .few
 
 -- the test of an open pass, as the code makes it
-turn-plain : (closed failed : Bool) (round rounds taken items : ℕ) → closed ≡ false → failed ≡ false → round ≡ 0
+pub turn-plain : (closed failed : Bool) (round rounds taken items : ℕ) → closed ≡ false → failed ≡ false → round ≡ 0
     → leb taken items
     ≡ cond closed (cond (eqb taken items) (leb round rounds) false) (cond failed false (cond (eqb round 0) (leb taken items) false))
 turn-plain closed failed round rounds taken items a b e = rw (a, b, e)
 
 pub turn-open : (v : Verifier) → v .closed ≡ false → v .failed ≡ false → v .round ≡ 0 → leb (v .taken) (v .start .items) ≡ turnFits v
-unfolding turnFits
+unfolding turnOf
 turn-open v = turn-plain (v .closed) (v .failed) (v .round) (v .start .rounds) (v .taken) (v .start .items)
 
 -- the tests of a record as the code makes them
@@ -163,15 +163,15 @@ module _ (v : Verifier) where
   unfolding wellFormed
   other-count a = rw a
 
-  pub other-rounds : {k : ℕ} → countFits (v .start .items) ≡ true → k ≡ roundsOf (v .start .items) → (v .start .rounds ≡ k → ⊥)
+  pub other-rounds : {k : ℕ} → countFits (v .start .items) ≡ true → k ≡ roundsOf (v .start .items) → eqb (v .start .rounds) k ≡ false
       → false ≡ wellFormed v
   unfolding wellFormed
-  other-rounds {k} a e h = rw (a, ← e, ne-eqb (v .start .rounds) k h)
+  other-rounds {k} a e h = rw (a, ← e, h)
 
-  pub fixed-start : {k : ℕ} → countFits (v .start .items) ≡ true → k ≡ roundsOf (v .start .items) → v .start .rounds ≡ k
+  pub fixed-start : {k : ℕ} → countFits (v .start .items) ≡ true → k ≡ roundsOf (v .start .items) → eqb (v .start .rounds) k ≡ true
       → turnFits v ≡ wellFormed v
   unfolding wellFormed
-  fixed-start {k} a e h = rw (a, ← e, eq-eqb (v .start .rounds) k h)
+  fixed-start {k} a e h = rw (a, ← e, h)
 
   never : (b : Bool) → cond b false false ≡ false
   never true = refl

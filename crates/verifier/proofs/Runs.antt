@@ -26,7 +26,7 @@ use Rattle.item.specs.declared.Start.{Start}
 use Rattle.item.specs.Start.{countFits, listFits}
 use Rattle.item.specs.Item.{contributes, partsOf}
 use Rattle.verifier.specs.declared.Verifier.{Verifier}
-use Rattle.verifier.specs.WellFormed.{turnFits, wellFormed}
+use Rattle.verifier.specs.WellFormed.{turnOf, wellFormed}
 use Rattle.verifier.specs.Starts.{freshVerifier}
 use Rattle.verifier.specs.Claims.{closedWith, closes}
 use Rattle.verifier.specs.Calls.{passOpen, close, closeClaim, allReduced3, verdict}
@@ -82,7 +82,7 @@ module _ (p : ℕ) (r : Run p) where
   ready-open = open-while p (r .start) (r .given) (r .challenges) (r .count) (r .own) L (omega arith)
 
   closed-start : (claim : ℕ) → Closed (closedWith ready claim)
-  unfolding closedWith freshVerifier state wellFormed turnFits
+  unfolding closedWith freshVerifier state wellFormed turnOf
   closed-start claim =
       record {
         formed = rw (r .count, eq-eqb n (roundsOf L) (r .own), eq-eqb L L refl, le-leb 0 n (omega arith));
