@@ -40,7 +40,7 @@ fn half(x: Field) {
 fn rounds(label: &[u8], items: u32) {
     text(label);
     number(items);
-    number(Run::start_plain(items).run.rounds);
+    number(Run::start_plain(items).run.start.rounds);
     text(b"\n");
 }
 
@@ -48,7 +48,7 @@ fn rounds(label: &[u8], items: u32) {
 fn messages_of_one() {
     let s = passed(passed(Run::start_plain(1)));
     text(b"* messages");
-    number(s.run.items);
+    number(s.run.start.items);
     let answer = s.answer;
     if let Answer::Ends(_, _) = answer {
         number(s.run.round);

@@ -143,7 +143,7 @@ fn written(size: usize) {
 // The first 6n of the values.
 fn opening(step: Step) {
     let values = step.values;
-    opening_values(&values, values_of(step.run.rounds));
+    opening_values(&values, values_of(step.run.start.rounds));
 }
 
 fn opening_values(values: &[u32; 90], n: usize) {

@@ -6,6 +6,7 @@ use lib.ListN.{length}
 use lib.Dec.{leb, ltb, eqb}
 use Rattle.refusal.specs.Number as number
 use Rattle.refusal.specs.Outcome.{Outcome, answered, refused, refusedAt, require, requireAll}
+use Rattle.field.specs.Modulus.{modulus}
 use Rattle.vector.specs.Rounds.{roundsOf}
 use Rattle.vector.specs.Slice.{every, isNonzero}
 use Rattle.wire.specs.Number.{numAt}
@@ -41,7 +42,7 @@ numberAt file k = numAt 4 file (4 * k)
 unfoldable pub readNumbers : ℕ → List ℕ → Outcome ℕ
 readNumbers items file =
     require (eqb (length file) (4 * (roundsOf items + 1))) number.size
-    (require (every (roundsOf items + 1) (λ k. isNonzero 2147483647 (numberAt file k))) number.argument
+    (require (every (roundsOf items + 1) (λ k. isNonzero modulus (numberAt file k))) number.argument
     (answered items))
 
 -- "A refused input prints only `refused` and the number"

@@ -5,10 +5,12 @@ ghost use Prim.Native.Nat.{_+_, _*_, _<_, _≤_};
 ghost use lib.Dec.{leb, ltb};
 ghost use lib.ListN.{length};
 ghost use Rattle.io.specs.Counts.{Counts};
+ghost use Rattle.field.specs.Modulus.{modulus};
 ghost use Rattle.vector.specs.Slice.{every, isNonzero};
 ghost use Rattle.wire.specs.Number.{numAt};
 ghost use Rattle.wire.specs.Log.{logCount, logOf};
 ghost use Rattle.trip.specs.Input.{limit, headedIn, readLimited, readNumbers, readTrip, inputOf, numberAt};
+use field::Checked;
 use field::Field;
 use wire::log::LogRead;
 
@@ -94,13 +96,13 @@ fn check_numbers(items: u32, numbers: &[u8]) -> Input
 
 fn all_nonzero(numbers: &[u8], count: usize) -> bool
     requires { ⌜ 4 * count ≤ length (now numbers) ⌝ }
-    ensures { λ r. ⌜ r ≡ every count (λ k. isNonzero 2147483647 (numberAt (now (numbers .entry)) k)) ⌝ }
+    ensures { λ r. ⌜ r ≡ every count (λ k. isNonzero modulus (numberAt (now (numbers .entry)) k)) ⌝ }
 {
     let mut k: usize = 0;
     while k < count {
-        if vector::slice::is_nonzero(Field::MODULUS, word(numbers, 4 * k)) {} else {
+        let Checked::Number(_) = Field::nonzero_in(field::modulus(), word(numbers, 4 * k)) else {
             return false;
-        }
+        };
         k += 1;
     }
     true

@@ -28,7 +28,7 @@ pub(crate) fn report(step: Step) {
     let run = step.run;
     let messages = run.messages;
     let values = step.values;
-    let n = count(run.rounds);
+    let n = count(run.start.rounds);
     total(run.total);
     rounds(messages, n);
     ends(run.fend, run.gend);

@@ -1,18 +1,21 @@
 // A whole run of the prover, in small mode until its change.
 ghost use mathlib.Core.Path.{_≡_};
 ghost use Rattle.vector.specs.Slice.{overwrite};
-ghost use Rattle.vector.specs.Item.{plainParts};
+ghost use Rattle.item.specs.Item.{partsOf};
+ghost use Rattle.item.specs.declared.Given.the-variants as Given;
+ghost use Rattle.field.specs.Modulus.{modulus};
 ghost use Rattle.vector.specs.Power.{sizeIn32};
 ghost use Rattle.trip.specs.Items.{zeroPair, orZero, pairAt, fAt, gAt};
 use super::input;
-use field::Field;
+use item::Given;
+use item::Item;
+use item::Parts;
+use item::Start;
 use prover::Answer;
 use prover::Mode;
 use prover::Next;
 use prover::Run;
 use prover::Step;
-use vector::item::Item;
-use vector::item::Parts;
 use vector::slice::write;
 use wire::log::ItemRead;
 
@@ -54,7 +57,7 @@ fn finish(
     g: &mut [u32],
 ) -> Step {
     let ended = answer(folded, log, change, f, g);
-    if ended.run.rounds == 0 {
+    if ended.run.start.rounds == 0 {
         return ended;
     }
     give_opening(ended, log, numbers, change, f, g)
@@ -70,7 +73,7 @@ fn give_messages(
     g: &mut [u32],
 ) -> Step {
     let mut step = first;
-    let mut left = first.run.rounds;
+    let mut left = first.run.start.rounds;
     while left > 0 {
         left -= 1;
         step = give_message(step, log, numbers, change, f, g);
@@ -120,7 +123,7 @@ fn give_opening(
     g: &mut [u32],
 ) -> Step {
     let step = change_mode(before, log, change, f, g);
-    let point = input::number(numbers, step.run.rounds);
+    let point = input::number(numbers, step.run.start.rounds);
     if is_small(step) {
         return open_by_pass(step, log, point, f, g);
     }
@@ -133,7 +136,8 @@ fn open_by_pass(step: Step, log: &[u8], point: u32, f: &mut [u32], g: &mut [u32]
 }
 
 fn open_in_full(step: Step, log: &[u8], point: u32, f: &mut [u32], g: &mut [u32]) -> Step {
-    lend(step.run.rounds, log, f, g);
+    let start = step.run.start;
+    lend(start, log, f, g);
     let pass = step.pass;
     step.run.opening(pass, point, f, g)
 }
@@ -151,7 +155,7 @@ fn change_mode(step: Step, log: &[u8], change: u64, f: &mut [u32], g: &mut [u32]
 fn stage(run: Run) -> u64 {
     let next = run.next;
     match next {
-        Next::Openings => run.rounds as u64 + 1,
+        Next::Openings => run.start.rounds as u64 + 1,
         _ => run.round as u64,
     }
 }
@@ -179,7 +183,7 @@ fn close(step: Step) -> Step {
 // Last item to first.
 fn give_items(opened: Step, log: &[u8], f: &mut [u32], g: &mut [u32]) -> Step {
     let mut step = opened;
-    let mut i = opened.run.items;
+    let mut i = opened.run.start.items;
     while i > 0 {
         i -= 1;
         step = give_item(step, log, i, f, g);
@@ -196,13 +200,13 @@ fn give_item(step: Step, log: &[u8], i: u32, f: &mut [u32], g: &mut [u32]) -> St
 }
 
 // Fold 0, lent again for the openings.
-fn lend(rounds: u32, log: &[u8], f: &mut [u32], g: &mut [u32])
-    ensures { λ r. ⌜ (now (f .exit) ≡ overwrite (fAt (now (log .entry))) (sizeIn32 rounds 0) (now (f .entry))) × (now (g .exit) ≡ overwrite (gAt (now (log .entry))) (sizeIn32 rounds 0) (now (g .entry))) ⌝ }
+fn lend(start: Start, log: &[u8], f: &mut [u32], g: &mut [u32])
+    ensures { λ r. ⌜ (now (f .exit) ≡ overwrite (fAt start (now (log .entry))) (sizeIn32 (start .rounds) 0) (now (f .entry))) × (now (g .exit) ≡ overwrite (gAt start (now (log .entry))) (sizeIn32 (start .rounds) 0) (now (g .entry))) ⌝ }
 {
-    let size = vector::sizes::size_of(rounds, 0);
+    let size = vector::sizes::size_of(start.rounds, 0);
     let mut i: u32 = 0;
     while i < size {
-        let item = item_at(log, i);
+        let item = item_at(start, log, i);
         write(f, i as usize, item.f);
         write(g, i as usize, item.g);
         i += 1;
@@ -210,22 +214,23 @@ fn lend(rounds: u32, log: &[u8], f: &mut [u32], g: &mut [u32])
 }
 
 // Item i of both vectors; past the log's items it is a zero pair.
-fn item_at(log: &[u8], i: u32) -> Item
-    ensures { λ r. ⌜ r ≡ pairAt 2147483647 (now (log .entry)) i ⌝ }
+fn item_at(start: Start, log: &[u8], i: u32) -> Item
+    ensures { λ r. ⌜ r ≡ pairAt modulus start (now (log .entry)) i ⌝ }
 {
     match wire::log::log_item(log, i) {
-        ItemRead::Item(reading, weight) => pair(reading, weight),
+        ItemRead::Item(reading, weight) => pair(start, i, reading, weight),
         ItemRead::Nothing => no_item(),
     }
 }
 
-fn pair(reading: i16, weight: u16) -> Item
-    ensures { λ r. ⌜ r ≡ orZero (plainParts 2147483647 reading weight) ⌝ }
+fn pair(start: Start, i: u32, reading: i16, weight: u16) -> Item
+    ensures { λ r. ⌜ r ≡ orZero (partsOf modulus start i (Given.Reading reading weight)) ⌝ }
 {
-    match vector::item::plain(Field::MODULUS, reading, weight) {
-        Parts::Item(item) => item,
-        Parts::Refused => no_item(),
-    }
+    let parts = item::parts_of(field::modulus(), start, i, Given::Reading(reading, weight));
+    let Parts::Item(item) = parts else {
+        return no_item();
+    };
+    item
 }
 
 fn no_item() -> Item
@@ -234,7 +239,6 @@ fn no_item() -> Item
     Item {
         f: 0,
         g: 0,
-        reading: 0,
-        weight: 0,
+        worth: 0,
     }
 }

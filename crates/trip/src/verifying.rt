@@ -9,7 +9,7 @@ use verifier::Verifier;
 use wire::log::ItemRead;
 
 pub(crate) fn verify(run: Run, log: &[u8], numbers: &[u8]) -> Verdict {
-    let v = start(run.items, run.rounds, numbers);
+    let v = start(run.start.items, run.start.rounds, numbers);
     let taken = take_items(v, log);
     let closed = taken.close(run.total).verifier;
     hear(closed, run).verdict()
@@ -46,7 +46,7 @@ fn challenges(numbers: &[u8]) -> [u32; 15]
 // First item to last.
 fn take_items(fresh: Verifier, log: &[u8]) -> Verifier {
     let mut v = fresh;
-    let items = fresh.items;
+    let items = fresh.start.items;
     let mut i: u32 = 0;
     while i < items {
         v = take_item(v, log, i);
@@ -66,7 +66,7 @@ fn take_item(v: Verifier, log: &[u8], i: u32) -> Verifier {
 fn hear(closed: Verifier, run: Run) -> Verifier {
     let mut v = closed;
     let messages = run.messages;
-    let n = count(run.rounds);
+    let n = count(run.start.rounds);
     let mut i: usize = 0;
     while i < n {
         v = hear_message(v, messages, i);

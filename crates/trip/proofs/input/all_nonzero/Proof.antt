@@ -11,7 +11,7 @@ use Rattle.trip.proofs.input.all_nonzero.Statement.{statement}
 use Rattle.trip.proofs.input.all_nonzero.Tie as tie
 
 abbrev Inv-loop : tie.InvT-loop
-Inv-loop numbers count k₀ k = (k ≤ count) × ((j : ℕ) → j < k → isNonzero 2147483647 (numberAt numbers j) ≡ true)
+Inv-loop numbers count k₀ k = (k ≤ count) × ((j : ℕ) → j < k → isNonzero modulus (numberAt numbers j) ≡ true)
 
 abbrev μ-loop : tie.MeasureT-loop
 μ-loop numbers count k₀ k = count - k
@@ -25,11 +25,20 @@ mul-word c = search needs
 word-requires : tie.Need-word-requires Inv-loop μ-loop
 word-requires c κs = search needs
 
-is-nonzero-requires : tie.Need-is-nonzero-requires Inv-loop μ-loop
-is-nonzero-requires c κs = search needs
+nonzero-in-requires : tie.Need-nonzero-in-requires Inv-loop μ-loop
+nonzero-in-requires c κs = search needs
+
+modulus-requires : tie.Need-modulus-requires Inv-loop μ-loop
+modulus-requires c κs = search needs
+
+enum-told : tie.Need-enum-told Inv-loop μ-loop
+enum-told c = search needs
+
+enum-told-2 : tie.Need-enum-told-2 Inv-loop μ-loop
+enum-told-2 c = search needs
 
 returns : tie.Need-returns Inv-loop μ-loop
-returns c = sym (every-false (λ k. isNonzero 2147483647 (numberAt (c .before .before .before .before .before .before .args .numbers .now) k)) (c .before .before .before .before .before .before .args .count) (c .before .before .before .before .loop .k) (omega arith) (ap (isNonzero 2147483647) (sym (c .before .before .word .ensures)) ∙ sym (c .before .is-nonzero .ensures) ∙ c .if1 .left))
+returns c = sym (every-false (λ k. isNonzero modulus (numberAt (c .before .before .before .before .before .before .args .numbers .now) k)) (c .before .before .before .before .before .before .args .count) (c .before .before .before .before .loop .k) (omega arith) (ap (isNonzero modulus) (sym (c .before .before .word .ensures)) ∙ sym (c .before .is-nonzero .ensures) ∙ c .if1 .left))
 
 add-k : tie.Need-add-k Inv-loop μ-loop
 add-k c = search needs
@@ -38,10 +47,10 @@ loop-less : tie.Need-loop-less Inv-loop μ-loop
 loop-less c = search needs
 
 loop-again : tie.Need-loop-again Inv-loop μ-loop
-loop-again c = (omega arith, below-more _ _ (c .before .before .before .before .loop .inv .1) (ap (isNonzero 2147483647) (sym (c .before .before .word .ensures)) ∙ sym (c .before .is-nonzero .ensures) ∙ c .if1 .taken))
+loop-again c = (omega arith, below-more _ _ (c .before .before .before .before .loop .inv .1) (ap (isNonzero modulus) (sym (c .before .before .word .ensures)) ∙ sym (c .before .is-nonzero .ensures) ∙ c .if1 .taken))
 
 returns-2 : tie.Need-returns-2 Inv-loop μ-loop
-returns-2 c = sym (every-true (λ k. isNonzero 2147483647 (numberAt (c .before .before .before .args .numbers .now) k)) (c .before .before .before .args .count) (λ j h. c .before .loop .inv .1 j (omega arith)))
+returns-2 c = sym (every-true (λ k. isNonzero modulus (numberAt (c .before .before .before .args .numbers .now) k)) (c .before .before .before .args .count) (λ j h. c .before .loop .inv .1 j (omega arith)))
 
 pub all-nonzero-spec : {M : Type 1} → statement M
 all-nonzero-spec =
