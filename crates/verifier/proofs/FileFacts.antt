@@ -18,11 +18,13 @@ use Rattle.wire.specs.Proof.{Head, Ends, proofRounds, proofNumber, proofSize, p
 use Rattle.wire.specs.Proof as wire
 use Rattle.wire.proofs.ProofOf.{own-good}
 use Rattle.wire.proofs.RoundTrip.{found-same}
+use Rattle.field.specs.Modulus.{modulus}
+use Rattle.item.specs.declared.Start.{Start}
+use Rattle.item.specs.Start.{modulusOf}
 use Rattle.verifier.specs.declared.Verifier.{Verifier}
-use Rattle.verifier.specs.declared.Step.{Step}
-use Rattle.verifier.specs.Records.{Finding}
+use Rattle.verifier.specs.Records.{Replied, Finding}
 use Rattle.verifier.specs.WellFormed.{wellFormed}
-use Rattle.verifier.specs.Claims.{messageOf3, closedWith, closes, passedWith, failedNow, hears, finds}
+use Rattle.verifier.specs.Claims.{messageOf3, closedWith, passedWith, failedNow, hears, finds}
 use Rattle.verifier.specs.Calls.{passOpen}
 use Rattle.verifier.specs.ProofFile.{fileMessage, hearsNext, hearsFirst, endsAgree, compares, afterFile, judges, withTotal, proof, leavesJudged}
 use Rattle.verifier.proofs.Invariant.{both, not-true, parts-of, open-turn, open-says}
@@ -40,7 +42,7 @@ either P false x y a b = b
 
 -- what a message keeps of the verifier, and how far the round goes
 pub record Hearing (v w : Verifier) (k : ℕ) : Type 0 where
-  pub rounds : w .rounds ≡ v .rounds
+  pub rounds : w .start .rounds ≡ v .start .rounds
   pub most : w .round ≤ v .round + k
 
 module _ (p : ℕ) where
@@ -48,7 +50,7 @@ module _ (p : ℕ) where
   unfolding hearsNext hears passedWith failedNow
   heard-step v m =
       either (λ w. Hearing v w 1) (v .failed) v _ (record { rounds = refl; most = omega arith })
-      (either (λ (s : Step). Hearing v (s .verifier) 1) (eqb (passes p m) (v .claim)) _ _ (record { rounds = refl; most = omega arith })
+      (either (λ (s : Replied). Hearing v (s .verifier) 1) (eqb (passes p m) (v .claim)) _ _ (record { rounds = refl; most = omega arith })
       (record { rounds = refl; most = omega arith }))
 
   pub heard-first : (v : Verifier) (m : ℕ → Message) (k : ℕ) → Hearing v (hearsFirst p v m k) k
@@ -68,6 +70,16 @@ module _ (p : ℕ) where
   unfolding hearsFirst
   one-heard v m k e s = rw (add-one k) (s ∙ ap (λ w. hearsNext p w (m k)) e)
 
+  pub heard-next : (v : Verifier) {m l : Message} {u : Verifier} → v .failed ≡ false → m ≡ l → u ≡ hears p v m .verifier → u ≡ hearsNext p v l
+  unfolding hearsNext
+  heard-next v {m} {l} h same e =
+      e ∙ ap (λ x. hears p v x .verifier) same ∙ sym (ap (λ b. cond b v (hears p v l .verifier)) h)
+
+-- the modulus that the reader of files works by
+pub modulus-read : (s : Start) → 2147483647 ≡ modulusOf s
+unfolding modulusOf modulus
+modulus-read s = refl
+
 pub not-nothing : {A : Type 0} {x : A} → nothing ≡ found x → ⊥
 not-nothing e = let z : _≡_ {A = ℕ} 0 1 = cc in omega arith
 
@@ -83,16 +95,16 @@ message-read file k h e =
     ap (λ (m : wire.Message). messageOf3 (m .even) (m .cross) (m .odd)) (found-same (e ∙ message-there file k h))
 
 -- the end values of a file for this verifier
-module _ (v : Verifier) (file : List ℕ) (own : proofRounds file ≡ v .rounds) (long : 18 + 12 * v .rounds ≤ length file) where
-  pub ends-there : proofEnds file ≡ found (record { f = proofNumber file (3 * v .rounds); g = proofNumber file (3 * v .rounds + 1) })
+module _ (v : Verifier) (file : List ℕ) (own : proofRounds file ≡ v .start .rounds) (long : 18 + 12 * v .start .rounds ≤ length file) where
+  pub ends-there : proofEnds file ≡ found (record { f = proofNumber file (3 * v .start .rounds); g = proofNumber file (3 * v .start .rounds + 1) })
   unfolding proofEnds
   ends-there =
-      let e₀ : 10 + 12 * v .rounds ≡ 10 + 4 * (3 * v .rounds) = omega arith in
-      let e₁ : 14 + 12 * v .rounds ≡ 10 + 4 * (3 * v .rounds + 1) = omega arith in
-      rw (own, le-leb (proofSize (v .rounds)) (length file) long, e₀, e₁)
+      let e₀ : 10 + 12 * v .start .rounds ≡ 10 + 4 * (3 * v .start .rounds) = omega arith in
+      let e₁ : 14 + 12 * v .start .rounds ≡ 10 + 4 * (3 * v .start .rounds + 1) = omega arith in
+      rw (own, le-leb (proofSize (v .start .rounds)) (length file) long, e₀, e₁)
 
   module _ {f g : ℕ} (read : found (record { f = f; g = g }) ≡ proofEnds file) where
-    ends-read : (f ≡ proofNumber file (3 * v .rounds)) × (g ≡ proofNumber file (3 * v .rounds + 1))
+    ends-read : (f ≡ proofNumber file (3 * v .start .rounds)) × (g ≡ proofNumber file (3 * v .start .rounds + 1))
     ends-read =
         let e = found-same (read ∙ ends-there) in
         (ap (λ (x : Ends). x .f) e, ap (λ (x : Ends). x .g) e)
@@ -110,13 +122,13 @@ module _ (v : Verifier) (file : List ℕ) (own : proofRounds file ≡ v .rounds)
     same-ends e h = rw (← ends-read .0, ← ends-read .1, eq-eqb f (v .fsum) e, eq-eqb g (v .gsum) h)
 
 module _ (p : ℕ) (v : Verifier) (file : List ℕ) where
-  pub close-keeps : (claim : ℕ) {s : Step} → s ≡ closes v claim → (s .verifier .round ≡ v .round) × (s .verifier .rounds ≡ v .rounds)
+  pub close-keeps : (claim : ℕ) {u : Verifier} → u ≡ closedWith v claim → (u .round ≡ v .round) × (u .start .rounds ≡ v .start .rounds)
   unfolding closedWith
-  close-keeps claim e = (ap (λ s. s .verifier .round) e, ap (λ s. s .verifier .rounds) e)
+  close-keeps claim e = (ap (λ u. u .round) e, ap (λ u. u .start .rounds) e)
 
   -- one step after the other, as the code takes them
-  pub judged : (total : ℤ) (claim : ℕ) {s : Step} {heard w : Verifier} {o : Outcome Finding} → claim ≡ image p total → s ≡ closes v claim
-      → heard ≡ hearsFirst p (s .verifier) (fileMessage file) (s .verifier .rounds) → w ≡ compares heard file
+  pub judged : (total : ℤ) (claim : ℕ) {u heard w : Verifier} {o : Outcome Finding} → claim ≡ image p total → u ≡ closedWith v claim
+      → heard ≡ hearsFirst p u (fileMessage file) (u .start .rounds) → w ≡ compares heard file
       → o ≡ answered (finds p w)
       → _≡_ {A = Verifier × Outcome Finding} (w, o) (leavesJudged v (answered (judges p v total file)))
   unfolding afterFile closedWith
@@ -124,7 +136,7 @@ module _ (p : ℕ) (v : Verifier) (file : List ℕ) where
       let all : w ≡ afterFile p v total file =
       e
       ∙ ap (λ u. compares u file)
-      (h ∙ ap (λ s. hearsFirst p (s .verifier) (fileMessage file) (s .verifier .rounds)) (b ∙ ap (closes v) a))
+      (h ∙ ap (λ x. hearsFirst p x (fileMessage file) (x .start .rounds)) (b ∙ ap (closedWith v) a))
       in
       ap₂ (λ x y. (x, y)) all (d ∙ ap (λ u. answered (finds p u)) all)
 
@@ -133,15 +145,15 @@ module _ (p : ℕ) (v : Verifier) (file : List ℕ) where
   unfolding proof
   row-open a = rw a
 
-  pub row-taken : passOpen v ≡ true → eqb (v .taken) (v .items) ≡ false → refused number.items ≡ proof p v file
+  pub row-taken : passOpen v ≡ true → eqb (v .taken) (v .start .items) ≡ false → refused number.items ≡ proof p v file
   unfolding proof
   row-taken a b = rw (a, b)
 
-  pub row-plain : passOpen v ≡ true → eqb (v .taken) (v .items) ≡ true → v .plain ≡ false → refused number.order ≡ proof p v file
+  pub row-plain : passOpen v ≡ true → eqb (v .taken) (v .start .items) ≡ true → v .start .plain ≡ false → refused number.order ≡ proof p v file
   unfolding proof
   row-plain a b e = rw (a, b, e)
 
-  pub row-file : passOpen v ≡ true → eqb (v .taken) (v .items) ≡ true → v .plain ≡ true → {o : Outcome Head} → o ≡ readProofOf p (v .rounds) file
+  pub row-file : passOpen v ≡ true → eqb (v .taken) (v .start .items) ≡ true → v .start .plain ≡ true → {o : Outcome Head} → o ≡ readProofOf p (v .start .rounds) file
       → withTotal o (λ total. judges p v total file) ≡ proof p v file
   unfolding proof
   row-file a b e f = rw (a, b, e, f)
@@ -149,13 +161,13 @@ module _ (p : ℕ) (v : Verifier) (file : List ℕ) where
   -- what a file that reads well has
   pub record Ready : Type 0 where
     pub first : v .round ≡ 0
-    pub few : v .rounds ≤ 15
-    pub own : proofRounds file ≡ v .rounds
-    pub long : 18 + 12 * v .rounds ≤ length file
+    pub few : v .start .rounds ≤ 15
+    pub own : proofRounds file ≡ v .start .rounds
+    pub long : 18 + 12 * v .start .rounds ≤ length file
 
-  pub file-ready : passOpen v ≡ true → {head : Head} → answered head ≡ readProofOf p (v .rounds) file → Ready
+  pub file-ready : passOpen v ≡ true → {head : Head} → answered head ≡ readProofOf p (v .start .rounds) file → Ready
   file-ready o {head} e =
-      let a = own-good p (v .rounds) file head (sym e) in
+      let a = own-good p (v .start .rounds) file head (sym e) in
       let f = open-says v o in
       let own = a .0 .rounds ∙ a .1 in
       record {

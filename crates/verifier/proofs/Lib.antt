@@ -1,5 +1,6 @@
 pub mod Invariant
 pub mod FileFacts
+pub mod CallRows
 pub mod Faults
 pub mod EndSums
 pub mod Verdicts

@@ -76,16 +76,16 @@ module _ (p : ℕ) (v : Verifier) (b : ℕ) (values : List ℕ) where
   F k = opensAt p v b values 0 k
 
   abbrev G : ℕ → Bool
-  G k = opensAt p v b values (3 * v .rounds) k
+  G k = opensAt p v b values (3 * v .start .rounds) k
 
   -- DEMAND 2, THE OPENING CHECK
-  pub opening-says : OpeningSays F G (v .rounds) (openingFinds p v b values)
+  pub opening-says : OpeningSays F G (v .start .rounds) (openingFinds p v b values)
   unfolding openingFinds pick
-  opening-says = pick-says F G (v .rounds)
+  opening-says = pick-says F G (v .start .rounds)
 
-  pub opening-yes : (openingFinds p v b values ≡ holds) ↔ (AllHold F (v .rounds) × AllHold G (v .rounds))
+  pub opening-yes : (openingFinds p v b values ≡ holds) ↔ (AllHold F (v .start .rounds) × AllHold G (v .start .rounds))
   unfolding openingFinds pick
   opening-yes = (
     (λ e. rw e at opening-says),
-    λ h. pick-holds F G (v .rounds) (h .0) (h .1),
+    λ h. pick-holds F G (v .start .rounds) (h .0) (h .1),
   )

@@ -24,13 +24,13 @@ use Rattle.vector.specs.Message as vector
 use Rattle.wire.specs.Proof.{proofSize, proofFile, proofValues, writeProof, writtenIn}
 use Rattle.wire.proofs.ProofOf.{own-file}
 use Rattle.wire.proofs.RoundTrip.{thirds, ReadsAs, good, messages-same, ends-same, write-reads-back}
+use Rattle.item.specs.Start.{countFits, listFits}
 use Rattle.verifier.specs.declared.Verifier.{Verifier}
 use Rattle.verifier.specs.Records.{yes}
-use Rattle.verifier.specs.WellFormed.{inCount}
-use Rattle.verifier.specs.Starts.{listed, freshVerifier}
-use Rattle.verifier.specs.Claims.{messageOf3}
+use Rattle.verifier.specs.Starts.{freshVerifier}
 use Rattle.verifier.specs.ProofFile.{fileMessage, Judgement, judges, proof, leavesJudged}
 use Rattle.verifier.specs.Trips.{claimAt, tripTotal, verdictOf, fileVerdictOf}
+use Rattle.verifier.proofs.CallRows.{same-message}
 use Rattle.verifier.proofs.FileFacts.{row-file}
 use Rattle.verifier.proofs.EndSums.{state, few}
 use Rattle.verifier.proofs.Verdicts.{AllPass, verdict-yes, true-messages, claim-of-same}
@@ -44,9 +44,6 @@ Lists n m ms =
     (r : ℕ) → r < n
     → (getD ms (3 * r) 0 ≡ m r .even) × (getD ms (3 * r + 1) 0 ≡ m r .cross) × (getD ms (3 * r + 2) 0 ≡ m r .odd)
 
-same-message : {a b c d e f : ℕ} → a ≡ d → b ≡ e → c ≡ f → messageOf3 a b c ≡ messageOf3 d e f
-same-message x y z = cc
-
 read-message : (p : ℕ) (file : List ℕ) (n : ℕ) (t : ℤ) (ms : List ℕ) (f g : ℕ) → ReadsAs p file n t ms f g → (m : ℕ → Message) → Lists n m ms
     → (i : ℕ) → i < n → fileMessage file i ≡ m i
 read-message p file n t ms f g r m l i h =
@@ -54,8 +51,8 @@ read-message p file n t ms f g r m l i h =
     let x = l i h in
     same-message (e .0 ∙ x .0) (e .1 ∙ x .1) (e .2 ∙ x .2)
 
-module _ (p items : ℕ) (cs : List ℕ) (readings : ℕ → ℤ) (weights : Vector) (large : maxWeight < p) (count : inCount items ≡ true)
-    (list : listed p (roundsOf items) cs ≡ true) (fine : (i : ℕ) → i < items → weights i ≤ maxWeight) where
+module _ (p items : ℕ) (cs : List ℕ) (readings : ℕ → ℤ) (weights : Vector) (large : maxWeight < p) (count : countFits items ≡ true)
+    (list : listFits p (roundsOf items) cs ≡ true) (fine : (i : ℕ) → i < items → weights i ≤ maxWeight) where
   abbrev n : ℕ
   n = roundsOf items
 
@@ -74,16 +71,16 @@ module _ (p items : ℕ) (cs : List ℕ) (readings : ℕ → ℤ) (weights : Vec
   sums : (v .fsum ≡ endF) × (v .gsum ≡ endG)
   sums = plain-ends p items cs readings weights large count list fine
 
-  rounds-own : v .rounds ≡ n
+  rounds-own : v .start .rounds ≡ n
   unfolding freshVerifier state
-  rounds-own = ap (λ w. w .rounds) reached
+  rounds-own = ap (λ w. w .start .rounds) reached
 
   -- the verdict by the challenges, n and end values of the trip
   plain-finds : (file : List ℕ) {j : Judgement} → proof p v file ≡ answered j → j .finding ≡ fileVerdictOf p (at cs) n file endF endG
   unfolding freshVerifier state
   plain-finds file e =
       file-finds p v file (proof-answered p v file e)
-      ∙ ap (λ w. fileVerdictOf p (at (w .challenges)) (w .rounds) file (v .fsum) (v .gsum)) reached
+      ∙ ap (λ w. fileVerdictOf p (at (w .challenges)) (w .start .rounds) file (v .fsum) (v .gsum)) reached
       ∙ file-verdict-same p n (at (kept p items cs readings weights large count list fine)) (at cs)
       (plain-agree p items cs readings weights large count list fine) file (v .fsum) (v .gsum)
       ∙ ap₂ (fileVerdictOf p (at cs) n file) (sums .0) (sums .1)
@@ -129,9 +126,9 @@ module _ (p items : ℕ) (cs : List ℕ) (readings : ℕ → ℤ) (weights : Vec
       let o : proof p v file ≡ answered (judges p v total file) =
       sym
       (row-file p v file (plain-open p items cs readings weights large count list fine)
-      (ap (λ w. eqb (w .taken) (w .items)) reached ∙ eq-eqb items items refl)
-      (ap (λ w. w .plain) reached)
-      (sym (own-file p (v .rounds) file _ g (sym rounds-own))))
+      (ap (λ w. eqb (w .taken) (w .start .items)) reached ∙ eq-eqb items items refl)
+      (ap (λ w. w .start .plain) reached)
+      (sym (own-file p (v .start .rounds) file _ g (sym rounds-own))))
       in
       ap (λ x. leavesJudged v x .1) o
       ∙ ap answered

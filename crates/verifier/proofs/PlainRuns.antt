@@ -6,8 +6,7 @@ use mathlib.Core.List.{List}
 use Prim.Native.Nat.{ℕ, zero, suc, _*_, _^_, _≤_, _<_}
 use native.Mathlib.Omega.{arith}
 use lib.IntN.{ℤ, pos, _*ℤ_, +ℤ-comm}
-use lib.ListN.{replicate}
-use borrow.Author.Tests.{lt-ltb}
+use borrow.Author.Tests.{le-leb}
 use Rattle.algebra.specs.Mod.{addMod, mulMod}
 use Rattle.algebra.proofs.Congruence.{residue-small}
 use Rattle.refusal.specs.Outcome.{answered}
@@ -26,16 +25,16 @@ use Rattle.vector.proofs.Rounds.{rounds-enough}
 use Rattle.vector.proofs.Sums.{running-product}
 use Rattle.vector.proofs.Overwrite.{fifteen-at}
 use Rattle.vector.proofs.Messages.{dot-padded}
+use Rattle.item.specs.Start.{countFits, listFits, plainStart}
+use Rattle.item.proofs.PartsRows.{reading-taken}
 use Rattle.verifier.specs.declared.Verifier.{Verifier}
-use Rattle.verifier.specs.declared.Answer.the-variants as answer
 use Rattle.verifier.specs.Records.{leaves, yes}
-use Rattle.verifier.specs.WellFormed.{inCount}
-use Rattle.verifier.specs.Starts.{listed, freshVerifier, plainVerifier}
-use Rattle.verifier.specs.Sums.{oneMore}
+use Rattle.verifier.specs.Starts.{freshVerifier, plainVerifier}
+use Rattle.verifier.specs.Sums.{entering}
 use Rattle.verifier.specs.Claims.{closedWith}
 use Rattle.verifier.specs.Calls.{passOpen, close, verdict}
-use Rattle.verifier.specs.Trips.{afterCalls, plainItems, messages, verdictOf, tripTotal}
-use Rattle.verifier.proofs.EndSums.{entered, state, open-while, item-taken, plain-parts, few, limit}
+use Rattle.verifier.specs.Trips.{afterCalls, givenItems, readingItems, messages, verdictOf, tripTotal}
+use Rattle.verifier.proofs.EndSums.{state, few, limit}
 use Rattle.verifier.proofs.Verdicts.{true-messages}
 use Rattle.verifier.proofs.Runs.{AllReduced, list-length, Run, reaches, ready-open, run-ends, run-verdict, close-next, message-reduced}
 
@@ -62,51 +61,38 @@ module _ (p items : ℕ) (cs : List ℕ) (readings : ℕ → ℤ) (weights : Vec
 
   -- the verifier after the items
   abbrev pub afterPlain : Verifier
-  afterPlain = afterCalls (plainItems p readings weights) (plainVerifier items cs) items
+  afterPlain = afterCalls (givenItems p (readingItems readings weights)) (plainVerifier items cs) items
 
-  module _ (large : maxWeight < p) (count : inCount items ≡ true) (list : listed p (roundsOf items) cs ≡ true)
+  module _ (large : maxWeight < p) (count : countFits items ≡ true) (list : listFits p (roundsOf items) cs ≡ true)
       (fine : (i : ℕ) → i < items → weights i ≤ maxWeight) where
     abbrev pub kept : List ℕ
     kept = fifteen (roundsOf items) cs
 
     abbrev pub plainState : ℕ → Verifier
-    plainState = state p items count true (replicate 15 0) kept (λ i. image p (readings i)) weights
-
-    plain-taken : (m : ℕ) → m < items
-        → plainItems p readings weights (plainState m) m
-        ≡ answered (record { verifier = oneMore p (plainState m) (image p (readings m)) (weights m); answer = answer.Taken })
-    unfolding freshVerifier state
-    plain-taken m h =
-        item-taken p (plainState m) _ (readings m) (weights m)
-        (open-while p items count true (replicate 15 0) kept (λ i. image p (readings i)) weights m (omega arith))
-        (lt-ltb m items h) refl (plain-parts p (readings m) (weights m) (fine m h))
-
-    plain-same : (i : ℕ) → i < items
-        → entered p (freshVerifier items (roundsOf items) true (replicate 15 0) kept) (λ i. image p (readings i)) i ≡ image p (readings i)
-    unfolding freshVerifier
-    plain-same i h = refl
+    plainState = state p (plainStart items) (readingItems readings weights) kept
 
     pub plain-agree : (k : ℕ) → k < roundsOf items → at kept k ≡ at cs k
     plain-agree = fifteen-at (roundsOf items) cs (few items count) (omega (arith, list-length p (roundsOf items) cs list))
 
+    plain-same : (i : ℕ) → i < items → entering p (plainStart items) i (image p (readings i)) ≡ image p (readings i)
+    unfolding entering
+    plain-same i h = refl
+
     abbrev plain-run : Run p
     plain-run =
         record {
-          items = items;
+          start = plainStart items;
           count = count;
-          plain = true;
-          twists = replicate 15 0;
+          own = refl;
           challenges = kept;
           c = at cs;
           agree = plain-agree;
-          f = λ i. image p (readings i);
-          g = weights;
+          given = readingItems readings weights;
+          fits = λ i h. reading-taken p (plainStart items) i (readings i) (weights i) refl (le-leb (weights i) maxWeight (fine i h));
           F = λ i. image p (readings i);
           same = plain-same;
           reduced-f = λ i h. image-residue p (readings i);
           reduced-g = λ i h. residue-small p (weights i) (omega (arith, fine i h));
-          calls = plainItems p readings weights;
-          taken = plain-taken;
         }
 
     -- the record after the items

@@ -35,16 +35,16 @@ use Rattle.verifier.proofs.FileVerdicts.{EndsAre, FileSays, same-ends, 
 -- what an answered call says of the record and of the file
 pub record Answered (p : ℕ) (v : Verifier) (file : List ℕ) (j : Judgement) : Type 0 where
   pub open-pass : passOpen v ≡ true
-  pub taken : eqb (v .taken) (v .items) ≡ true
-  pub plain : v .plain ≡ true
-  pub good : GoodProof p file (record { rounds = v .rounds; total = proofTotal file })
+  pub taken : eqb (v .taken) (v .start .items) ≡ true
+  pub plain : v .start .plain ≡ true
+  pub good : GoodProof p file (record { rounds = v .start .rounds; total = proofTotal file })
   pub judged : j ≡ judges p v (proofTotal file) file
 
-file-answered : (p : ℕ) (v : Verifier) (file : List ℕ) {j : Judgement} (o : Outcome Head) → readProofOf p (v .rounds) file ≡ o
+file-answered : (p : ℕ) (v : Verifier) (file : List ℕ) {j : Judgement} (o : Outcome Head) → readProofOf p (v .start .rounds) file ≡ o
     → withTotal o (λ total. judges p v total file) ≡ answered j
-    → GoodProof p file (record { rounds = v .rounds; total = proofTotal file }) × (j ≡ judges p v (proofTotal file) file)
+    → GoodProof p file (record { rounds = v .start .rounds; total = proofTotal file }) × (j ≡ judges p v (proofTotal file) file)
 file-answered p v file (answered head) e h =
-    let a = own-good p (v .rounds) file head e in
+    let a = own-good p (v .start .rounds) file head e in
     let g = a .0 in (
       record { frame = g .frame; rounds = g .rounds ∙ a .1; total = refl; limits = g .limits; below = g .below },
       sym (answered-same h) ∙ ap (λ t. judges p v t file) (sym (g .total)),
@@ -56,9 +56,9 @@ pub proof-answered : (p : ℕ) (v : Verifier) (file : List ℕ) {j : Judgement} 
 unfolding proof
 proof-answered p v file e =
     let a = require-answered (passOpen v) number.order _ e in
-    let b = require-answered (eqb (v .taken) (v .items)) number.items _ (a .1) in
-    let c = require-answered (v .plain) number.order _ (b .1) in
-    let d = file-answered p v file (readProofOf p (v .rounds) file) refl (c .1) in
+    let b = require-answered (eqb (v .taken) (v .start .items)) number.items _ (a .1) in
+    let c = require-answered (v .start .plain) number.order _ (b .1) in
+    let d = file-answered p v file (readProofOf p (v .start .rounds) file) refl (c .1) in
     record { open-pass = a .0; taken = b .0; plain = c .0; good = d .0; judged = d .1 }
 
 module _ (p : ℕ) (v : Verifier) (file : List ℕ) {j : Judgement} (a : Answered p v file j) where
@@ -67,13 +67,13 @@ module _ (p : ℕ) (v : Verifier) (file : List ℕ) {j : Judgement} (a : Answere
   closedSingly = leaves v (close p v (proofTotal file)) .verifier
 
   abbrev pub heardSingly : Verifier
-  heardSingly = afterCalls (messages p (fileMessage file)) closedSingly (v .rounds)
+  heardSingly = afterCalls (messages p (fileMessage file)) closedSingly (v .start .rounds)
 
   -- 8 and 10 as for any close
   pub close-answered : close p v (proofTotal file) ≡ answered (closes v (image p (proofTotal file)))
   unfolding inLimits
   close-answered =
-      close-next p v (proofTotal file) (a .open-pass) (eqb-true (v .taken) (v .items) (a .taken)) (a .plain) (le-leb _ _ (a .good .limits))
+      close-next p v (proofTotal file) (a .open-pass) (eqb-true (v .taken) (v .start .items) (a .taken)) (a .plain) (le-leb _ _ (a .good .limits))
 
   was-formed : wellFormed v ≡ true
   unfolding passOpen
@@ -97,11 +97,11 @@ module _ (p : ℕ) (v : Verifier) (file : List ℕ) {j : Judgement} (a : Answere
         first = o .first;
       }
 
-  reduced : AllReduced p (v .rounds) (fileMessage file)
+  reduced : AllReduced p (v .start .rounds) (fileMessage file)
   unfolding allReduced3
   reduced i h =
       let g = a .good in
-      let below : (k : ℕ) → k < 3 * v .rounds + 2 → ltb (proofNumber file k) p ≡ true =
+      let below : (k : ℕ) → k < 3 * v .start .rounds + 2 → ltb (proofNumber file k) p ≡ true =
       λ k l. lt-ltb (proofNumber file k) p (g .below k (omega (arith, g .rounds)))
       in
       rw (below (3 * i) (omega arith), below (3 * i + 1) (omega arith), below (3 * i + 2) (omega arith))
@@ -116,8 +116,8 @@ module _ (p : ℕ) (v : Verifier) (file : List ℕ) {j : Judgement} (a : Answere
   as-singly =
       ap (λ (i : Judgement). i .verifier) (a .judged)
       ∙ ap (λ w. compares w file)
-      (singly p closed closed-start (fileMessage file) reduced (v .rounds) (omega arith)
-      ∙ ap (λ w. afterCalls (messages p (fileMessage file)) w (v .rounds)) (sym closed-same))
+      (singly p closed closed-start (fileMessage file) reduced (v .start .rounds) (omega arith)
+      ∙ ap (λ w. afterCalls (messages p (fileMessage file)) w (v .start .rounds)) (sym closed-same))
 
   compared-same : {b : Bool} → endsAgree v file ≡ b → j .verifier ≡ cond b heardSingly (failedNow heardSingly)
   unfolding compares closedWith endsAgree
@@ -125,8 +125,8 @@ module _ (p : ℕ) (v : Verifier) (file : List ℕ) {j : Judgement} (a : Answere
       as-singly
       ∙ ap (λ b. cond b heardSingly (failedNow heardSingly))
       (ap (λ w. endsAgree w file)
-      (ap (λ w. afterCalls (messages p (fileMessage file)) w (v .rounds)) closed-same
-      ∙ sym (singly p closed closed-start (fileMessage file) reduced (v .rounds) (omega arith)))
+      (ap (λ w. afterCalls (messages p (fileMessage file)) w (v .start .rounds)) closed-same
+      ∙ sym (singly p closed closed-start (fileMessage file) reduced (v .start .rounds) (omega arith)))
       ∙ agree-same p closed closed-start file reduced ∙ e)
 
   -- GIVEN AGAIN, after a no as well
@@ -137,15 +137,15 @@ module _ (p : ℕ) (v : Verifier) (file : List ℕ) {j : Judgement} (a : Answere
       ∙ ap (λ (i : Judgement). answered (i .finding)) (sym (a .judged))
 
   -- where the end values are the verifier's own, the record and the verdict of the calls given singly; else a no after them
-  pub ends-own : EndsAre file (v .rounds) (v .fsum) (v .gsum) → (j .verifier ≡ heardSingly) × (verdict p heardSingly ≡ answered (j .finding))
+  pub ends-own : EndsAre file (v .start .rounds) (v .fsum) (v .gsum) → (j .verifier ≡ heardSingly) × (verdict p heardSingly ≡ answered (j .finding))
   unfolding endsAgree
   ends-own h =
-      let e = compared-same (ends-same p (at (v .challenges)) file (v .rounds) (v .fsum) (v .gsum) h) in
+      let e = compared-same (ends-same p (at (v .challenges)) file (v .start .rounds) (v .fsum) (v .gsum) h) in
       (e, ap (verdict p) (sym e) ∙ given-again)
 
-  pub ends-other : (EndsAre file (v .rounds) (v .fsum) (v .gsum) → ⊥) → j .verifier ≡ failedNow heardSingly
+  pub ends-other : (EndsAre file (v .start .rounds) (v .fsum) (v .gsum) → ⊥) → j .verifier ≡ failedNow heardSingly
   unfolding endsAgree
-  ends-other h = compared-same (fails (endsAgree v file) (λ e. h (same-ends p (at (v .challenges)) file (v .rounds) (v .fsum) (v .gsum) e)))
+  ends-other h = compared-same (fails (endsAgree v file) (λ e. h (same-ends p (at (v .challenges)) file (v .start .rounds) (v .fsum) (v .gsum) e)))
 
   -- no message is next, and no item, close or file
   pub no-more : (even cross odd : ℕ) → message p (j .verifier) even cross odd ≡ refused number.turn
@@ -161,16 +161,16 @@ module _ (p : ℕ) (v : Verifier) (file : List ℕ) {j : Judgement} (a : Answere
   file-formed = ap (λ (i : Judgement). wellFormed (i .verifier)) (a .judged) ∙ done .formed
 
   -- DEMAND 2 FOR A PROOF FILE
-  pub file-finds : j .finding ≡ fileVerdictOf p (at (v .challenges)) (v .rounds) file (v .fsum) (v .gsum)
+  pub file-finds : j .finding ≡ fileVerdictOf p (at (v .challenges)) (v .start .rounds) file (v .fsum) (v .gsum)
   unfolding afterFile closedWith fileVerdictOf endsAgree
   file-finds = ap (λ (i : Judgement). i .finding) (a .judged) ∙ compared-finds p closed closed-start file reduced
 
-  pub file-says : FileSays p (at (v .challenges)) file (v .rounds) (v .fsum) (v .gsum) (j .finding)
-  file-says = subst (FileSays p (at (v .challenges)) file (v .rounds) (v .fsum) (v .gsum)) (sym file-finds) (file-verdict-says p (at (v .challenges)) file (v .rounds) (v .fsum) (v .gsum))
+  pub file-says : FileSays p (at (v .challenges)) file (v .start .rounds) (v .fsum) (v .gsum) (j .finding)
+  file-says = subst (FileSays p (at (v .challenges)) file (v .start .rounds) (v .fsum) (v .gsum)) (sym file-finds) (file-verdict-says p (at (v .challenges)) file (v .start .rounds) (v .fsum) (v .gsum))
 
-  pub file-yes : (j .finding ≡ yes) ↔ FileSays p (at (v .challenges)) file (v .rounds) (v .fsum) (v .gsum) yes
+  pub file-yes : (j .finding ≡ yes) ↔ FileSays p (at (v .challenges)) file (v .start .rounds) (v .fsum) (v .gsum) yes
   file-yes =
-      let x = file-verdict-yes p (at (v .challenges)) file (v .rounds) (v .fsum) (v .gsum) in
+      let x = file-verdict-yes p (at (v .challenges)) file (v .start .rounds) (v .fsum) (v .gsum) in
       ((λ e. x .0 (sym file-finds ∙ e)), λ h. file-finds ∙ x .1 h)
 
 pub proof-kept : (p : ℕ) (v : Verifier) (file : List ℕ) → wellFormed v ≡ true → wellFormed (leavesJudged v (proof p v file) .0) ≡ true

@@ -10,9 +10,8 @@ use Rattle.algebra.specs.Mod.{mulMod}
 use Rattle.vector.specs.Vector.{at}
 use Rattle.vector.specs.Message.{Message, passes}
 use Rattle.verifier.specs.declared.Verifier.{Verifier}
-use Rattle.verifier.specs.declared.Step.{Step}
-use Rattle.verifier.specs.declared.Answer.the-variants as answer
-use Rattle.verifier.specs.Records.{leaves, no}
+use Rattle.verifier.specs.Reply as reply
+use Rattle.verifier.specs.Records.{Replied, leaves, no}
 use Rattle.verifier.specs.WellFormed.{wellFormed}
 use Rattle.verifier.specs.Claims.{passedWith, failedNow, hears, finds}
 use Rattle.verifier.specs.Calls.{messageTurn, allReduced3, message, verdictTurn, verdict}
@@ -28,12 +27,12 @@ use Rattle.verifier.proofs.Verdicts.{Closed, withClaim, ended, verdict-
 pub record Going (v w : Verifier) (k : ℕ) : Type 0 where
   pub formed : wellFormed w ≡ true
   pub closed : w .closed ≡ true
-  pub rounds : w .rounds ≡ v .rounds
+  pub rounds : w .start .rounds ≡ v .start .rounds
   pub place : w .failed ≡ false → w .round ≡ k
 
 module _ (p : ℕ) (v : Verifier) where
   -- a message heard in a row is the call `message`
-  next-call : (w : Verifier) (k : ℕ) (m : Message) → Going v w k → k < v .rounds → allReduced3 p (m .even) (m .cross) (m .odd) ≡ true
+  next-call : (w : Verifier) (k : ℕ) (m : Message) → Going v w k → k < v .start .rounds → allReduced3 p (m .even) (m .cross) (m .odd) ≡ true
       → hearsNext p w m ≡ leaves w (message p w (m .even) (m .cross) (m .odd)) .verifier
   unfolding hearsNext messageTurn
   next-call w k m g h r = by (w .failed) refl
@@ -41,10 +40,10 @@ module _ (p : ℕ) (v : Verifier) where
       by : (b : Bool) → w .failed ≡ b → cond b w (hears p w m .verifier) ≡ leaves w (message p w (m .even) (m .cross) (m .odd)) .verifier
       by true e = sym (ap (λ o. leaves w o .verifier) (message-refused p w m (g .formed) (rw (g .closed, e))))
       by false e =
-          let turn : messageTurn w ≡ true = rw (g .closed, e, lt-ltb (w .round) (w .rounds) (omega (arith, g .place e, g .rounds))) in
+          let turn : messageTurn w ≡ true = rw (g .closed, e, lt-ltb (w .round) (w .start .rounds) (omega (arith, g .place e, g .rounds))) in
           sym (ap (λ o. leaves w o .verifier) (message-heard p w m (g .formed) turn r))
 
-  next-going : (w : Verifier) (k : ℕ) (m : Message) → Going v w k → k < v .rounds → allReduced3 p (m .even) (m .cross) (m .odd) ≡ true
+  next-going : (w : Verifier) (k : ℕ) (m : Message) → Going v w k → k < v .start .rounds → allReduced3 p (m .even) (m .cross) (m .odd) ≡ true
       → Going v (hearsNext p w m) (suc k)
   unfolding hearsNext hears passedWith failedNow
   next-going w k m g h r =
@@ -57,12 +56,12 @@ module _ (p : ℕ) (v : Verifier) where
       }
     where
       Keeps : Verifier → Type 0
-      Keeps u = (u .closed ≡ true) × (u .rounds ≡ v .rounds) × (u .failed ≡ false → u .round ≡ suc k)
+      Keeps u = (u .closed ≡ true) × (u .start .rounds ≡ v .start .rounds) × (u .failed ≡ false → u .round ≡ suc k)
 
       heard : (b : Bool) → w .failed ≡ false
           → Keeps
-          (cond {A = Step} b (record { verifier = passedWith p w m; answer = answer.Passed })
-          (record { verifier = failedNow w; answer = answer.No (w .round) })
+          (cond {A = Replied} b (record { verifier = passedWith p w m; reply = reply.passed })
+          (record { verifier = failedNow w; reply = reply.no (w .round) })
           .verifier)
       heard true e = (g .closed, g .rounds, λ x. omega (arith, g .place e))
       heard false e = (g .closed, g .rounds, λ x. absurd (true≢false x))
@@ -72,14 +71,14 @@ module _ (p : ℕ) (v : Verifier) where
       step false e = heard (eqb (passes p m) (w .claim)) e
 
   -- so are all of them
-  module _ (start : Closed v) (m : ℕ → Message) (reduced : AllReduced p (v .rounds) m) where
-    all-going : (k : ℕ) → k ≤ v .rounds → Going v (hearsFirst p v m k) k
+  module _ (start : Closed v) (m : ℕ → Message) (reduced : AllReduced p (v .start .rounds) m) where
+    all-going : (k : ℕ) → k ≤ v .start .rounds → Going v (hearsFirst p v m k) k
     unfolding hearsFirst
     all-going zero h = record { formed = start .formed; closed = start .closed; rounds = refl; place = λ e. start .first }
     all-going (suc k) h =
         next-going (hearsFirst p v m k) k (m k) (all-going k (omega arith)) (omega arith) (reduced k (omega arith))
 
-    pub singly : (k : ℕ) → k ≤ v .rounds → hearsFirst p v m k ≡ afterCalls (messages p m) v k
+    pub singly : (k : ℕ) → k ≤ v .start .rounds → hearsFirst p v m k ≡ afterCalls (messages p m) v k
     unfolding hearsFirst afterCalls
     singly zero h = refl
     singly (suc k) h =
@@ -93,19 +92,19 @@ pub record Done (w : Verifier) : Type 0 where
   pub turn : verdictTurn w ≡ true
   pub over : messageTurn w ≡ false
 
-turn-done : (w : Verifier) → w .closed ≡ true → (w .failed ≡ false → w .round ≡ w .rounds) → (verdictTurn w ≡ true) × (messageTurn w ≡ false)
+turn-done : (w : Verifier) → w .closed ≡ true → (w .failed ≡ false → w .round ≡ w .start .rounds) → (verdictTurn w ≡ true) × (messageTurn w ≡ false)
 unfolding verdictTurn messageTurn
 turn-done w c h = by (w .failed) refl
   where
     by : (b : Bool) → w .failed ≡ b
-        → (cond (w .closed) (cond b true (eqb (w .round) (w .rounds))) false ≡ true)
-        × (cond (w .closed) (cond b false (ltb (w .round) (w .rounds))) false ≡ false)
+        → (cond (w .closed) (cond b true (eqb (w .round) (w .start .rounds))) false ≡ true)
+        × (cond (w .closed) (cond b false (ltb (w .round) (w .start .rounds))) false ≡ false)
     by true e = (rw c, rw c)
     by false e =
         let last = h e in
-        (rw (c, eq-eqb (w .round) (w .rounds) last), rw (c, le-ltb (w .round) (w .rounds) (omega arith)))
+        (rw (c, eq-eqb (w .round) (w .start .rounds) last), rw (c, le-ltb (w .round) (w .start .rounds) (omega arith)))
 
-module _ (v w : Verifier) (g : Going v w (v .rounds)) where
+module _ (v w : Verifier) (g : Going v w (v .start .rounds)) where
   done-heard : Done w
   done-heard =
       let t = turn-done w (g .closed) (λ e. g .place e ∙ sym (g .rounds)) in
@@ -142,25 +141,25 @@ unfolding finds failedNow
 failed-finds p w = refl
 
 -- the verdict after the messages and the end values, from a closed verifier
-module _ (p : ℕ) (v : Verifier) (start : Closed v) (file : List ℕ) (reduced : AllReduced p (v .rounds) (fileMessage file)) where
+module _ (p : ℕ) (v : Verifier) (start : Closed v) (file : List ℕ) (reduced : AllReduced p (v .start .rounds) (fileMessage file)) where
   abbrev heard : Verifier
-  heard = hearsFirst p v (fileMessage file) (v .rounds)
+  heard = hearsFirst p v (fileMessage file) (v .start .rounds)
 
   abbrev failing : ℕ
-  failing = firstFailed p (at (v .challenges)) (v .rounds) (v .claim) (fileMessage file)
+  failing = firstFailed p (at (v .challenges)) (v .start .rounds) (v .claim) (fileMessage file)
 
-  pub heard-going : Going v heard (v .rounds)
-  heard-going = all-going p v start (fileMessage file) reduced (v .rounds) (omega arith)
+  pub heard-going : Going v heard (v .start .rounds)
+  heard-going = all-going p v start (fileMessage file) reduced (v .start .rounds) (omega arith)
 
-  heard-ended : heard ≡ withClaim v (claimAt p (at (v .challenges)) (v .claim) (fileMessage file) failing) failing (ltb failing (v .rounds))
-  heard-ended = singly p v start (fileMessage file) reduced (v .rounds) (omega arith) ∙ ended p v start (fileMessage file) reduced
+  heard-ended : heard ≡ withClaim v (claimAt p (at (v .challenges)) (v .claim) (fileMessage file) failing) failing (ltb failing (v .start .rounds))
+  heard-ended = singly p v start (fileMessage file) reduced (v .start .rounds) (omega arith) ∙ ended p v start (fileMessage file) reduced
 
-  heard-finds : finds p heard ≡ verdictOf p (at (v .challenges)) (v .rounds) (v .claim) (fileMessage file) (mulMod p (v .fsum) (v .gsum))
+  heard-finds : finds p heard ≡ verdictOf p (at (v .challenges)) (v .start .rounds) (v .claim) (fileMessage file) (mulMod p (v .fsum) (v .gsum))
   heard-finds =
       let d = done-heard v heard heard-going in
       answered-same
       (sym (verdict-found p heard (d .formed) (d .turn))
-      ∙ ap (verdict p) (singly p v start (fileMessage file) reduced (v .rounds) (omega arith))
+      ∙ ap (verdict p) (singly p v start (fileMessage file) reduced (v .start .rounds) (omega arith))
       ∙ verdict-after p v start (fileMessage file) reduced)
 
   pub agree-same : endsAgree heard file ≡ endsAgree v file
@@ -171,13 +170,13 @@ module _ (p : ℕ) (v : Verifier) (start : Closed v) (file : List ℕ) (reduced 
   pub compared-finds :
       finds p (compares heard file)
       ≡ cond (endsAgree v file)
-      (verdictOf p (at (v .challenges)) (v .rounds) (v .claim) (fileMessage file) (mulMod p (v .fsum) (v .gsum)))
+      (verdictOf p (at (v .challenges)) (v .start .rounds) (v .claim) (fileMessage file) (mulMod p (v .fsum) (v .gsum)))
       (no failing)
   unfolding compares
   compared-finds = ap (λ b. finds p (cond b heard (failedNow heard))) agree-same ∙ by (endsAgree v file)
     where
       by : (b : Bool)
           → finds p (cond b heard (failedNow heard))
-          ≡ cond b (verdictOf p (at (v .challenges)) (v .rounds) (v .claim) (fileMessage file) (mulMod p (v .fsum) (v .gsum))) (no failing)
+          ≡ cond b (verdictOf p (at (v .challenges)) (v .start .rounds) (v .claim) (fileMessage file) (mulMod p (v .fsum) (v .gsum))) (no failing)
       by true = heard-finds
       by false = failed-finds p heard ∙ ap (λ w. no (w .round)) heard-ended

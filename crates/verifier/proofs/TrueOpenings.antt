@@ -75,12 +75,12 @@ module _ (f g : ℕ → Triple) (n : ℕ) where
       ∙ triple-of g n [] k h
 
 module _ {p : ℕ} (prime : Prime p) (odd : p % 2 ≡ 1) (b : ℕ) (nonzero : residue p b ≡ 0 → ⊥) (v : Verifier) (c : ℕ → ℕ)
-    (agree : (k : ℕ) → k < v .rounds → at (v .challenges) k ≡ c k) (f g : Vector) where
+    (agree : (k : ℕ) → k < v .start .rounds → at (v .challenges) k ≡ c k) (f g : Vector) where
   -- COMPLETENESS OF THE OPENING CHECK
-  pub true-opening-holds : openingFinds p v b (opening p (v .rounds) c f g b) ≡ holds
+  pub true-opening-holds : openingFinds p v b (opening p (v .start .rounds) c f g b) ≡ holds
   unfolding both-values
   true-opening-holds =
-      let n = v .rounds in
+      let n = v .start .rounds in
       let tf = triple p n c f b in
       let tg = triple p n c g b in
       opening-yes p v b (opening p n c f g b) .1 (

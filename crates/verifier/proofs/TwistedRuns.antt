@@ -1,6 +1,6 @@
 -- Demand 2 for twisted runs: the same, with the true end value of the padded and twisted f.
 use mathlib.Core.Path.{_≡_, refl, sym, ap, _∙_}
-use mathlib.Core.Bool.{true, false}
+use mathlib.Core.Bool.{true}
 use mathlib.Core.List.{List}
 use Prim.Native.Nat.{ℕ, _*_, _^_, _<_}
 use native.Mathlib.Omega.{arith}
@@ -18,50 +18,37 @@ use Rattle.vector.specs.Slice.{fifteen}
 use Rattle.vector.proofs.Overwrite.{fifteen-at}
 use Rattle.vector.proofs.Agreement.{fifteen-weight}
 use Rattle.vector.proofs.EndValues.{twisted-padded, twisted-reduced}
+use Rattle.item.specs.Start.{countFits, listFits, twistedStart}
+use Rattle.item.proofs.PartsRows.{numbers-taken}
 use Rattle.verifier.specs.declared.Verifier.{Verifier}
-use Rattle.verifier.specs.declared.Answer.the-variants as answer
 use Rattle.verifier.specs.Records.{leaves, yes}
-use Rattle.verifier.specs.WellFormed.{inCount}
-use Rattle.verifier.specs.Starts.{listed, freshVerifier, twistedVerifier}
-use Rattle.verifier.specs.Sums.{oneMore}
+use Rattle.verifier.specs.Starts.{freshVerifier, twistedVerifier}
+use Rattle.verifier.specs.Sums.{entering}
 use Rattle.verifier.specs.Claims.{closedWith}
 use Rattle.verifier.specs.Calls.{closeClaim, verdict}
-use Rattle.verifier.specs.Trips.{afterCalls, fieldItems, messages, verdictOf}
-use Rattle.verifier.proofs.EndSums.{entered, state, open-while, field-taken, number-parts, few}
+use Rattle.verifier.specs.Trips.{afterCalls, givenItems, numberItems, messages, verdictOf}
+use Rattle.verifier.proofs.EndSums.{state, few}
 use Rattle.verifier.proofs.Verdicts.{true-messages}
 use Rattle.verifier.proofs.Runs.{AllReduced, list-length, Run, reaches, ready-open, run-ends, run-verdict, claim-next, message-reduced}
 
 module _ (p items : ℕ) (vs cs : List ℕ) (f g : Vector) where
   abbrev pub afterTwisted : Verifier
-  afterTwisted = afterCalls (fieldItems p f g) (twistedVerifier items vs cs) items
+  afterTwisted = afterCalls (givenItems p (numberItems f g)) (twistedVerifier items vs cs) items
 
   -- padded, then "first multiplied by the product of those v_k with b_k = 1"
   abbrev pub twistedVector : Vector
   twistedVector = twisted p vs (padded items f)
 
-  module _ (count : inCount items ≡ true) (twist-list : listed p (roundsOf items) vs ≡ true) (list : listed p (roundsOf items) cs ≡ true)
+  module _ (count : countFits items ≡ true) (twist-list : listFits p (roundsOf items) vs ≡ true) (list : listFits p (roundsOf items) cs ≡ true)
       (field-f : (i : ℕ) → i < items → f i < p) (field-g : (i : ℕ) → i < items → g i < p) where
-    abbrev keptTwists : List ℕ
-    keptTwists = fifteen (roundsOf items) vs
-
     abbrev keptChallenges : List ℕ
     keptChallenges = fifteen (roundsOf items) cs
 
     abbrev twistedState : ℕ → Verifier
-    twistedState = state p items count false keptTwists keptChallenges f g
+    twistedState = state p (twistedStart items vs) (numberItems f g) keptChallenges
 
-    twisted-taken : (m : ℕ) → m < items
-        → fieldItems p f g (twistedState m) m
-        ≡ answered (record { verifier = oneMore p (twistedState m) (f m) (g m); answer = answer.Taken })
-    unfolding freshVerifier state
-    twisted-taken m h =
-        field-taken p (twistedState m) _ (f m) (g m)
-        (open-while p items count false keptTwists keptChallenges f g m (omega arith)) (lt-ltb m items h) refl
-        (number-parts p (f m) (g m) (field-f m h) (field-g m h))
-
-    twisted-same : (i : ℕ) → i < items
-        → entered p (freshVerifier items (roundsOf items) false keptTwists keptChallenges) f i ≡ twisted p vs f i
-    unfolding freshVerifier
+    twisted-same : (i : ℕ) → i < items → entering p (twistedStart items vs) i (f i) ≡ twisted p vs f i
+    unfolding entering
     twisted-same i h =
         let long = list-length p (roundsOf items) vs twist-list in
         ap (mulMod p (f i))
@@ -70,21 +57,20 @@ module _ (p items : ℕ) (vs cs : List ℕ) (f g : Vector) where
     abbrev twisted-run : Run p
     twisted-run =
         record {
-          items = items;
+          start = twistedStart items vs;
           count = count;
-          plain = false;
-          twists = keptTwists;
+          own = refl;
           challenges = keptChallenges;
           c = at cs;
           agree = fifteen-at (roundsOf items) cs (few items count) (omega (arith, list-length p (roundsOf items) cs list));
-          f = f;
-          g = g;
+          given = numberItems f g;
+          fits =
+              λ i h.
+              numbers-taken p (twistedStart items vs) i (f i) (g i) refl (lt-ltb (f i) p (field-f i h)) (lt-ltb (g i) p (field-g i h));
           F = twisted p vs f;
           same = twisted-same;
           reduced-f = λ i h. twisted-reduced p vs f i;
           reduced-g = λ i h. residue-small p (g i) (omega (arith, field-g i h));
-          calls = fieldItems p f g;
-          taken = twisted-taken;
         }
 
     twisted-end : endValue p (at cs) (roundsOf items) (padded items (twisted p vs f)) ≡ endValue p (at cs) (roundsOf items) twistedVector

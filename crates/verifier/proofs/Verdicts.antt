@@ -30,10 +30,7 @@ use Rattle.verifier.proofs.Faults.{Passes, Fails, fault-cases, fault-mo
 abbrev pub withClaim : Verifier → ℕ → ℕ → Bool → Verifier
 withClaim v claim round failed =
     record {
-      items = v .items;
-      rounds = v .rounds;
-      plain = v .plain;
-      twists = v .twists;
+      start = v .start;
       challenges = v .challenges;
       closed = v .closed;
       taken = v .taken;
@@ -44,7 +41,7 @@ withClaim v claim round failed =
       failed = failed;
     }
 
-formed-with : (v : Verifier) → wellFormed v ≡ true → v .closed ≡ true → (claim round : ℕ) (failed : Bool) → round ≤ v .rounds
+formed-with : (v : Verifier) → wellFormed v ≡ true → v .closed ≡ true → (claim round : ℕ) (failed : Bool) → round ≤ v .start .rounds
     → wellFormed (withClaim v claim round failed) ≡ true
 formed-with v h closed claim round failed le =
     let parts = parts-of v h in
@@ -79,9 +76,9 @@ pub record Closed (v : Verifier) : Type 0 where
   pub first : v .round ≡ 0
 
 module _ (p : ℕ) (v : Verifier) (start : Closed v) (m : ℕ → Message)
-    (reduced : (i : ℕ) → i < v .rounds → allReduced3 p (m i .even) (m i .cross) (m i .odd) ≡ true) where
+    (reduced : (i : ℕ) → i < v .start .rounds → allReduced3 p (m i .even) (m i .cross) (m i .odd) ≡ true) where
   abbrev n : ℕ
-  n = v .rounds
+  n = v .start .rounds
 
   abbrev claims : ℕ → ℕ
   claims i = claimAt p (at (v .challenges)) (v .claim) m i

@@ -6,9 +6,8 @@ use Rattle.algebra.specs.Mod.{mulMod}
 use Rattle.vector.specs.Vector.{at}
 use Rattle.vector.specs.Message.{Message, passes, nextClaim}
 use Rattle.verifier.specs.declared.Verifier.{Verifier}
-use Rattle.verifier.specs.declared.Step.{Step}
-use Rattle.verifier.specs.declared.Answer.the-variants as answer
-use Rattle.verifier.specs.Records.{Finding, yes, no}
+use Rattle.verifier.specs.Reply as reply
+use Rattle.verifier.specs.Records.{Replied, Finding, yes, no}
 
 abbrev pub messageOf3 : ℕ → ℕ → ℕ → Message
 messageOf3 even cross odd = record { even = even; cross = cross; odd = odd }
@@ -21,10 +20,7 @@ nextOf p c even cross odd = nextClaim p (messageOf3 even cross odd) c
 unfoldable pub closedWith : Verifier → ℕ → Verifier
 closedWith v claim =
     record {
-      items = v .items;
-      rounds = v .rounds;
-      plain = v .plain;
-      twists = v .twists;
+      start = v .start;
       challenges = v .challenges;
       closed = true;
       taken = v .taken;
@@ -35,17 +31,14 @@ closedWith v claim =
       failed = v .failed;
     }
 
-abbrev pub closes : Verifier → ℕ → Step
-closes v claim = record { verifier = closedWith v claim; answer = answer.Closed }
+abbrev pub closes : Verifier → ℕ → Replied
+closes v claim = record { verifier = closedWith v claim; reply = reply.closed }
 
 -- after a message that passed
 unfoldable pub passedWith : ℕ → Verifier → Message → Verifier
 passedWith p v m =
     record {
-      items = v .items;
-      rounds = v .rounds;
-      plain = v .plain;
-      twists = v .twists;
+      start = v .start;
       challenges = v .challenges;
       closed = v .closed;
       taken = v .taken;
@@ -60,10 +53,7 @@ passedWith p v m =
 unfoldable pub failedNow : Verifier → Verifier
 failedNow v =
     record {
-      items = v .items;
-      rounds = v .rounds;
-      plain = v .plain;
-      twists = v .twists;
+      start = v .start;
       challenges = v .challenges;
       closed = v .closed;
       taken = v .taken;
@@ -75,11 +65,11 @@ failedNow v =
     }
 
 -- "A message passes if even + odd = claim"
-unfoldable pub hears : ℕ → Verifier → Message → Step
+unfoldable pub hears : ℕ → Verifier → Message → Replied
 hears p v m =
-    cond (eqb (passes p m) (v .claim)) (record { verifier = passedWith p v m; answer = answer.Passed })
-    (record { verifier = failedNow v; answer = answer.No (v .round) })
+    cond (eqb (passes p m) (v .claim)) (record { verifier = passedWith p v m; reply = reply.passed })
+    (record { verifier = failedNow v; reply = reply.no (v .round) })
 
 -- "yes if the claim equals the product of its own end values. Otherwise no, with the first round that failed, or n"
 unfoldable pub finds : ℕ → Verifier → Finding
-finds p v = cond (v .failed) (no (v .round)) (cond (eqb (v .claim) (mulMod p (v .fsum) (v .gsum))) yes (no (v .rounds)))
+finds p v = cond (v .failed) (no (v .round)) (cond (eqb (v .claim) (mulMod p (v .fsum) (v .gsum))) yes (no (v .start .rounds)))

@@ -1,3 +1,4 @@
+pub mod Reply
 pub mod Records
 pub mod WellFormed
 pub mod Starts

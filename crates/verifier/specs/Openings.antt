@@ -35,12 +35,12 @@ opensAt p v b values start k = opens p (at (v .challenges) k) b (tripleAt values
 
 -- the first fault of f, which is j - 1, and of g; n where there is none
 abbrev pub faultF : ℕ → Verifier → ℕ → List ℕ → ℕ
-faultF p v b values = firstFault (opensAt p v b values 0) 0 (v .rounds)
+faultF p v b values = firstFault (opensAt p v b values 0) 0 (v .start .rounds)
 
 abbrev pub faultG : ℕ → Verifier → ℕ → List ℕ → ℕ
-faultG p v b values = firstFault (opensAt p v b values (3 * v .rounds)) 0 (v .rounds)
+faultG p v b values = firstFault (opensAt p v b values (3 * v .start .rounds)) 0 (v .start .rounds)
 
 unfoldable pub openingFinds : ℕ → Verifier → ℕ → List ℕ → OpeningFinding
 openingFinds p v b values =
-    cond (ltb (faultF p v b values) (v .rounds)) (failsF (faultF p v b values + 1))
-    (cond (ltb (faultG p v b values) (v .rounds)) (failsG (faultG p v b values + 1)) holds)
+    cond (ltb (faultF p v b values) (v .start .rounds)) (failsF (faultF p v b values + 1))
+    (cond (ltb (faultG p v b values) (v .start .rounds)) (failsG (faultG p v b values + 1)) holds)

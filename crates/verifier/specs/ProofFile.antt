@@ -30,7 +30,7 @@ hearsFirst p v m (suc k) = hearsNext p (hearsFirst p v m k) (m k)
 
 -- the end values of the file are the verifier's own
 unfoldable pub endsAgree : Verifier → List ℕ → Bool
-endsAgree v file = eqb (proofNumber file (3 * v .rounds)) (v .fsum) && eqb (proofNumber file (3 * v .rounds + 1)) (v .gsum)
+endsAgree v file = eqb (proofNumber file (3 * v .start .rounds)) (v .fsum) && eqb (proofNumber file (3 * v .start .rounds + 1)) (v .gsum)
 
 -- "End values in the proof file must equal its own, else no at n": where every message passed, the round is n
 unfoldable pub compares : Verifier → List ℕ → Verifier
@@ -38,7 +38,7 @@ compares v file = cond (endsAgree v file) v (failedNow v)
 
 -- the close with the file's total, then every message, then the end values
 unfoldable pub afterFile : ℕ → Verifier → ℤ → List ℕ → Verifier
-afterFile p v total file = compares (hearsFirst p (closedWith v (image p total)) (fileMessage file) (v .rounds)) file
+afterFile p v total file = compares (hearsFirst p (closedWith v (image p total)) (fileMessage file) (v .start .rounds)) file
 
 -- the verifier after the file, and its verdict
 pub record Judgement : Type 0 where
@@ -58,8 +58,8 @@ withTotal (refusedAt k i) rest = refusedAt k i
 unfoldable pub proof : ℕ → Verifier → List ℕ → Outcome Judgement
 proof p v file =
     require (passOpen v) number.order
-    (require (eqb (v .taken) (v .items)) number.items
-    (require (v .plain) number.order (withTotal (readProofOf p (v .rounds) file) (λ total. judges p v total file))))
+    (require (eqb (v .taken) (v .start .items)) number.items
+    (require (v .start .plain) number.order (withTotal (readProofOf p (v .start .rounds) file) (λ total. judges p v total file))))
 
 -- the verifier and the verdict that the call hands back
 abbrev pub judgedIn : Judged → Verifier × Outcome Finding

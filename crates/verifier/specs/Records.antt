@@ -1,30 +1,23 @@
 -- What the verifier's calls hand back, in document 01's terms, and that a refusal changes nothing.
 use Prim.Native.Nat.{ℕ}
-use mathlib.Core.Bool.{Bool, true, false}
+use mathlib.Core.Bool.{false}
 use lib.ListN.{replicate}
+use Rattle.refusal.specs.Number as number
 use Rattle.refusal.specs.Outcome.{Outcome, answered, refused, refusedAt}
+use Rattle.item.specs.Start.{noStart}
 use Rattle.verifier.specs.declared.Verifier.{Verifier}
 use Rattle.verifier.specs.declared.Step.{Step}
-use Rattle.verifier.specs.declared.Answer.the-variants as answer
 use Rattle.verifier.specs.declared.Verdict.{Verdict}
 use Rattle.verifier.specs.declared.Verdict.the-variants as verdict
 use Rattle.verifier.specs.declared.Opened.{Opened}
 use Rattle.verifier.specs.declared.Opened.the-variants as opened
-use Rattle.verifier.specs.declared.Check.{Check}
-use Rattle.verifier.specs.declared.Check.the-variants as check
-
-abbrev pub passed : Check → Bool
-passed check.Passed = true
-passed check.Failed = false
+use Rattle.verifier.specs.Reply.{Reply, answerIn}
 
 -- beside a refused start: all zero, and refused by every call
 abbrev pub blank : Verifier
 blank =
     record {
-      items = 0;
-      rounds = 0;
-      plain = false;
-      twists = replicate 15 0;
+      start = noStart;
       challenges = replicate 15 0;
       closed = false;
       taken = 0;
@@ -35,17 +28,30 @@ blank =
       failed = false;
     }
 
-abbrev pub refusedStep : Verifier → ℕ → Step
-refusedStep v k = record { verifier = v; answer = answer.Refused k }
+-- an answered call: the verifier after it, and what it replies
+pub record Replied : Type 0 where
+  pub verifier : Verifier
+  pub reply : Reply
 
-abbrev pub refusedAtStep : Verifier → ℕ → ℕ → Step
-refusedAtStep v k i = record { verifier = v; answer = answer.RefusedAt k i }
+-- any call: the verifier that it hands back, and its reply or refusal
+pub record Handed : Type 0 where
+  pub verifier : Verifier
+  pub outcome : Outcome Reply
+
+abbrev pub stepIn : Step → Handed
+stepIn s = record { verifier = s .verifier; outcome = answerIn (s .answer) }
 
 -- "state and buffers are unchanged": what each outcome of a call leaves of the verifier that it was given
-abbrev pub leaves : Verifier → Outcome Step → Step
-leaves v (answered s) = s
-leaves v (refused k) = refusedStep v k
-leaves v (refusedAt k i) = refusedAtStep v k i
+abbrev pub leaves : Verifier → Outcome Replied → Handed
+leaves v (answered s) = record { verifier = s .verifier; outcome = answered (s .reply) }
+leaves v (refused k) = record { verifier = v; outcome = refused k }
+leaves v (refusedAt k i) = record { verifier = v; outcome = refusedAt k i }
+
+-- the refusal of an item or of a file, as the call's own; it is asked for only where there is one
+abbrev pub refusalOf : {A B : Type 0} → Outcome A → Outcome B
+refusalOf (answered x) = refused number.order
+refusalOf (refused k) = refused k
+refusalOf (refusedAt k i) = refusedAt k i
 
 -- "the verdict is yes .. Otherwise no, with the first round that failed, or n"
 pub data Finding : Type 0 where

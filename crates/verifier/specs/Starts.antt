@@ -1,31 +1,23 @@
 -- The starts: refused by 3 and 6 only, and otherwise a fresh verifier, its pass "open from its start".
-use Prim.Native.Nat.{ℕ, _^_}
-use mathlib.Core.Bool.{Bool, true, false, cond}
+use Prim.Native.Nat.{ℕ}
+use mathlib.Core.Bool.{false}
 use mathlib.Core.List.{List}
-use lib.Dec.{eqb, leb}
-use lib.ListN.{length, replicate}
-use Rattle.refusal.specs.Limit.{maxRounds}
 use Rattle.refusal.specs.Number as number
 use Rattle.refusal.specs.Outcome.{Outcome, answered, require}
+use Rattle.field.specs.Number.{isNonzero}
 use Rattle.vector.specs.Rounds.{roundsOf}
-use Rattle.vector.specs.Slice.{isNonzero, allNonzero, fifteen}
-use Rattle.vector.specs.Twist.{twistsOf}
+use Rattle.vector.specs.Slice.{fifteen}
+use Rattle.item.specs.declared.Start.{Start}
+use Rattle.item.specs.Start.{countFits, roundsFit, listFits, plainStart, twistedStart, ruleStart}
 use Rattle.verifier.specs.declared.Verifier.{Verifier}
-use Rattle.verifier.specs.declared.Step.{Step}
-use Rattle.verifier.specs.declared.Answer.the-variants as answer
-use Rattle.verifier.specs.WellFormed.{inCount}
+use Rattle.verifier.specs.Reply as reply
+use Rattle.verifier.specs.Records.{Replied}
 
--- a list of challenges or twists "as long as n asks", each from 1 to P-1
-unfoldable pub listed : ℕ → ℕ → List ℕ → Bool
-listed p n xs = cond (eqb (length xs) n) (allNonzero p n xs) false
-
-unfoldable pub freshVerifier : ℕ → ℕ → Bool → List ℕ → List ℕ → Verifier
-freshVerifier items rounds plain twists challenges =
+-- nothing taken yet; of the challenges, those of the run's rounds
+unfoldable pub freshVerifier : Start → List ℕ → Verifier
+freshVerifier start challenges =
     record {
-      items = items;
-      rounds = rounds;
-      plain = plain;
-      twists = twists;
+      start = start;
       challenges = challenges;
       closed = false;
       taken = 0;
@@ -36,38 +28,39 @@ freshVerifier items rounds plain twists challenges =
       failed = false;
     }
 
-abbrev pub startedWith : Verifier → Step
-startedWith v = record { verifier = v; answer = answer.Started }
+abbrev pub verifierOf : Start → List ℕ → Verifier
+verifierOf start challenges = freshVerifier start (fifteen (start .rounds) challenges)
+
+abbrev pub startedWith : Verifier → Replied
+startedWith v = record { verifier = v; reply = reply.started }
 
 -- the verifier of a plain run, which reads no twists
 abbrev pub plainVerifier : ℕ → List ℕ → Verifier
-plainVerifier items challenges =
-    freshVerifier items (roundsOf items) true (replicate 15 0) (fifteen (roundsOf items) challenges)
+plainVerifier items challenges = verifierOf (plainStart items) challenges
 
 abbrev pub twistedVerifier : ℕ → List ℕ → List ℕ → Verifier
-twistedVerifier items twists challenges =
-    freshVerifier items (roundsOf items) false (fifteen (roundsOf items) twists) (fifteen (roundsOf items) challenges)
+twistedVerifier items twists challenges = verifierOf (twistedStart items twists) challenges
 
 abbrev pub ruleVerifier : ℕ → ℕ → ℕ → List ℕ → Verifier
-ruleVerifier p rounds v challenges = freshVerifier (2 ^ rounds) rounds false (twistsOf p v rounds) (fifteen rounds challenges)
+ruleVerifier p rounds v challenges = verifierOf (ruleStart p rounds v) challenges
 
-unfoldable pub startPlain : ℕ → ℕ → List ℕ → Outcome Step
+unfoldable pub startPlain : ℕ → ℕ → List ℕ → Outcome Replied
 startPlain p items challenges =
-    require (inCount items) number.count
-    (require (listed p (roundsOf items) challenges) number.argument
+    require (countFits items) number.count
+    (require (listFits p (roundsOf items) challenges) number.argument
     (answered (startedWith (plainVerifier items challenges))))
 
-unfoldable pub startTwisted : ℕ → ℕ → List ℕ → List ℕ → Outcome Step
+unfoldable pub startTwisted : ℕ → ℕ → List ℕ → List ℕ → Outcome Replied
 startTwisted p items twists challenges =
-    require (inCount items) number.count
-    (require (listed p (roundsOf items) twists) number.argument
-    (require (listed p (roundsOf items) challenges) number.argument
+    require (countFits items) number.count
+    (require (listFits p (roundsOf items) twists) number.argument
+    (require (listFits p (roundsOf items) challenges) number.argument
     (answered (startedWith (twistedVerifier items twists challenges)))))
 
 -- "a twisted run on Az and Bz, L = 2^n, with v_j = v^(2^j), v from 1 to P-1"
-unfoldable pub startRule : ℕ → ℕ → ℕ → List ℕ → Outcome Step
+unfoldable pub startRule : ℕ → ℕ → ℕ → List ℕ → Outcome Replied
 startRule p rounds v challenges =
-    require (leb rounds maxRounds) number.count
+    require (roundsFit rounds) number.count
     (require (isNonzero p v) number.argument
-    (require (listed p rounds challenges) number.argument
+    (require (listFits p rounds challenges) number.argument
     (answered (startedWith (ruleVerifier p rounds v challenges)))))

@@ -9,27 +9,32 @@ use Rattle.refusal.specs.Outcome.{Outcome}
 use Rattle.field.specs.Integer.{image}
 use Rattle.vector.specs.Vector.{Vector}
 use Rattle.vector.specs.Message.{Message, passes, nextClaim}
+use Rattle.item.specs.declared.Given.{Given}
+use Rattle.item.specs.declared.Given.the-variants.{Reading, Numbers}
 use Rattle.wire.specs.Proof.{proofTotal, proofNumber}
 use Rattle.verifier.specs.declared.Verifier.{Verifier}
-use Rattle.verifier.specs.declared.Step.{Step}
-use Rattle.verifier.specs.Records.{leaves, Finding, yes, no}
+use Rattle.verifier.specs.Records.{Replied, leaves, Finding, yes, no}
 use Rattle.verifier.specs.Openings.{firstFault}
-use Rattle.verifier.specs.Calls.{item, fieldItem, message}
+use Rattle.verifier.specs.Calls.{give, message}
 use Rattle.verifier.specs.ProofFile.{fileMessage}
 
 -- the verifier after m calls, "each call given the record that the last returned"
-unfoldable pub afterCalls : (Verifier → ℕ → Outcome Step) → Verifier → ℕ → Verifier
+unfoldable pub afterCalls : (Verifier → ℕ → Outcome Replied) → Verifier → ℕ → Verifier
 afterCalls call v zero = v
 afterCalls call v (suc m) = leaves (afterCalls call v m) (call (afterCalls call v m) m) .verifier
 
 -- "first item to last"
-abbrev pub plainItems : ℕ → (ℕ → ℤ) → Vector → Verifier → ℕ → Outcome Step
-plainItems p readings weights v i = item p v (readings i) (weights i)
+abbrev pub givenItems : ℕ → (ℕ → Given) → Verifier → ℕ → Outcome Replied
+givenItems p given v i = give p v (given i)
 
-abbrev pub fieldItems : ℕ → Vector → Vector → Verifier → ℕ → Outcome Step
-fieldItems p f g v i = fieldItem p v (f i) (g i)
+-- of a plain run and of a twisted run
+abbrev pub readingItems : (ℕ → ℤ) → Vector → ℕ → Given
+readingItems readings weights i = Reading (readings i) (weights i)
 
-abbrev pub messages : ℕ → (ℕ → Message) → Verifier → ℕ → Outcome Step
+abbrev pub numberItems : Vector → Vector → ℕ → Given
+numberItems f g i = Numbers (f i) (g i)
+
+abbrev pub messages : ℕ → (ℕ → Message) → Verifier → ℕ → Outcome Replied
 messages p m v i = message p v (m i .even) (m i .cross) (m i .odd)
 
 -- "Its claim starts as the total. .. the claim becomes even + cross·c + odd·c²": the claim that message i meets

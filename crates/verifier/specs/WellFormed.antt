@@ -1,21 +1,19 @@
 -- The test for records that no call returns: what safety and the contracts need of a record, in constant time.
 use Prim.Native.Nat.{ℕ}
 use mathlib.Core.Bool.{Bool, false, cond}
-use lib.Dec.{eqb, leb, ltb}
-use Rattle.refusal.specs.Limit.{maxItems}
+use lib.Dec.{eqb, leb}
 use Rattle.vector.specs.Rounds.{roundsOf}
+use Rattle.item.specs.Start.{countFits}
 use Rattle.verifier.specs.declared.Verifier.{Verifier}
 
--- "count L, 1 to 32,768"
-unfoldable pub inCount : ℕ → Bool
-inCount items = cond (ltb items 1) false (leb items maxItems)
-
 -- closed with every item taken; before that no message, and so no failure
-unfoldable pub turnFits : Verifier → Bool
-turnFits v =
-    cond (v .closed)
-    (cond (eqb (v .taken) (v .items)) (leb (v .round) (v .rounds)) false)
-    (cond (v .failed) false (cond (eqb (v .round) 0) (leb (v .taken) (v .items)) false))
+unfoldable pub turnOf : ℕ → ℕ → Bool → ℕ → ℕ → Bool → Bool
+turnOf items rounds closed taken round failed =
+    cond closed (cond (eqb taken items) (leb round rounds) false) (cond failed false (cond (eqb round 0) (leb taken items) false))
 
+abbrev pub turnFits : Verifier → Bool
+turnFits v = turnOf (v .start .items) (v .start .rounds) (v .closed) (v .taken) (v .round) (v .failed)
+
+-- a start that a call fixed, and a turn that fits it
 unfoldable pub wellFormed : Verifier → Bool
-wellFormed v = cond (inCount (v .items)) (cond (eqb (v .rounds) (roundsOf (v .items))) (turnFits v) false) false
+wellFormed v = cond (countFits (v .start .items)) (cond (eqb (v .start .rounds) (roundsOf (v .start .items))) (turnFits v) false) false

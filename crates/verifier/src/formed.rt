@@ -1,44 +1,47 @@
 // The test for records that no call returns.
 ghost use mathlib.Core.Path.{_≡_};
-ghost use Rattle.verifier.specs.WellFormed.{inCount, turnFits, wellFormed};
+ghost use Rattle.refusal.specs.Check.{passed};
+ghost use Rattle.verifier.specs.WellFormed.{turnOf, wellFormed};
 use super::Verifier;
-
-pub fn in_count(items: u32) -> bool
-    ensures { λ r. ⌜ r ≡ inCount items ⌝ }
-{
-    if items < 1 {
-        return false;
-    }
-    items <= refusal::MAX_ITEMS
-}
+use refusal::Check;
+use refusal::pass_if;
 
 // The pass and the rounds fit each other.
-fn turn_fits(v: Verifier) -> bool
-    ensures { λ r. ⌜ r ≡ turnFits v ⌝ }
+fn turn_fits(items: u32, rounds: u32, closed: bool, taken: u32, round: u32, failed: bool) -> bool
+    ensures { λ r. ⌜ r ≡ turnOf items rounds closed taken round failed ⌝ }
 {
-    if v.closed {
-        if v.taken != v.items {
+    if closed {
+        if taken != items {
             return false;
         }
-        return v.round <= v.rounds;
+        return round <= rounds;
     }
-    if v.failed {
+    if failed {
         return false;
     }
-    if v.round != 0 {
+    if round != 0 {
         return false;
     }
-    v.taken <= v.items
+    taken <= items
 }
 
-pub fn well_formed(v: Verifier) -> bool
-    ensures { λ r. ⌜ r ≡ wellFormed v ⌝ }
+// 10: a record that a call returned.
+pub fn returned(v: Verifier) -> Check
+    ensures { λ r. ⌜ passed r ≡ wellFormed v ⌝ }
 {
-    if in_count(v.items) {} else {
-        return false;
-    }
-    if v.rounds != vector::sizes::rounds_of(v.items) {
-        return false;
-    }
-    turn_fits(v)
+    let start = v.start;
+    let Check::Passed = item::starts::count_fits(start.items) else {
+        return Check::Failed;
+    };
+    let Check::Passed = pass_if(start.rounds == vector::sizes::rounds_of(start.items)) else {
+        return Check::Failed;
+    };
+    pass_if(turn_fits(
+        start.items,
+        start.rounds,
+        v.closed,
+        v.taken,
+        v.round,
+        v.failed,
+    ))
 }

@@ -3,16 +3,17 @@ ghost use mathlib.Core.Path.{_≡_};
 ghost use Prim.Native.Nat.{_+_, _*_, _≤_, _<_};
 ghost use lib.ListN.{length};
 ghost use Rattle.refusal.specs.Outcome.{answered, refused};
-ghost use Rattle.wire.specs.Proof.{proofRounds};
+ghost use Rattle.wire.specs.Proof.{proofRounds, proofOf};
+ghost use Rattle.verifier.specs.Records.{refusalOf};
 ghost use Rattle.verifier.specs.Claims.{failedNow};
 ghost use Rattle.verifier.specs.ProofFile.{fileMessage, hearsNext, hearsFirst, compares, judges, judgedIn, leavesJudged};
 use super::Judged;
 use super::Verdict;
 use super::Verifier;
 use super::messages;
-use field::Field;
 use wire::proof::EndsRead;
 use wire::proof::MessageRead;
+use wire::proof::ProofRead;
 
 // A refusal hands the verifier back unchanged.
 pub fn refuse(v: Verifier, number: u8) -> Judged
@@ -24,10 +25,21 @@ pub fn refuse(v: Verifier, number: u8) -> Judged
     }
 }
 
+// The refusal of a file, by what its reader answered.
+pub(crate) fn refuse_read(v: Verifier, read: ProofRead) -> Judged
+    ensures { λ r. ⌜ judgedIn r ≡ leavesJudged v (refusalOf (proofOf read)) ⌝ }
+{
+    match read {
+        // Not reached: the caller has the total.
+        ProofRead::Proof(_, _) => refuse(v, refusal::ORDER),
+        ProofRead::Refused(number) => refuse(v, number),
+    }
+}
+
 // One message of the file more; after a no, none is heard.
-fn hear_next(v: Verifier, file: &[u8], round: u32) -> Verifier
+fn hear_next(p: u32, v: Verifier, file: &[u8], round: u32) -> Verifier
     requires { ⌜ (v .round < 15) × (22 + 12 * round ≤ length (now file)) ⌝ }
-    ensures { λ r. ⌜ r ≡ hearsNext 2147483647 v (fileMessage (now (file .entry)) round) ⌝ }
+    ensures { λ r. ⌜ r ≡ hearsNext p v (fileMessage (now (file .entry)) round) ⌝ }
 {
     if v.failed {
         return v;
@@ -36,19 +48,20 @@ fn hear_next(v: Verifier, file: &[u8], round: u32) -> Verifier
         // Not reached: the file has the message.
         return v;
     };
-    let step = messages::hear(v, even, cross, odd);
+    let step = messages::hear(p, v, even, cross, odd);
     step.verifier
 }
 
-fn hear_all(v: Verifier, file: &[u8]) -> Verifier
-    requires { ⌜ (v .round ≡ 0) × (v .rounds ≤ 15) × (18 + 12 * v .rounds ≤ length (now file)) ⌝ }
-    ensures { λ r. ⌜ r ≡ hearsFirst 2147483647 v (fileMessage (now (file .entry))) (v .rounds) ⌝ }
+fn hear_all(p: u32, v: Verifier, file: &[u8]) -> Verifier
+    requires { ⌜ (v .round ≡ 0) × (v .start .rounds ≤ 15) × (18 + 12 * v .start .rounds ≤ length (now file)) ⌝ }
+    ensures { λ r. ⌜ r ≡ hearsFirst p v (fileMessage (now (file .entry))) (v .start .rounds) ⌝ }
 {
-    let n = v.rounds;
+    let start = v.start;
+    let n = start.rounds;
     let mut heard = v;
     let mut k: u32 = 0;
     while k < n {
-        heard = hear_next(heard, file, k);
+        heard = hear_next(p, heard, file, k);
         k += 1;
     }
     heard
@@ -62,7 +75,7 @@ fn fail(v: Verifier) -> Verifier
 
 // The end values of the file must be the verifier's own.
 fn compare(v: Verifier, file: &[u8]) -> Verifier
-    requires { ⌜ (proofRounds (now file) ≡ v .rounds) × (18 + 12 * v .rounds ≤ length (now file)) ⌝ }
+    requires { ⌜ (proofRounds (now file) ≡ v .start .rounds) × (18 + 12 * v .start .rounds ≤ length (now file)) ⌝ }
     ensures { λ r. ⌜ r ≡ compares v (now (file .entry)) ⌝ }
 {
     let EndsRead::Ends(f, g) = wire::proof::proof_ends(file) else {
@@ -78,14 +91,14 @@ fn compare(v: Verifier, file: &[u8]) -> Verifier
     v
 }
 
-pub(crate) fn judge(v: Verifier, total: i64, file: &[u8]) -> Judged
-    requires { ⌜ (v .round ≡ 0) × (v .rounds ≤ 15) × (proofRounds (now file) ≡ v .rounds) × (18 + 12 * v .rounds ≤ length (now file)) ⌝ }
-    ensures { λ r. ⌜ judgedIn r ≡ leavesJudged v (answered (judges 2147483647 v total (now (file .entry)))) ⌝ }
+pub(crate) fn judge(p: u32, v: Verifier, total: i64, file: &[u8]) -> Judged
+    requires { ⌜ (v .round ≡ 0) × (v .start .rounds ≤ 15) × (proofRounds (now file) ≡ v .start .rounds) × (18 + 12 * v .start .rounds ≤ length (now file)) ⌝ }
+    ensures { λ r. ⌜ judgedIn r ≡ leavesJudged v (answered (judges p v total (now (file .entry)))) ⌝ }
 {
-    let claim = field::integer::image(Field::MODULUS, total);
+    let claim = field::integer::image(p, total);
     let closed = messages::close(v, claim);
-    let heard = hear_all(closed.verifier, file);
+    let heard = hear_all(p, closed.verifier, file);
     let verifier = compare(heard, file);
-    let verdict = messages::find(verifier);
+    let verdict = messages::find(p, verifier);
     Judged { verifier, verdict }
 }

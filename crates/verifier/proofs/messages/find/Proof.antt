@@ -17,7 +17,7 @@ returns-2 c = simp (eq-eqb _ _ (c .if2 .taken), ← c .before .before .mul .ensu
 
 returns-3 : tie.Need-returns-3
 unfolding finds
-returns-3 c = simp (ne-eqb _ _ (c .if2 .left), ← c .before .before .mul .ensures, c .before .before .before .if1 .left)
+returns-3 c = simp (ne-eqb _ _ (c .before .if2 .left), ← c .before .before .before .mul .ensures, c .before .before .before .before .if1 .left)
 
 pub find-spec : {M : Type 1} → statement M
 find-spec = tie.close (tie.spec returns mul-requires returns-2 returns-3)

@@ -23,8 +23,8 @@ array-read-next-claim c = search needs
 next-claim-requires : tie.Need-next-claim-requires
 next-claim-requires c κs = search needs
 
-add-t10 : tie.Need-add-t10
-add-t10 c = search needs
+add-t11 : tie.Need-add-t11
+add-t11 c = search needs
 
 returns-2 : tie.Need-returns-2
 unfolding hears passedWith failedNow
@@ -40,5 +40,5 @@ hear-spec =
     mul-next-claim
     array-read-next-claim
     next-claim-requires
-    add-t10
+    add-t11
     returns-2)

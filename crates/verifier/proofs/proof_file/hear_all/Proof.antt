@@ -7,20 +7,20 @@ use Rattle.verifier.proofs.proof_file.hear_all.Statement.{statement}
 use Rattle.verifier.proofs.proof_file.hear_all.Tie as tie
 
 abbrev Inv-loop : tie.InvT-loop
-Inv-loop file n heard₀ k₀ heard k = (k ≤ n) × (heard ≡ hearsFirst 2147483647 heard₀ (fileMessage file) k)
+Inv-loop p file n heard₀ k₀ heard k = (k ≤ n) × (heard ≡ hearsFirst p heard₀ (fileMessage file) k)
 
 abbrev μ-loop : tie.MeasureT-loop
-μ-loop file n heard₀ k₀ heard k = n - k
+μ-loop p file n heard₀ k₀ heard k = n - k
 
 loop-holds : tie.Need-loop-holds Inv-loop μ-loop
-loop-holds c = (omega arith, none-heard 2147483647 (c .before .args .v) (fileMessage (c .before .args .file .now)))
+loop-holds c = (omega arith, none-heard (c .before .before .args .p) (c .before .before .args .v) (fileMessage (c .before .before .args .file .now)))
 
 hear-next-requires : tie.Need-hear-next-requires Inv-loop μ-loop
 hear-next-requires c κs =
-    let s = c .before .before .before .args in
-    let pre = c .before .before .before .pre in
+    let s = c .before .before .before .before .args in
+    let pre = c .before .before .before .before .pre in
     let e = c .before .loop .inv .1 in
-    let most = heard-first 2147483647 (s .v) (fileMessage (s .file .now)) (c .before .loop .k) .most in
+    let most = heard-first (c .before .before .before .before .args .p) (s .v) (fileMessage (s .file .now)) (c .before .loop .k) .most in
     (omega (arith, ap (λ w. w .round) e), omega arith)
 
 add-k : tie.Need-add-k Inv-loop μ-loop
@@ -31,14 +31,14 @@ loop-less c = omega arith
 
 loop-again : tie.Need-loop-again Inv-loop μ-loop
 loop-again c =
-    let s = c .before .before .before .before .args in
-    (omega arith, one-heard 2147483647 (s .v) (fileMessage (s .file .now)) (c .before .before .loop .k) (c .before .before .loop .inv .1) (c .hear-next .ensures))
+    let s = c .before .before .before .before .before .args in
+    (omega arith, one-heard (c .before .before .before .before .before .args .p) (s .v) (fileMessage (s .file .now)) (c .before .before .loop .k) (c .before .before .loop .inv .1) (c .hear-next .ensures))
 
 returns : tie.Need-returns Inv-loop μ-loop
 returns c =
-    let s = c .before .before .before .args in
-    let e : c .before .loop .k ≡ s .v .rounds = omega arith in
-    c .before .loop .inv .1 ∙ ap (hearsFirst 2147483647 (s .v) (fileMessage (s .file .now))) e
+    let s = c .before .before .before .before .args in
+    let e : c .before .loop .k ≡ s .v .start .rounds = omega arith in
+    c .before .loop .inv .1 ∙ ap (hearsFirst (c .before .before .before .before .args .p) (s .v) (fileMessage (s .file .now))) e
 
 pub hear-all-spec : {M : Type 1} → statement M
 hear-all-spec =

@@ -1,7 +1,8 @@
 use mathlib.Core.Path.{sym, ap, _∙_}
 use Rattle.wire.specs.Proof.{messageOf}
 use Rattle.verifier.specs.ProofFile.{hearsNext}
-use Rattle.verifier.proofs.FileFacts.{not-nothing, message-there, message-read}
+use Rattle.verifier.proofs.FileFacts.{heard-next, not-nothing, message-there, message-read}
+use Rattle.verifier.specs.Records.{Handed}
 use borrow.Author.Needs.{needs}
 use Rattle.verifier.proofs.proof_file.hear_next.Statement.{statement}
 use Rattle.verifier.proofs.proof_file.hear_next.Tie as tie
@@ -33,12 +34,11 @@ hear-requires : tie.Need-hear-requires
 hear-requires c κs = search needs
 
 returns-3 : tie.Need-returns-3
-unfolding hearsNext
 returns-3 c =
     let s = c .before .before .before .before .before .before .before .before .args in
     let read = ap messageOf (sym (c .before .before .before .even .given .1)) ∙ c .before .before .before .before .before .proof-message .ensures in
     let same = message-read (s .file .now) (s .round) (c .before .before .before .before .before .before .before .before .pre .1) read in
-    simp (c .before .before .before .before .before .before .if1 .left, ← same, ← c .before .hear .ensures)
+    heard-next (s .p) (s .v) (c .before .before .before .before .before .before .if1 .left) same (ap (λ (h : Handed). h .verifier) (c .before .hear .ensures))
 
 pub hear-next-spec : {M : Type 1} → statement M
 hear-next-spec =

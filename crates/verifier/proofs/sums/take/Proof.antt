@@ -18,12 +18,12 @@ add-mul-requires c κs = search needs
 add-mul-requires-2 : tie.Need-add-mul-requires-2
 add-mul-requires-2 c κs = search needs
 
-add-t9 : tie.Need-add-t9
-add-t9 c = search needs
+add-t11 : tie.Need-add-t11
+add-t11 c = search needs
 
 returns : tie.Need-returns
 unfolding oneMore
-returns c = let e : min (c .before .before .before .before .before .before .before .before .args .v .rounds) 15 ≡ c .before .before .before .before .before .before .before .before .args .v .rounds = omega (arith, c .before .before .before .before .before .before .before .before .pre) in simp (c .before .before .before .add-mul2 .ensures, c .before .before .before .before .add-mul .ensures, c .before .before .before .before .before .twisted .ensures, c .before .before .before .before .before .before .weight-of .ensures, e)
+returns c = let e : min (c .before .before .before .before .before .before .before .before .before .args .v .start .rounds) 15 ≡ c .before .before .before .before .before .before .before .before .before .args .v .start .rounds = omega (arith, c .before .before .before .before .before .before .before .before .before .pre) in simp (c .before .before .before .add-mul2 .ensures, c .before .before .before .before .add-mul .ensures, c .before .before .before .before .before .twisted .ensures, c .before .before .before .before .before .before .weight-of .ensures, e)
 
 pub take-spec : {M : Type 1} → statement M
 take-spec =
@@ -33,5 +33,5 @@ take-spec =
     twisted-requires
     add-mul-requires
     add-mul-requires-2
-    add-t9
+    add-t11
     returns)

@@ -18,7 +18,7 @@ mul-requires c κs = search needs
 
 returns-2 : tie.Need-returns-2
 unfolding entering
-returns-2 c = let e : min (c .before .before .before .before .args .v .rounds) 15 ≡ c .before .before .before .before .args .v .rounds = omega (arith, c .before .before .before .before .pre) in simp (c .mul .ensures, c .before .weight-of .ensures, e, c .before .before .before .if1 .left)
+returns-2 c = let e : min (c .before .before .before .before .args .start .rounds) 15 ≡ c .before .before .before .before .args .start .rounds = omega (arith, c .before .before .before .before .pre) in simp (c .mul .ensures, c .before .weight-of .ensures, e, c .before .before .before .if1 .left)
 
 pub twisted-spec : {M : Type 1} → statement M
 twisted-spec = tie.close (tie.spec returns weight-of-requires mul-requires returns-2)
