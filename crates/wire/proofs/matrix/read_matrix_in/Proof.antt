@@ -1,9 +1,10 @@
 -- `wire::matrix::read_matrix_in` meets its contract. At each return the checks that led there say which row of the table holds.
 use Rattle.wire.proofs.Marks.{mark-of}
 use Rattle.wire.proofs.Told.{told}
-use Rattle.wire.specs.Matrix.{readMatrix}
+use Rattle.wire.specs.Matrix.{entryAt, readMatrix}
 use borrow.Author.Tests.{leb-true, eqb-true}
-use mathlib.Core.Path.{refl}
+use lib.ListN.{length}
+use mathlib.Core.Path.{_≡_, refl}
 use borrow.Author.Needs.{needs}
 use native.Mathlib.Omega.{arith}
 use Rattle.wire.proofs.matrix.read_matrix_in.Statement.{statement}
@@ -80,7 +81,9 @@ unfolding readMatrix
 returns-4 c = simp (told (c .before .before .before .before .before .before .before .before .before .before .before .enum-told .given .1) (c .before .before .before .before .before .before .before .before .before .before .before .before .before .marked .ensures), told (c .before .before .before .before .before .before .before .before .enum-told3 .given .1) (c .before .before .before .before .before .before .before .before .before .before .versioned .ensures), told (c .before .before .before .before .enum-told5 .given .1) (c .before .before .before .before .before .before .pass-if .ensures), ← c .before .before .before .get16 .ensures .0, told (c .enum-told8 .given .1) (c .before .before .pass-if2 .ensures))
 
 check-entries-requires : tie.Need-check-entries-requires
-check-entries-requires c κs = (refl, leb-true _ _ (told (c .before .before .before .before .enum-told5 .given .1) (c .before .before .before .before .before .before .pass-if .ensures)), omega (arith, eqb-true _ _ (told (c .enum-told7 .given .1) (c .before .before .pass-if2 .ensures))))
+check-entries-requires c κs =
+    let e : length (c .before .before .before .before .before .before .before .before .before .before .before .before .before .before .before .args .file .now) ≡ entryAt (c .before .before .before .get16 .result) = eqb-true (length (c .before .before .before .before .before .before .before .before .before .before .before .before .before .before .before .args .file .now)) (entryAt (c .before .before .before .get16 .result)) (told (c .enum-told7 .given .1) (c .before .before .pass-if2 .ensures)) in
+    (refl, leb-true _ _ (told (c .before .before .before .before .enum-told5 .given .1) (c .before .before .before .before .before .before .pass-if .ensures)), omega (arith, e))
 
 returns-5 : tie.Need-returns-5
 unfolding readMatrix

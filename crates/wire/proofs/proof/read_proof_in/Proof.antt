@@ -2,10 +2,10 @@
 use Rattle.wire.proofs.Marks.{mark-of}
 use Rattle.wire.proofs.Told.{told}
 use Rattle.wire.specs.Number.{signed}
-use Rattle.wire.specs.Proof.{proofRounds, proofTotal, readProof}
+use Rattle.wire.specs.Proof.{proofRounds, proofSize, proofTotal, readProof}
 use Rattle.refusal.specs.Outcome.{answered}
 use Rattle.field.specs.Total.{inLimits}
-use borrow.Author.Tests.{leb-true, eqb-true}
+use borrow.Author.Tests.{eqb-true}
 use mir.Val.{toZ, ofZ}
 use mir.Syntax.{w64}
 use lib.Dec.{eqb}
@@ -113,7 +113,9 @@ add-file-reduced : tie.Need-add-file-reduced
 add-file-reduced c = search needs
 
 file-reduced-requires : tie.Need-file-reduced-requires
-file-reduced-requires c κs = omega (arith, eqb-true _ _ (told (c .before .before .before .before .before .before .enum-told7 .given .1) (c .before .before .before .before .before .before .before .before .pass-if2 .ensures ∙ ap (eqb (length (c .before .before .before .before .before .before .before .before .before .before .before .before .before .before .before .before .before .before .before .before .before .args .file .now))) (c .before .before .before .before .before .before .before .before .before .proof-size .ensures))))
+file-reduced-requires c κs =
+    let e : length (c .before .before .before .before .before .before .before .before .before .before .before .before .before .before .before .before .before .before .before .before .before .args .file .now) ≡ proofSize (proofRounds (c .before .before .before .before .before .before .before .before .before .before .before .before .before .before .before .before .before .before .before .before .before .args .file .now)) = eqb-true (length (c .before .before .before .before .before .before .before .before .before .before .before .before .before .before .before .before .before .before .before .before .before .args .file .now)) (proofSize (proofRounds (c .before .before .before .before .before .before .before .before .before .before .before .before .before .before .before .before .before .before .before .before .before .args .file .now))) (told (c .before .before .before .before .before .before .enum-told7 .given .1) (c .before .before .before .before .before .before .before .before .pass-if2 .ensures ∙ ap (eqb (length (c .before .before .before .before .before .before .before .before .before .before .before .before .before .before .before .before .before .before .before .before .before .args .file .now))) (c .before .before .before .before .before .before .before .before .before .proof-size .ensures))) in
+    omega (arith, e)
 
 enum-told-11 : tie.Need-enum-told-11
 enum-told-11 c = search needs

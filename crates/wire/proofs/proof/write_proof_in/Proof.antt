@@ -2,7 +2,8 @@
 use Rattle.wire.proofs.Writes.{written}
 use Rattle.wire.proofs.WriteRows.{within-limit, row-count, row-total, row-message, row-f, row-g, row-buffer, row-written}
 use Rattle.wire.proofs.Told.{told}
-use Rattle.wire.specs.Proof.{writtenIn}
+use Rattle.wire.specs.Proof.{proofSize, writtenIn}
+use Rattle.refusal.specs.Limit.{maxRounds}
 use Rattle.refusal.specs.Outcome.{answered}
 use Rattle.field.specs.Total.{inLimits}
 use borrow.Author.Tests.{leb-true}
@@ -58,7 +59,9 @@ mul-values-reduced : tie.Need-mul-values-reduced
 mul-values-reduced c = search needs
 
 values-reduced-requires : tie.Need-values-reduced-requires
-values-reduced-requires c κs = omega (arith, leb-true _ _ (told (c .before .before .before .before .enum-told .given .1) (c .before .before .before .before .before .before .pass-if .ensures)))
+values-reduced-requires c κs =
+    let s = c .before .before .before .before .before .before .before .before .args in
+    omega (arith, leb-true (s .rounds) maxRounds (told (c .before .before .before .before .enum-told .given .1) (c .before .before .before .before .before .before .pass-if .ensures)))
 
 enum-told-5 : tie.Need-enum-told-5
 enum-told-5 c = search needs
@@ -129,13 +132,15 @@ returns-6 c =
     (sym o, rw o)
 
 cast-put-header : tie.Need-cast-put-header
-cast-put-header c = omega (arith, leb-true _ _ (told (c .before .before .before .before .before .before .before .before .before .before .before .before .before .before .before .before .before .before .enum-told .given .1) (c .before .before .before .before .before .before .before .before .before .before .before .before .before .before .before .before .before .before .before .before .pass-if .ensures)))
+cast-put-header c =
+    let s = c .before .before .before .before .before .before .before .before .before .before .before .before .before .before .before .before .before .before .before .before .before .before .args in
+    omega (arith, leb-true (s .rounds) maxRounds (told (c .before .before .before .before .before .before .before .before .before .before .before .before .before .before .before .before .before .before .enum-told .given .1) (c .before .before .before .before .before .before .before .before .before .before .before .before .before .before .before .before .before .before .before .before .pass-if .ensures)))
 
 put-header-requires : tie.Need-put-header-requires
 put-header-requires c κs =
     let s = c .before .before .before .before .before .before .before .before .before .before .before .before .before .before .before .before .before .before .before .before .before .before .args in
     let z : toZ w64 (ofZ w64 (s .total)) ≡ s .total = toZ-ofZ (c .before .before .before .before .before .before .before .before .before .before .before .before .before .before .before .before .before .before .before .before .before .before .fits .total) in
-    (omega (arith, leb-true _ _ (told (c .before .enum-told11 .given .1) (c .before .before .before .pass-if3 .ensures ∙ ap (λ m. leb m (length (s .file .now))) (c .before .before .before .before .proof-size .ensures)))), rw z (omega (arith, within-limit (s .p) (s .total) (told (c .before .before .before .before .before .before .before .before .before .before .before .before .before .before .enum-told3 .given .1) (c .before .before .before .before .before .before .before .before .before .before .before .before .before .before .before .before .pass-if2 .ensures ∙ c .before .before .before .before .before .before .before .before .before .before .before .before .before .before .before .before .before .within .ensures ∙ ap (inLimits (s .p)) z)))))
+    (omega (arith, leb-true (proofSize (s .rounds)) (length (s .file .now)) (told (c .before .enum-told11 .given .1) (c .before .before .before .pass-if3 .ensures ∙ ap (λ m. leb m (length (s .file .now))) (c .before .before .before .before .proof-size .ensures)))), rw z (omega (arith, within-limit (s .p) (s .total) (told (c .before .before .before .before .before .before .before .before .before .before .before .before .before .before .enum-told3 .given .1) (c .before .before .before .before .before .before .before .before .before .before .before .before .before .before .before .before .pass-if2 .ensures ∙ c .before .before .before .before .before .before .before .before .before .before .before .before .before .before .before .before .before .within .ensures ∙ ap (inLimits (s .p)) z)))))
 
 mul-put-numbers : tie.Need-mul-put-numbers
 mul-put-numbers c = search needs
@@ -143,7 +148,7 @@ mul-put-numbers c = search needs
 put-numbers-requires : tie.Need-put-numbers-requires
 put-numbers-requires c κs =
     let s = c .before .before .before .before .before .before .before .before .before .before .before .before .before .before .before .before .before .before .before .before .before .before .before .before .before .before .args in
-    (omega (arith, leb-true _ _ (told (c .before .before .before .before .before .before .before .before .before .before .before .before .before .before .before .before .before .before .before .before .before .before .enum-told .given .1) (c .before .before .before .before .before .before .before .before .before .before .before .before .before .before .before .before .before .before .before .before .before .before .before .before .pass-if .ensures))), omega (arith, leb-true _ _ (told (c .before .before .before .before .before .enum-told11 .given .1) (c .before .before .before .before .before .before .before .pass-if3 .ensures ∙ ap (λ m. leb m (length (s .file .now))) (c .before .before .before .before .before .before .before .before .proof-size .ensures)))))
+    (omega (arith, leb-true (s .rounds) maxRounds (told (c .before .before .before .before .before .before .before .before .before .before .before .before .before .before .before .before .before .before .before .before .before .before .enum-told .given .1) (c .before .before .before .before .before .before .before .before .before .before .before .before .before .before .before .before .before .before .before .before .before .before .before .before .pass-if .ensures))), omega (arith, leb-true (proofSize (s .rounds)) (length (s .file .now)) (told (c .before .before .before .before .before .enum-told11 .given .1) (c .before .before .before .before .before .before .before .pass-if3 .ensures ∙ ap (λ m. leb m (length (s .file .now))) (c .before .before .before .before .before .before .before .before .proof-size .ensures)))))
 
 mul-put32 : tie.Need-mul-put32
 mul-put32 c = search needs
@@ -154,7 +159,7 @@ add-put32 c = search needs
 put32-requires : tie.Need-put32-requires
 put32-requires c κs =
     let s = c .before .before .before .before .before .before .before .before .before .before .before .before .before .before .before .before .before .before .before .before .before .before .before .before .before .before .before .before .before .before .args in
-    omega (arith, leb-true _ _ (told (c .before .before .before .before .before .before .before .before .before .enum-told11 .given .1) (c .before .before .before .before .before .before .before .before .before .before .before .pass-if3 .ensures ∙ ap (λ m. leb m (length (s .file .now))) (c .before .before .before .before .before .before .before .before .before .before .before .before .proof-size .ensures))))
+    omega (arith, leb-true (proofSize (s .rounds)) (length (s .file .now)) (told (c .before .before .before .before .before .before .before .before .before .enum-told11 .given .1) (c .before .before .before .before .before .before .before .before .before .before .before .pass-if3 .ensures ∙ ap (λ m. leb m (length (s .file .now))) (c .before .before .before .before .before .before .before .before .before .before .before .before .proof-size .ensures))))
 
 mul-put32-2 : tie.Need-mul-put32-2
 mul-put32-2 c = search needs
@@ -165,7 +170,7 @@ add-put32-2 c = search needs
 put32-requires-2 : tie.Need-put32-requires-2
 put32-requires-2 c κs =
     let s = c .before .before .before .before .before .before .before .before .before .before .before .before .before .before .before .before .before .before .before .before .before .before .before .before .before .before .before .before .before .before .before .before .before .before .args in
-    omega (arith, leb-true _ _ (told (c .before .before .before .before .before .before .before .before .before .before .before .before .before .enum-told11 .given .1) (c .before .before .before .before .before .before .before .before .before .before .before .before .before .before .before .pass-if3 .ensures ∙ ap (λ m. leb m (length (s .file .now))) (c .before .before .before .before .before .before .before .before .before .before .before .before .before .before .before .before .proof-size .ensures))))
+    omega (arith, leb-true (proofSize (s .rounds)) (length (s .file .now)) (told (c .before .before .before .before .before .before .before .before .before .before .before .before .before .enum-told11 .given .1) (c .before .before .before .before .before .before .before .before .before .before .before .before .before .before .before .pass-if3 .ensures ∙ ap (λ m. leb m (length (s .file .now))) (c .before .before .before .before .before .before .before .before .before .before .before .before .before .before .before .before .proof-size .ensures))))
 
 same-length : tie.Need-same-length
 same-length c = search needs
@@ -175,12 +180,12 @@ unfolding writtenIn
 returns-7 c =
     let s = c .before .before .before .before .before .before .before .before .before .before .before .before .before .before .before .before .before .before .before .before .before .before .before .before .before .before .before .before .before .before .before .before .before .before .before .before .before .args in
     let z : toZ w64 (ofZ w64 (s .total)) ≡ s .total = toZ-ofZ (c .before .before .before .before .before .before .before .before .before .before .before .before .before .before .before .before .before .before .before .before .before .before .before .before .before .before .before .before .before .before .before .before .before .before .before .before .before .fits .total) in
-    let h : 3 * s .rounds ≤ length (s .messages) = omega (arith, leb-true _ _ (told (c .before .before .before .before .before .before .before .before .before .before .before .before .before .before .before .before .before .before .before .before .before .before .before .before .before .before .before .before .before .before .before .before .before .enum-told .given .1) (c .before .before .before .before .before .before .before .before .before .before .before .before .before .before .before .before .before .before .before .before .before .before .before .before .before .before .before .before .before .before .before .before .before .before .before .pass-if .ensures)), c .before .before .before .before .before .before .before .before .before .before .before .before .before .before .before .before .before .before .before .before .before .before .before .before .before .before .before .before .before .before .before .before .before .before .before .before .before .good) in
+    let h : 3 * s .rounds ≤ length (s .messages) = omega (arith, leb-true (s .rounds) maxRounds (told (c .before .before .before .before .before .before .before .before .before .before .before .before .before .before .before .before .before .before .before .before .before .before .before .before .before .before .before .before .before .before .before .before .before .enum-told .given .1) (c .before .before .before .before .before .before .before .before .before .before .before .before .before .before .before .before .before .before .before .before .before .before .before .before .before .before .before .before .before .before .before .before .before .before .before .pass-if .ensures)), c .before .before .before .before .before .before .before .before .before .before .before .before .before .before .before .before .before .before .before .before .before .before .before .before .before .before .before .before .before .before .before .before .before .before .before .before .before .good) in
     let o = row-written (s .p) (s .rounds) (s .total) (s .messages) (s .f) (s .g) (s .file .now) (told (c .before .before .before .before .before .before .before .before .before .before .before .before .before .before .before .before .before .before .before .before .before .before .before .before .before .before .before .before .before .before .before .before .before .enum-told .given .1) (c .before .before .before .before .before .before .before .before .before .before .before .before .before .before .before .before .before .before .before .before .before .before .before .before .before .before .before .before .before .before .before .before .before .before .before .pass-if .ensures)) (told (c .before .before .before .before .before .before .before .before .before .before .before .before .before .before .before .before .before .before .before .before .before .before .before .before .before .before .before .before .before .enum-told3 .given .1) (c .before .before .before .before .before .before .before .before .before .before .before .before .before .before .before .before .before .before .before .before .before .before .before .before .before .before .before .before .before .before .before .pass-if2 .ensures ∙ c .before .before .before .before .before .before .before .before .before .before .before .before .before .before .before .before .before .before .before .before .before .before .before .before .before .before .before .before .before .before .before .before .within .ensures ∙ ap (inLimits (s .p)) z)) (told (c .before .before .before .before .before .before .before .before .before .before .before .before .before .before .before .before .before .before .before .before .before .before .before .before .before .before .enum-told5 .given .1) (c .before .before .before .before .before .before .before .before .before .before .before .before .before .before .before .before .before .before .before .before .before .before .before .before .before .before .before .before .values-reduced .ensures)) (told (c .before .before .before .before .before .before .before .before .before .before .before .before .before .before .before .before .before .before .before .before .before .before .before .enum-told7 .given .1) (c .before .before .before .before .before .before .before .before .before .before .before .before .before .before .before .before .before .before .before .before .before .before .before .before .before .reduced .ensures)) (told (c .before .before .before .before .before .before .before .before .before .before .before .before .before .before .before .before .before .before .before .before .enum-told9 .given .1) (c .before .before .before .before .before .before .before .before .before .before .before .before .before .before .before .before .before .before .before .before .before .before .reduced2 .ensures)) (told (c .before .before .before .before .before .before .before .before .before .before .before .before .before .before .before .before .enum-told11 .given .1) (c .before .before .before .before .before .before .before .before .before .before .before .before .before .before .before .before .before .before .pass-if3 .ensures ∙ ap (λ m. leb m (length (s .file .now))) (c .before .before .before .before .before .before .before .before .before .before .before .before .before .before .before .before .before .before .before .proof-size .ensures))) in (
       ap answered (c .before .before .before .before .before .before .before .before .before .before .before .before .before .before .before .before .before .before .before .proof-size .ensures) ∙ sym o,
       rw o
           (written (s .rounds) (s .total) (s .messages) (s .f) (s .g) h (s .file .now) (c .before .before .before .before .before .before .before .before .before .before .before .before .before .before .put-header .last .0) (c .before .before .before .before .before .before .before .before .before .before .put-numbers .last .0) (c .before .before .before .before .before .before .put32 .last .0) (c .before .before .put322 .last .0)
-          (leb-true _ _ (told (c .before .before .before .before .before .before .before .before .before .before .before .before .before .before .before .before .enum-told11 .given .1) (c .before .before .before .before .before .before .before .before .before .before .before .before .before .before .before .before .before .before .pass-if3 .ensures ∙ ap (λ m. leb m (length (s .file .now))) (c .before .before .before .before .before .before .before .before .before .before .before .before .before .before .before .before .before .before .before .proof-size .ensures))))
+          (leb-true (proofSize (s .rounds)) (length (s .file .now)) (told (c .before .before .before .before .before .before .before .before .before .before .before .before .before .before .before .before .enum-told11 .given .1) (c .before .before .before .before .before .before .before .before .before .before .before .before .before .before .before .before .before .before .pass-if3 .ensures ∙ ap (λ m. leb m (length (s .file .now))) (c .before .before .before .before .before .before .before .before .before .before .before .before .before .before .before .before .before .before .before .proof-size .ensures))))
           (rw z at (c .before .before .before .before .before .before .before .before .before .before .before .before .before .before .put-header .ensures))
           (c .before .before .before .before .before .before .before .before .before .before .put-numbers .ensures)
           (c .before .before .before .before .before .before .put32 .ensures)
