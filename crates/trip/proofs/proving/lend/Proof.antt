@@ -11,10 +11,10 @@ use Rattle.trip.proofs.proving.lend.Statement.{statement}
 use Rattle.trip.proofs.proving.lend.Tie as tie
 
 abbrev Inv-loop : tie.InvT-loop
-Inv-loop rounds log f₀ g₀ size i₀ f g i = (i ≤ size) × (f ≡ overwrite (fAt log) i f₀) × (g ≡ overwrite (gAt log) i g₀)
+Inv-loop start log f₀ g₀ size i₀ f g i = (i ≤ size) × (f ≡ overwrite (fAt start log) i f₀) × (g ≡ overwrite (gAt start log) i g₀)
 
 abbrev μ-loop : tie.MeasureT-loop
-μ-loop rounds log f₀ g₀ size i₀ f g i = size - i
+μ-loop start log f₀ g₀ size i₀ f g i = size - i
 
 size-of-requires : tie.Need-size-of-requires Inv-loop μ-loop
 size-of-requires c κs = search needs
