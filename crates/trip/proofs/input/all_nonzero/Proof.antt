@@ -43,9 +43,9 @@ enum-told-2 c = search needs
 
 returns : tie.Need-returns Inv-loop μ-loop
 returns c =
-    let x = numberAt (c@args .numbers .now) (c@loop .k) in
-    let e : checkedNonzero modulus x ≡ Unreduced = ap₂ checkedNonzero (sym (c@modulus .ensures)) (sym (c@word .ensures)) ∙ sym (c@nonzero-in .ensures) ∙ c@enum-told2 .given .1 in
-    sym (every-false (λ k. isNonzero modulus (numberAt (c@args .numbers .now) k)) (c@args .count) (c@loop .k) (omega arith) (none-nonzero modulus x e))
+    let x = numberAt (c .before .before .before .before .before .before .before .before .args .numbers .now) (c .before .before .before .before .before .before .loop .k) in
+    let e : checkedNonzero modulus x ≡ Unreduced = ap₂ checkedNonzero (sym (c .before .before .before .before .modulus .ensures)) (sym (c .before .before .before .word .ensures)) ∙ sym (c .before .before .nonzero-in .ensures) ∙ c .enum-told2 .given .1 in
+    sym (every-false (λ k. isNonzero modulus (numberAt (c .before .before .before .before .before .before .before .before .args .numbers .now) k)) (c .before .before .before .before .before .before .before .before .args .count) (c .before .before .before .before .before .before .loop .k) (omega arith) (none-nonzero modulus x e))
 
 add-k : tie.Need-add-k Inv-loop μ-loop
 add-k c = search needs
@@ -55,9 +55,9 @@ loop-less c = search needs
 
 loop-again : tie.Need-loop-again Inv-loop μ-loop
 loop-again c =
-    let x = numberAt (c@args .numbers .now) (c@loop .k) in
-    let e : checkedNonzero modulus x ≡ Number (c@enum-told .given .0) = ap₂ checkedNonzero (sym (c@modulus .ensures)) (sym (c@word .ensures)) ∙ sym (c@nonzero-in .ensures) ∙ c@enum-told .given .1 in
-    (omega arith, below-more _ _ (c@loop .inv .1) (number-nonzero modulus x _ e .0))
+    let x = numberAt (c .before .before .before .before .before .before .before .before .args .numbers .now) (c .before .before .before .before .before .before .loop .k) in
+    let e : checkedNonzero modulus x ≡ Number (c .enum-told .given .0 .0) = ap₂ checkedNonzero (sym (c .before .before .before .before .modulus .ensures)) (sym (c .before .before .before .word .ensures)) ∙ sym (c .before .before .nonzero-in .ensures) ∙ c .enum-told .given .1 in
+    (omega arith, below-more _ _ (c .before .before .before .before .before .before .loop .inv .1) (number-nonzero modulus x _ e .0))
 
 returns-2 : tie.Need-returns-2 Inv-loop μ-loop
 returns-2 c = sym (every-true (λ k. isNonzero modulus (numberAt (c .before .before .before .args .numbers .now) k)) (c .before .before .before .args .count) (λ j h. c .before .loop .inv .1 j (omega arith)))

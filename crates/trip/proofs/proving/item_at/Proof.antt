@@ -28,7 +28,7 @@ returns : tie.Need-returns
 unfolding pairAt
 returns c = let r = c .before .before .reading .given in
     let u = toZ-ofZ {w = w16} {z = r .0 .0} (search needs) in
-    rw (← c .before .before .before .before .log-item .ensures, r .1) (c .pair .ensures ∙ ap (λ z. orZero (partsOf modulus (c@args .start) (c@args .i) (Reading z (r .0 .1 .0)))) u)
+    rw (← c .before .before .before .before .log-item .ensures, r .1) (c .pair .ensures ∙ ap (λ z. orZero (partsOf modulus (c .before .before .before .before .before .before .args .start) (c .before .before .before .before .before .before .args .i) (Reading z (r .0 .1 .0)))) u)
 
 returns-2 : tie.Need-returns-2
 unfolding pairAt
