@@ -7,12 +7,13 @@ ghost use lib.ListN.{length};
 ghost use Rattle.io.specs.Counts.{Counts};
 ghost use Rattle.field.specs.Modulus.{modulus};
 ghost use Rattle.vector.specs.Slice.{every, isNonzero};
-ghost use Rattle.wire.specs.Number.{numAt};
+ghost use Rattle.wire.specs.Number.{wordAt};
 ghost use Rattle.wire.specs.Log.{logCount, logOf};
 ghost use Rattle.trip.specs.Input.{limit, headedIn, readLimited, readNumbers, readTrip, inputOf, numberAt};
 use field::Checked;
 use field::Field;
 use wire::log::LogRead;
+use wire::words::word_at;
 
 // The program's own limit on L.
 const LIMIT: u32 = 4096;
@@ -100,7 +101,7 @@ fn all_nonzero(numbers: &[u8], count: usize) -> bool
 {
     let mut k: usize = 0;
     while k < count {
-        let Checked::Number(_) = Field::nonzero_in(field::modulus(), word(numbers, 4 * k)) else {
+        let Checked::Number(_) = Field::nonzero_in(field::modulus(), word_at(numbers, 4 * k)) else {
             return false;
         };
         k += 1;
@@ -110,20 +111,9 @@ fn all_nonzero(numbers: &[u8], count: usize) -> bool
 
 // Number k of trip.rvc; zero past its end.
 pub(crate) fn number(numbers: &[u8], k: u32) -> u32
-    ensures { λ r. ⌜ r ≡ cond (ltb (length (now (numbers .entry))) (4 * k + 4)) 0 (numberAt (now (numbers .entry)) k) ⌝ }
+    ensures { λ r. ⌜ r ≡ wordAt (now (numbers .entry)) (4 * k) ⌝ }
 {
-    let at = 4 * (k as usize);
-    if numbers.len() < at + 4 {
-        return 0;
-    }
-    word(numbers, at)
-}
-
-fn word(s: &[u8], at: usize) -> u32
-    requires { ⌜ at + 4 ≤ length (now s) ⌝ }
-    ensures { λ r. ⌜ r ≡ numAt 4 (now (s .entry)) at ⌝ }
-{
-    wide(s[at]) + 256 * wide(s[at + 1]) + 65536 * wide(s[at + 2]) + 16777216 * wide(s[at + 3])
+    word_at(numbers, 4 * (k as usize))
 }
 
 fn wide(x: u8) -> u32

@@ -2,7 +2,7 @@
 use Prim.Native.Nat.{ℕ, zero, suc, _+_, _-_, _*_, _/_, _%_, _^_}
 use mathlib.Core.List.{List, [], _∷_}
 use mathlib.Core.Bool.{cond}
-use lib.ListN.{take, drop}
+use lib.ListN.{length, take, drop}
 use lib.Dec.{ltb}
 use lib.IntN.{ℤ, pos, negsuc}
 
@@ -14,6 +14,10 @@ num (b ∷ bs) = b + 256 * num bs
 -- the number in the k bytes from a place on
 unfoldable pub numAt : ℕ → List ℕ → ℕ → ℕ
 numAt k file at = num (take k (drop at file))
+
+-- the number in four bytes, zero where they are not there
+abbrev pub wordAt : List ℕ → ℕ → ℕ
+wordAt file at = cond (ltb (length file) (at + 4)) 0 (numAt 4 file at)
 
 -- the k bytes of a number, the lowest first
 unfoldable pub bytes : ℕ → ℕ → List ℕ

@@ -4,3 +4,4 @@ pub mod log;
 pub mod matrix;
 mod number;
 pub mod proof;
+pub mod words;

@@ -1,8 +1,10 @@
-use mathlib.Core.Bool.{true}
-use mathlib.Core.Path.{_≡_, sym, ap₂, _∙_}
-use Prim.Native.Nat.{ℕ, _≤_, _<_, _-_}
+use mathlib.Core.Bool.{true, cond}
+use mathlib.Core.Path.{_≡_, sym, ap, ap₂, _∙_}
+use Prim.Native.Nat.{ℕ, _+_, _*_, _-_, _≤_, _<_}
 use native.Mathlib.Omega.{arith}
+use lib.ListN.{length}
 use borrow.Author.Count.{below-more}
+use borrow.Author.Tests.{le-ltb}
 use borrow.Author.Needs.{needs}
 use Rattle.field.specs.Modulus.{modulus}
 use Rattle.field.specs.Number.{checkedNonzero}
@@ -23,11 +25,11 @@ abbrev μ-loop : tie.MeasureT-loop
 loop-holds : tie.Need-loop-holds Inv-loop μ-loop
 loop-holds c = (omega arith, λ j h. absurd (omega arith))
 
-mul-word : tie.Need-mul-word Inv-loop μ-loop
-mul-word c = search needs
+mul-word-at : tie.Need-mul-word-at Inv-loop μ-loop
+mul-word-at c = search needs
 
-word-requires : tie.Need-word-requires Inv-loop μ-loop
-word-requires c κs = search needs
+word-at-requires : tie.Need-word-at-requires Inv-loop μ-loop
+word-at-requires c κs = search needs
 
 nonzero-in-requires : tie.Need-nonzero-in-requires Inv-loop μ-loop
 nonzero-in-requires c κs = search needs
@@ -41,10 +43,16 @@ enum-told c = search needs
 enum-told-2 : tie.Need-enum-told-2 Inv-loop μ-loop
 enum-told-2 c = search needs
 
+-- the four bytes are there
+there : (c : tie.After-word-at Inv-loop μ-loop) → c .word-at .result ≡ numberAt (c .before .before .before .before .before .args .numbers .now) (c .before .before .before .loop .k)
+there c = let s = c .before .before .before .before .before .args in
+    c .word-at .ensures
+    ∙ ap (λ b. cond b 0 (numberAt (s .numbers .now) (c .before .before .before .loop .k))) (le-ltb (length (s .numbers .now)) (4 * c .before .before .before .loop .k + 4) (omega arith))
+
 returns : tie.Need-returns Inv-loop μ-loop
 returns c =
     let x = numberAt (c .before .before .before .before .before .before .before .before .args .numbers .now) (c .before .before .before .before .before .before .loop .k) in
-    let e : checkedNonzero modulus x ≡ Unreduced = ap₂ checkedNonzero (sym (c .before .before .before .before .modulus .ensures)) (sym (c .before .before .before .word .ensures)) ∙ sym (c .before .before .nonzero-in .ensures) ∙ c .enum-told2 .given .1 in
+    let e : checkedNonzero modulus x ≡ Unreduced = ap₂ checkedNonzero (sym (c .before .before .before .before .modulus .ensures)) (sym (there (c .before .before .before))) ∙ sym (c .before .before .nonzero-in .ensures) ∙ c .enum-told2 .given .1 in
     sym (every-false (λ k. isNonzero modulus (numberAt (c .before .before .before .before .before .before .before .before .args .numbers .now) k)) (c .before .before .before .before .before .before .before .before .args .count) (c .before .before .before .before .before .before .loop .k) (omega arith) (none-nonzero modulus x e))
 
 add-k : tie.Need-add-k Inv-loop μ-loop
@@ -56,7 +64,7 @@ loop-less c = search needs
 loop-again : tie.Need-loop-again Inv-loop μ-loop
 loop-again c =
     let x = numberAt (c .before .before .before .before .before .before .before .before .args .numbers .now) (c .before .before .before .before .before .before .loop .k) in
-    let e : checkedNonzero modulus x ≡ Number (c .enum-told .given .0 .0) = ap₂ checkedNonzero (sym (c .before .before .before .before .modulus .ensures)) (sym (c .before .before .before .word .ensures)) ∙ sym (c .before .before .nonzero-in .ensures) ∙ c .enum-told .given .1 in
+    let e : checkedNonzero modulus x ≡ Number (c .enum-told .given .0 .0) = ap₂ checkedNonzero (sym (c .before .before .before .before .modulus .ensures)) (sym (there (c .before .before .before))) ∙ sym (c .before .before .nonzero-in .ensures) ∙ c .enum-told .given .1 in
     (omega arith, below-more _ _ (c .before .before .before .before .before .before .loop .inv .1) (number-nonzero modulus x _ e .0))
 
 returns-2 : tie.Need-returns-2 Inv-loop μ-loop
@@ -70,8 +78,8 @@ all-nonzero-spec =
     μ-loop
     loop-holds
     modulus-requires
-    mul-word
-    word-requires
+    mul-word-at
+    word-at-requires
     nonzero-in-requires
     enum-told
     enum-told-2
