@@ -29,7 +29,7 @@ use Rattle.runs.proofs.PassRecord.{after-kind, after-taken}
 use Rattle.runs.proofs.PassTotal.{after-total}
 use Rattle.runs.proofs.PassFormed.{after-formed}
 use Rattle.calls.specs.State.{State}
-use Rattle.calls.proofs.Records.{inArray, runOf, passOf}
+use Rattle.calls.proofs.Records.{Notes, inArray, runOf, passOf}
 
 -- how many messages were given
 abbrev pub givenAt : ℕ → Next → ℕ
@@ -61,9 +61,9 @@ pub record PassFits (p : ℕ) (s : Start) (m : Mode) (t : Next) (k : Kind) (xs :
   pub within : AllWithin xs
   pub fine : (q : ℕ) → Fine p (getD xs q (numbers 0 0))
 
-pub record Fits (p : ℕ) (a : State) : Type 0 where
-  pub run : RunFits p (a .start) (a .next) (a .challenges) (a .total) (a .messages) (a .fend) (a .gend)
-  pub pass : PassFits p (a .start) (a .mode) (a .next) (a .kind) (a .items)
+pub record Fits (p : ℕ) (a : State) (past : Notes) : Type 0 where
+  pub run : RunFits p (a .start) (a .turn .next) (a .turn .challenges) (past .total) (past .messages) (past .fend) (past .gend)
+  pub pass : PassFits p (a .start) (a .turn .mode) (a .turn .next) (a .pass .kind) (a .pass .items)
 
 pub lt-or-le : (j m : ℕ) → (j < m) ⊎ (m ≤ j)
 lt-or-le j m = by (ltb j m) refl
@@ -93,11 +93,11 @@ unfolding allBelow
 all-below p v h zero = refl
 all-below p v h (suc m) = rw (all-below p v h m, lt-ltb (v m) p (h m))
 
-module _ (p : ℕ) (a : State) (h : Fits p a) where
+module _ (p : ℕ) (a : State) {past : Notes} (h : Fits p a past) where
   pub few : a .start .rounds ≤ 15
   few = omega (arith, h .run .rounds, rounds-at-most (a .start .items) (h .run .most))
 
-  pub run-formed : runFormed p (runOf a) ≡ true
+  pub run-formed : runFormed p (runOf a past) ≡ true
   unfolding runFormed
   run-formed =
       rw (
@@ -109,18 +109,18 @@ module _ (p : ℕ) (a : State) (h : Fits p a) where
       )
 
   -- the records are well formed
-  pub formed : wellFormed p (runOf a) (passOf p a) ≡ true
+  pub formed : wellFormed p (runOf a past) (passOf p a past) ≡ true
   formed =
-      after-formed p (runOf a) (a .point) run-formed (a .kind) (a .items) (h .pass .kind) (h .pass .within) (h .pass .count) (h .pass .idle)
+      after-formed p (runOf a past) (a .pass .point) run-formed (a .pass .kind) (a .pass .items) (h .pass .kind) (h .pass .within) (h .pass .count) (h .pass .idle)
 
-  pub kind-is : passOf p a .kind ≡ a .kind
-  kind-is = after-kind p (runOf a) (a .kind) (a .point) (a .items)
+  pub kind-is : passOf p a past .kind ≡ a .pass .kind
+  kind-is = after-kind p (runOf a past) (a .pass .kind) (a .pass .point) (a .pass .items)
 
-  pub taken-is : passOf p a .taken ≡ length (a .items)
-  taken-is = after-taken p (runOf a) (a .kind) (a .point) (a .items)
+  pub taken-is : passOf p a past .taken ≡ length (a .pass .items)
+  taken-is = after-taken p (runOf a past) (a .pass .kind) (a .pass .point) (a .pass .items)
 
-  pub sum-is : isTotal (a .next) ≡ true → passOf p a .total ≡ sumOf (a .items)
-  sum-is e = after-total p (runOf a) (a .kind) (a .point) e (a .items) (h .pass .within) (omega (arith, h .pass .count, h .run .most))
+  pub sum-is : isTotal (a .turn .next) ≡ true → passOf p a past .total ≡ sumOf (a .pass .items)
+  sum-is e = after-total p (runOf a past) (a .pass .kind) (a .pass .point) e (a .pass .items) (h .pass .within) (omega (arith, h .pass .count, h .run .most))
 
-  pub messages-below : 0 < p → allBelow p (λ k. getD (runOf a .messages) k 0) (3 * a .start .rounds) ≡ true
-  messages-below some = all-below p (λ k. getD (runOf a .messages) k 0) (array-below p 45 (a .messages) some (h .run .below)) (3 * a .start .rounds)
+  pub messages-below : 0 < p → allBelow p (λ k. getD (runOf a past .messages) k 0) (3 * a .start .rounds) ≡ true
+  messages-below some = all-below p (λ k. getD (runOf a past .messages) k 0) (array-below p 45 (past .messages) some (h .run .below)) (3 * a .start .rounds)

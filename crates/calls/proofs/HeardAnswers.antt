@@ -34,8 +34,9 @@ use Rattle.runs.specs.Trip.{reading, numbers, Trip, itemOf, vectorF, vectorG}
 use Rattle.calls.specs.declared.query.Query.{Query}
 use Rattle.calls.specs.declared.query.Query.the-variants as query
 use Rattle.calls.specs.QueryStep.{Shown, toldOf, toldVerdict, toldOpening}
-use Rattle.calls.specs.QueryState.{VerifierState, atRound, hearing, hears as goesOn, isWhole, verifierTable, Brings, Says}
+use Rattle.calls.specs.QueryState.{VerifierState, atRound, hearing, hears as goesOn, isWhole, verifierTable}
 use Rattle.calls.specs.Meaning.{messageAt, proofOfTrip}
+use Rattle.calls.proofs.HeardMeaning.{BringsTrip, SaysTrip}
 use Rattle.calls.proofs.QueryStands.{verdict-turn}
 use Rattle.calls.proofs.QueryTurns.{item-rows, item-weight, field-rows, field-numbers, close-rows, claim-rows, file-rows, message-rows, verdict-row, opening-point}
 use Rattle.calls.proofs.QuerySteps.{heardAs, answers}
@@ -139,8 +140,8 @@ module _ (p : ℕ) (large : maxWeight < p) (prime : Prime p) (odd : p % 2 ≡ 1)
         (subst (λ b. Follows p T cs (atRound a 0 b) w) (sym (f .going)) g)
 
     -- THE ANSWER, and the state after it
-    pub answers-right : (c : Query) (l : Shown) → verifierTable p a c l ≡ none → Brings p T a c l
-        → Says p T a c l (answers p v c l .told) × Follows p T cs (goesOn a c (answers p v c l .told)) (answers p v c l .verifier)
+    pub answers-right : (c : Query) (l : Shown) → verifierTable p a c l ≡ none → BringsTrip p T a c l
+        → SaysTrip p T a c l (answers p v c l .told) × Follows p T cs (goesOn a c (answers p v c l .told)) (answers p v c l .verifier)
     answers-right (query.Item z w) l e brings =
         let rows = item-rows p a l z w e in (
           refl,

@@ -3,12 +3,14 @@ pub mod Arrays
 pub mod Guards
 pub mod Steps
 pub mod Turns
+pub mod ItemRows
 pub mod AnswerParts
 pub mod Fits
 pub mod Numbers
 pub mod Follows
 pub mod Refusals
 pub mod Agrees
+pub mod KeptCalls
 pub mod Means
 pub mod Effects
 pub mod Rights
@@ -21,6 +23,7 @@ pub mod QuerySteps
 pub mod QueryKeeps
 pub mod QueryLists
 pub mod QueryVerdicts
+pub mod HeardMeaning
 pub mod HeardTrip
 pub mod HeardFollows
 pub mod HeardFile
@@ -31,8 +34,8 @@ pub mod QueryArms
 pub mod Alike
 pub mod Hits
 pub mod Links
-pub mod LiveStep
 pub mod LiveTable
+pub mod LiveStep
 pub mod LiveVectors
 pub mod LiveWorld
 pub mod LivePass
@@ -42,3 +45,5 @@ pub mod LiveExample
 pub mod Dispatch
 pub mod Demand3
 pub mod RuleTrips
+pub mod ExampleKept
+pub mod Examples

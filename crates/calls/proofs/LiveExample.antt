@@ -8,11 +8,11 @@ use lib.IntN.{pos, negsuc}
 use lib.ListN.{replicate}
 use Rattle.field.specs.Total.{inLimits}
 use Rattle.vector.specs.Rounds.{powers, firstFrom}
-use Rattle.prover.specs.Start.{zeroPass}
 use Rattle.runs.specs.Trip.{reading, Trip, itemOf, sumOf}
 use Rattle.calls.specs.Step.{Lent}
-use Rattle.calls.specs.Statement.{startRun}
-use Rattle.calls.specs.Proper.{ItemFits, Valid, AllNonzero, Brings, properRun, AllAnswered}
+use Rattle.calls.specs.World.{freshWorld}
+use Rattle.calls.specs.Proper.{ItemFits, Valid, AllNonzero, Brings, properRun}
+use Rattle.calls.specs.Demand3.{AllAnswered}
 use Rattle.calls.proofs.Live.{proper-answered}
 
 abbrev P : ℕ
@@ -27,7 +27,7 @@ trip =
 
 valid : Valid P trip
 unfolding powers firstFrom inLimits sumOf
-valid = record { some = omega arith; most = omega arith; rounds = refl; whole = refl; items = fits; total = λ e. refl }
+valid = record { whole = record { start = record { least = omega arith; most = omega arith; rounds = refl }; items = refl }; items = fits; total = λ e. refl }
   where
     fits : (i : ℕ) → i < 3 → ItemFits P true (itemOf trip i)
     fits zero h = (refl, omega arith, omega arith)
@@ -51,5 +51,5 @@ brings k x = record { count = refl; challenges = two; points = one; room = λ h.
     one zero h = refl
     one (suc j) h = absurd (omega arith)
 
-pub trip-answered : (k x : ℕ) → AllAnswered P (startRun (trip .start)) zeroPass (properRun P trip k (2 ∷ 3 ∷ []) (2 ∷ []) (lent x))
+pub trip-answered : (k x : ℕ) → AllAnswered P (freshWorld (trip .start) (lent x .f) (lent x .g)) (properRun P trip k (2 ∷ 3 ∷ []) (2 ∷ []) (lent x))
 trip-answered k x = proper-answered P (omega arith) trip valid k (2 ∷ 3 ∷ []) (2 ∷ []) (lent x) (brings k x)

@@ -29,8 +29,8 @@ use Rattle.runs.specs.Trip.{reading, numbers, partsIn}
 use Rattle.calls.specs.declared.query.Query.the-variants as query
 use Rattle.calls.specs.QueryStep.{Shown}
 use Rattle.calls.specs.QueryState.{VerifierState, passRows, isWanted, isWhole, fileRows, verifierTable}
-use Rattle.calls.specs.Table.{Refusal, row, rowAt}
-use Rattle.calls.proofs.Guards.{decided, same-row, like-row}
+use Rattle.calls.specs.Table.{Refusal, decided, row, rowAt}
+use Rattle.calls.proofs.Guards.{same-row, like-row}
 use Rattle.calls.proofs.QueryStands.{Stands, message-turn, verdict-turn}
 
 -- a check beside its row, where what follows may use that the check passed

@@ -30,7 +30,7 @@ use Rattle.calls.specs.declared.query.Query.the-variants as query
 use Rattle.calls.specs.declared.query.Heard.{Heard}
 use Rattle.calls.specs.QueryStep.{Shown, toldOf, toldVerdict, ask}
 use Rattle.calls.specs.QueryState.{VerifierState, takesItem, atRound, hearing, hears as goesOn, verifierTable}
-use Rattle.calls.proofs.Guards.{decided}
+use Rattle.calls.specs.Table.{decided}
 use Rattle.calls.proofs.QueryStands.{Carries, Stands, verdict-closed, verdict-turn}
 use Rattle.calls.proofs.QueryGuards.{proof-decided}
 use Rattle.calls.proofs.QueryTurns.{item-rows, field-rows, close-rows, claim-rows, message-rows, verdict-row}

@@ -3,15 +3,16 @@ use mathlib.Core.Path.{_≡_, refl, sym, ap, subst, _∙_}
 use mathlib.Core.Bool.{true, false, cond}
 use mathlib.Core.List.{List, [], _∷_}
 use mathlib.Core.Option.{Option, none, some}
-use Prim.Native.Nat.{ℕ, _≤_}
-use Rattle.vector.specs.Rounds.{roundsOf}
+use Prim.Native.Nat.{ℕ}
 use Rattle.verifier.specs.declared.Verifier.{Verifier}
 use Rattle.runs.specs.Trip.{Start}
 use Rattle.calls.specs.declared.query.Query.{Query}
 use Rattle.calls.specs.declared.query.Heard.{Heard}
 use Rattle.calls.specs.QueryStep.{Shown, ask, isTold}
-use Rattle.calls.specs.QueryState.{VerifierState, freshVerifierState, hears, followHeard, verifierTable}
-use Rattle.calls.specs.QueryStatement.{Asked, refusedTold, DecidesHeard, AllDecidedHeard, startVerifier}
+use Rattle.calls.specs.QueryState.{VerifierState, hears, followHeard, verifierTable, Posed, Hearing, freshHearing, hearsOn, refusedTold, DecidesHeard}
+use Rattle.calls.specs.Lists.{along}
+use Rattle.calls.specs.Starts.{Startable}
+use Rattle.calls.specs.Demand3.{AllDecidedHeard}
 use Rattle.calls.specs.Table.{Refusal}
 use Rattle.calls.proofs.QueryStands.{Stands, fresh-stands}
 use Rattle.calls.proofs.QuerySteps.{answers, settledHeard, asks, answers-told}
@@ -43,16 +44,15 @@ module _ (p : ℕ) where
       follows p a v c (Stands p) (verifierTable p a c l) (answers p v c l) (ask p v c l) (asks p a v s c l) (answers-told p v c l) s
       (stands-after p a v s c l)
 
-  all-decided : (ms : List Asked) (a : VerifierState) (v : Verifier) → Stands p a v → AllDecidedHeard p a v ms
-  unfolding AllDecidedHeard
-  all-decided [] a v s = tt
-  all-decided (m ∷ ms) a v s = (
-    decides p a v (m .query) (verifierTable p a (m .query) (m .shown)) (answers p v (m .query) (m .shown)) _
-        (asks p a v s (m .query) (m .shown)) (answers-told p v (m .query) (m .shown)),
-    all-decided ms _ _ (stands-next a v s (m .query) (m .shown)),
+  all-decided : (qs : List Posed) (h : Hearing) → Stands p (h .state) (h .verifier) → AllDecidedHeard p h qs
+  unfolding along
+  all-decided [] h s = tt
+  all-decided (q ∷ qs) h s = (
+    decides p (h .state) (h .verifier) (q .query) (verifierTable p (h .state) (q .query) (q .shown)) (answers p (h .verifier) (q .query) (q .shown)) _
+        (asks p (h .state) (h .verifier) s (q .query) (q .shown)) (answers-told p (h .verifier) (q .query) (q .shown)),
+    all-decided qs (hearsOn p h q) (stands-next (h .state) (h .verifier) s (q .query) (q .shown)),
   )
 
 -- REFUSED EXACTLY WHEN, AND WITH THE NUMBER THAT, THE TABLE SAYS
-pub every-query : (p : ℕ) (s : Start) → 1 ≤ s .items → s .items ≤ 32768 → s .rounds ≡ roundsOf (s .items) → (cs : List ℕ) (ms : List Asked)
-    → AllDecidedHeard p (freshVerifierState s cs) (startVerifier s cs) ms
-every-query p s least most rounds cs ms = all-decided p ms _ _ (fresh-stands s least most rounds cs p)
+pub every-query : (p : ℕ) (s : Start) → Startable s → (cs : List ℕ) (qs : List Posed) → AllDecidedHeard p (freshHearing s cs) qs
+every-query p s h cs qs = all-decided p qs (freshHearing s cs) (fresh-stands s h cs p)

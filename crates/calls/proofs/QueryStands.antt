@@ -7,7 +7,6 @@ use native.Mathlib.Omega.{arith}
 use lib.Dec.{eqb, ltb}
 use lib.ListN.{length}
 use borrow.Author.Tests.{eqb-true, le-leb, le-ltb}
-use Rattle.vector.specs.Rounds.{roundsOf}
 use Rattle.vector.specs.Slice.{fifteen}
 use Rattle.verifier.specs.declared.Verifier.{Verifier}
 use Rattle.verifier.specs.Records.{no}
@@ -18,8 +17,8 @@ use Rattle.verifier.specs.Calls.{messageTurn, verdictTurn}
 use Rattle.verifier.proofs.Invariant.{both}
 use Rattle.verifier.proofs.Kept.{fresh-formed}
 use Rattle.runs.specs.Trip.{Start}
-use Rattle.calls.specs.QueryState.{VerifierState, freshVerifierState}
-use Rattle.calls.specs.QueryStatement.{startVerifier}
+use Rattle.calls.specs.QueryState.{VerifierState, freshVerifierState, startVerifier}
+use Rattle.calls.specs.Starts.{Startable}
 use Rattle.calls.proofs.Guards.{both-and}
 
 -- what the start, the challenges and k answered items fix
@@ -91,11 +90,11 @@ unfolding inCount
 in-count items some most = rw (le-ltb items 1 some, le-leb items 32768 most)
 
 -- "starts from a fresh one for the run's L, twists and challenges"
-module _ (s : Start) (some : 1 ≤ s .items) (most : s .items ≤ 32768) (rounds : s .rounds ≡ roundsOf (s .items)) (cs : List ℕ) where
+module _ (s : Start) (h : Startable s) (cs : List ℕ) where
   start-formed : wellFormed (startVerifier s cs) ≡ true
   start-formed =
-      ap (λ n. wellFormed (freshVerifier (s .items) n (s .plain) (s .twists) (fifteen (s .rounds) cs))) rounds
-      ∙ fresh-formed (s .items) (s .plain) (s .twists) (fifteen (s .rounds) cs) (in-count (s .items) some most)
+      ap (λ n. wellFormed (freshVerifier (s .items) n (s .plain) (s .twists) (fifteen (s .rounds) cs))) (h .rounds)
+      ∙ fresh-formed (s .items) (s .plain) (s .twists) (fifteen (s .rounds) cs) (in-count (s .items) (h .least) (h .most))
 
   pub fresh-stands : (p : ℕ) → Stands p (freshVerifierState s cs) (startVerifier s cs)
   unfolding freshVerifier

@@ -21,10 +21,8 @@ use Rattle.calls.specs.declared.query.Query.{Query}
 use Rattle.calls.specs.declared.query.Query.the-variants as query
 use Rattle.calls.specs.declared.query.Heard.{Heard}
 use Rattle.calls.specs.QueryStep.{Shown, toldOf, toldVerdict, toldOpening, heardStep, ask, isTold}
-use Rattle.calls.specs.QueryState.{VerifierState, verifierTable}
-use Rattle.calls.specs.QueryStatement.{refusedTold}
-use Rattle.calls.specs.Table.{Refusal}
-use Rattle.calls.proofs.Guards.{decided}
+use Rattle.calls.specs.QueryState.{VerifierState, verifierTable, refusedTold}
+use Rattle.calls.specs.Table.{Refusal, decided}
 use Rattle.calls.proofs.QueryStands.{Stands}
 use Rattle.calls.proofs.QueryGuards.{item-decided, field-item-decided, close-decided, close-claim-decided, message-decided, verdict-decided, proof-decided, opening-decided}
 

@@ -26,11 +26,16 @@ use Rattle.calls.specs.declared.query.Query.the-variants as query
 use Rattle.calls.specs.declared.query.Told.the-variants as told
 use Rattle.calls.specs.declared.query.Heard.{Heard}
 use Rattle.calls.specs.QueryStep.{Shown, toldOf, toldVerdict, ask, isTold}
-use Rattle.calls.specs.QueryStatement.{Asked, afterAsked}
+use Rattle.calls.specs.Lists.{after}
+use Rattle.calls.specs.QueryState.{Posed}
 use Rattle.calls.proofs.QueryStands.{spoken, verdict-closed}
 use Rattle.calls.proofs.QuerySteps.{heardAs}
 
 module _ (p : ℕ) where
+  -- the verifier after a list
+  abbrev pub afterPosed : Verifier → List Posed → Verifier
+  afterPosed = after (λ v q. ask p v (q .query) (q .shown) .verifier)
+
   -- where a verdict is reached, no call changes the verifier
   module _ (v : Verifier) (formed : wellFormed v ≡ true) (turn : verdictTurn v ≡ true) where
     shut : passOpen v ≡ false
@@ -52,13 +57,13 @@ module _ (p : ℕ) where
     unchanged query.Proof l = ap (λ o. leavesJudged v o .0) (sym (row-open p v (l .file) shut))
     unchanged (query.CheckOpening b) l = refl
 
-    after-same : (ms : List Asked) → afterAsked p v ms ≡ v
-    unfolding afterAsked
+    after-same : (ms : List Posed) → afterPosed v ms ≡ v
+    unfolding after
     after-same [] = refl
-    after-same (m ∷ ms) = ap (λ w. afterAsked p w ms) (unchanged (m .query) (m .shown)) ∙ after-same ms
+    after-same (m ∷ ms) = ap (λ w. afterPosed w ms) (unchanged (m .query) (m .shown)) ∙ after-same ms
 
-  again : (v : Verifier) (f : Finding) → verdict p v ≡ answered f → (ms : List Asked) (l : Shown)
-      → ask p (afterAsked p v ms) query.Verdict l ≡ record { verifier = v; told = toldVerdict (answered f) }
+  again : (v : Verifier) (f : Finding) → verdict p v ≡ answered f → (ms : List Posed) (l : Shown)
+      → ask p (afterPosed v ms) query.Verdict l ≡ record { verifier = v; told = toldVerdict (answered f) }
   unfolding ask verdict
   again v f e ms l =
       let a = require-answered (wellFormed v) number.order _ e in
@@ -66,25 +71,25 @@ module _ (p : ℕ) where
       ap (λ w. ask p w query.Verdict l) (after-same v (a .0) (b .0) ms) ∙ ap (λ o. record { verifier = v; told = toldVerdict o }) e
 
   -- A VERDICT IS GIVEN AGAIN
-  pub verdict-again : (v : Verifier) (l : Shown) → isTold (ask p v query.Verdict l .told) ≡ true → (ms : List Asked) (m : Shown)
-      → ask p (afterAsked p v ms) query.Verdict m ≡ ask p v query.Verdict l
+  pub verdict-again : (v : Verifier) (l : Shown) → isTold (ask p v query.Verdict l .told) ≡ true → (ms : List Posed) (m : Shown)
+      → ask p (afterPosed v ms) query.Verdict m ≡ ask p v query.Verdict l
   unfolding ask
   verdict-again v l h ms m = by (verdict p v) refl h
     where
       by : (o : Outcome Finding) → verdict p v ≡ o → isTold (toldVerdict o) ≡ true
-          → ask p (afterAsked p v ms) query.Verdict m ≡ record { verifier = v; told = toldVerdict o }
+          → ask p (afterPosed v ms) query.Verdict m ≡ record { verifier = v; told = toldVerdict o }
       by (answered f) e h = again v f e ms m
       by (refused k) e h = absurd (true≢false (sym h))
       by (refusedAt k i) e h = absurd (true≢false (sym h))
 
   -- that of a proof file too
-  pub file-verdict-again : (v : Verifier) (l : Shown) → isTold (ask p v query.Proof l .told) ≡ true → (ms : List Asked) (m : Shown)
-      → ask p (afterAsked p (ask p v query.Proof l .verifier) ms) query.Verdict m ≡ ask p v query.Proof l
+  pub file-verdict-again : (v : Verifier) (l : Shown) → isTold (ask p v query.Proof l .told) ≡ true → (ms : List Posed) (m : Shown)
+      → ask p (afterPosed (ask p v query.Proof l .verifier) ms) query.Verdict m ≡ ask p v query.Proof l
   unfolding ask
   file-verdict-again v l h ms m = by (proof p v (l .file)) refl h
     where
       by : (o : Outcome Judgement) → proof p v (l .file) ≡ o → isTold (toldVerdict (leavesJudged v o .1)) ≡ true
-          → ask p (afterAsked p (leavesJudged v o .0) ms) query.Verdict m
+          → ask p (afterPosed (leavesJudged v o .0) ms) query.Verdict m
           ≡ record { verifier = leavesJudged v o .0; told = toldVerdict (leavesJudged v o .1) }
       by (answered j) e h = again (j .verifier) (j .finding) (given-again p v (l .file) (proof-answered p v (l .file) e)) ms m
       by (refused k) e h = absurd (true≢false (sym h))
@@ -122,8 +127,8 @@ module _ (p : ℕ) where
     message-no (refused i) e h = absurd (let z : _≡_ {A = ℕ} 0 1 = cc in omega arith)
     message-no (refusedAt i j) e h = absurd (let z : _≡_ {A = ℕ} 0 1 = cc in omega arith)
 
-    pub message-no-again : ask p v (query.Message even cross odd) l .told ≡ told.No k → (ms : List Asked) (n : Shown)
-        → ask p (afterAsked p (ask p v (query.Message even cross odd) l .verifier) ms) query.Verdict n .told ≡ told.No k
+    pub message-no-again : ask p v (query.Message even cross odd) l .told ≡ told.No k → (ms : List Posed) (n : Shown)
+        → ask p (afterPosed (ask p v (query.Message even cross odd) l .verifier) ms) query.Verdict n .told ≡ told.No k
     unfolding ask
     message-no-again h ms n =
         ap (λ (o : Heard). o .told)

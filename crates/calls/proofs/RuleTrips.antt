@@ -16,7 +16,7 @@ use Rattle.runs.specs.Trip.{numbers, partsIn, Trip, itemOf, vectorF, vectorG}
 use Rattle.r1cs.specs.Check.{ruleFirst, ruleSecond, ruleTotal, ruleMessage}
 use Rattle.r1cs.proofs.RuleTotals.{padded-same, rule-first}
 use Rattle.calls.specs.Meaning.{reply, says, total, messageAt}
-use Rattle.calls.specs.Demand3.{Whole}
+use Rattle.calls.specs.Starts.{Whole}
 use Rattle.calls.specs.RuleTrip.{pairsFrom, ruleTrip}
 
 pairs-length : (a b : Vector) (i m : ℕ) → length (pairsFrom a b i m) ≡ m

@@ -21,11 +21,12 @@ use Rattle.verifier.specs.Starts as verifier
 use Rattle.runs.specs.Trip.{Start}
 use Rattle.calls.specs.Table.{Refusal, row}
 use Rattle.calls.specs.Starts.{plainStart, twistedStart, ruleStart, Startable, countRow, listRow, ruleRows, StartsRun, StartsVerifier, Starts}
+use Rattle.calls.proofs.Steps.{some-none}
 use Rattle.calls.proofs.Turns.{both}
 
 run-row : (b : Bool) (k : ℕ) (rest : Outcome Out) (t : Option Refusal) (s : Start) → (b ≡ true → StartsRun t s rest) → StartsRun (row b k t) s (require b k rest)
 run-row true k rest t s f = f refl
-run-row false k rest t s f = refl
+run-row false k rest t s f = (refl, λ e. absurd (some-none e))
 
 -- the verifier's checks are the same tests, written otherwise
 verifier-row : (b c : Bool) (k : ℕ) (rest : Outcome Step) (t : Option Refusal) (s : Start) (cs : List ℕ) → c ≡ b → (b ≡ true → StartsVerifier t s cs rest)
@@ -34,7 +35,7 @@ verifier-row b c k rest t s cs e f = subst (λ c. StartsVerifier (row b k t) s c
   where
     by : (b : Bool) → (b ≡ true → StartsVerifier t s cs rest) → StartsVerifier (row b k t) s cs (require b k rest)
     by true f = f refl
-    by false f = refl
+    by false f = (refl, λ e. absurd (some-none e))
 
 count-same : (items : ℕ) → inCount items ≡ (leb 1 items && leb items 32768)
 unfolding inCount
@@ -74,24 +75,24 @@ length-of p n xs e = eqb-true (length xs) n (both (eqb (length xs) n) (allNonzer
 module _ (p : ℕ) where
   plain-rows : (items : ℕ) → StartsRun (countRow items none) (plainStart items) (prover.startPlain items)
   unfolding prover.startPlain
-  plain-rows items = run-row _ 3 _ none (plainStart items) (λ e. (refl, of-count items (plainStart items) e refl refl))
+  plain-rows items = run-row _ 3 _ none (plainStart items) (λ e. (refl, λ free. of-count items (plainStart items) e refl refl))
 
   twisted-rows : (items : ℕ) (twists : List ℕ) → StartsRun (countRow items (listRow p (roundsOf items) twists none)) (twistedStart items twists) (prover.startTwisted p items twists)
   unfolding prover.startTwisted
   twisted-rows items twists =
       run-row _ 3 _ _ (twistedStart items twists) (λ e.
-      run-row (eqb (length twists) (roundsOf items) && allNonzero p (roundsOf items) twists) 6 _ none (twistedStart items twists) (λ f. (refl, of-count items (twistedStart items twists) e refl refl)))
+      run-row (eqb (length twists) (roundsOf items) && allNonzero p (roundsOf items) twists) 6 _ none (twistedStart items twists) (λ f. (refl, λ free. of-count items (twistedStart items twists) e refl refl)))
 
   rule-rows : (n v : ℕ) → StartsRun (ruleRows p n v none) (ruleStart p n v) (prover.startRule p n v)
   unfolding prover.startRule
-  rule-rows n v = run-row _ 3 _ _ (ruleStart p n v) (λ e. run-row (isNonzero p v) 6 _ none (ruleStart p n v) (λ f. (refl, of-rule p n v e)))
+  rule-rows n v = run-row _ 3 _ _ (ruleStart p n v) (λ e. run-row (isNonzero p v) 6 _ none (ruleStart p n v) (λ f. (refl, λ free. of-rule p n v e)))
 
   verifier-plain : (items : ℕ) (cs : List ℕ) → StartsVerifier (countRow items (listRow p (roundsOf items) cs none)) (plainStart items) cs (verifier.startPlain p items cs)
   unfolding verifier.startPlain
   verifier-plain items cs =
       verifier-row _ _ 3 _ _ (plainStart items) cs (count-same items) (λ e.
       verifier-row _ _ 6 _ none (plainStart items) cs (list-same p (roundsOf items) cs) (λ f.
-      (refl, of-count items (plainStart items) e refl refl, length-of p (roundsOf items) cs f)))
+      (refl, λ free. (of-count items (plainStart items) e refl refl, length-of p (roundsOf items) cs f))))
 
   verifier-twisted : (items : ℕ) (twists cs : List ℕ)
       → StartsVerifier (countRow items (listRow p (roundsOf items) twists (listRow p (roundsOf items) cs none))) (twistedStart items twists) cs (verifier.startTwisted p items twists cs)
@@ -100,14 +101,14 @@ module _ (p : ℕ) where
       verifier-row _ _ 3 _ _ (twistedStart items twists) cs (count-same items) (λ e.
       verifier-row _ _ 6 _ _ (twistedStart items twists) cs (list-same p (roundsOf items) twists) (λ t.
       verifier-row _ _ 6 _ none (twistedStart items twists) cs (list-same p (roundsOf items) cs) (λ f.
-      (refl, of-count items (twistedStart items twists) e refl refl, length-of p (roundsOf items) cs f))))
+      (refl, λ free. (of-count items (twistedStart items twists) e refl refl, length-of p (roundsOf items) cs f)))))
 
   verifier-rule : (n v : ℕ) (cs : List ℕ) → StartsVerifier (ruleRows p n v (listRow p n cs none)) (ruleStart p n v) cs (verifier.startRule p n v cs)
   unfolding verifier.startRule
   verifier-rule n v cs =
       verifier-row (leb n 15) _ 3 _ _ (ruleStart p n v) cs refl (λ e.
       verifier-row (isNonzero p v) (isNonzero p v) 6 _ (listRow p n cs none) (ruleStart p n v) cs refl (λ o.
-      verifier-row _ _ 6 _ none (ruleStart p n v) cs (list-same p n cs) (λ f. (refl, of-rule p n v e, length-of p n cs f))))
+      verifier-row _ _ 6 _ none (ruleStart p n v) cs (list-same p n cs) (λ f. (refl, λ free. (of-rule p n v e, length-of p n cs f)))))
 
   pub all-starts : Starts p
   all-starts =

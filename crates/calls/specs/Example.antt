@@ -8,21 +8,20 @@ use lib.IntN.{pos, negsuc}
 use lib.ListN.{replicate}
 use Rattle.refusal.specs.Outcome.{answered}
 use Rattle.vector.specs.Rounds.{powers, firstFrom}
-use Rattle.prover.specs.declared.Run.{Run}
-use Rattle.prover.specs.declared.Pass.{Pass}
 use Rattle.prover.specs.declared.Answer.{Answer}
 use Rattle.prover.specs.declared.Answer.the-variants as answer
 use Rattle.prover.specs.Values.{inNinety}
-use Rattle.prover.specs.Start.{zeroPass, started, startPlain}
+use Rattle.prover.specs.Start.{started, startPlain}
 use Rattle.runs.specs.Trip.{Start, Trip, reading}
 use Rattle.calls.specs.declared.Call.{Call}
 use Rattle.calls.specs.declared.Call.the-variants as call
-use Rattle.calls.specs.Step.{Result, step}
 use Rattle.calls.specs.Dispatch.{lending}
-use Rattle.calls.specs.State.{State, fresh, follow}
 use Rattle.calls.specs.Table.{Refusal, table}
 use Rattle.calls.specs.Meaning.{Reply, says}
-use Rattle.calls.specs.Statement.{Made, AllSized, AllKept, startRun}
+use Rattle.calls.specs.Lists.{each}
+use Rattle.calls.specs.World.{Made, World, startRun, came, onward}
+use Rattle.calls.specs.Given.{replyOf}
+use Rattle.calls.specs.Demand3.{AllSized, AllKept}
 
 abbrev pub P : ℕ
 P = 2147483647
@@ -94,33 +93,14 @@ refusalsOf [] = []
 refusalsOf (x ∷ xs) = refusalIn (x .1 .answer) ∷ refusalsOf xs
 
 -- a pass of small mode that is whole, its close answered so
-abbrev pub wholePass : Call → Reply → List Exchange
-wholePass opens closes =
+abbrev pub answeredPass : Call → Reply → List Exchange
+answeredPass opens closes =
     (alone opens, says answer.Opened)
     ∷ (alone item2, says answer.Taken)
     ∷ (alone item1, says answer.Taken)
     ∷ (alone item0, says answer.Taken)
     ∷ (alone call.Close, closes)
     ∷ []
-
--- what the calls of a list answer
-unfoldable pub repliesFrom : Run → Pass → List Made → List Reply
-repliesFrom r s [] = []
-repliesFrom r s (m ∷ ms) =
-    let o : Result = step P r s (m .call) (m .lent) in
-    (record { answer = o .answer; values = o .values }) ∷ repliesFrom (o .run) (o .pass) ms
-
--- what the table says at each
-unfoldable pub tableFrom : State → Run → Pass → List Made → List (Option Refusal)
-tableFrom a r s [] = []
-tableFrom a r s (m ∷ ms) =
-    let o : Result = step P r s (m .call) (m .lent) in
-    table P a (m .call) (m .lent) ∷ tableFrom (follow a (m .call) o) (o .run) (o .pass) ms
-
--- what the last leaves in its file
-unfoldable pub fileFrom : Run → Pass → List Made → List ℕ → List ℕ
-fileFrom r s [] file = file
-fileFrom r s (m ∷ ms) file = let o : Result = step P r s (m .call) (m .lent) in fileFrom (o .run) (o .pass) ms (o .lent .file)
 
 -- the lines of the output
 abbrev pub tripTotal : Reply
@@ -153,11 +133,16 @@ tripFile =
     ++ (101 ∷ 254 ∷ 255 ∷ 127 ∷ 65 ∷ 0 ∷ 0 ∷ 0 ∷ [])
     ++ replicate 8 255
 
+-- the last of some files
+unfoldable pub lastOf : List ℕ → List (List ℕ) → List ℕ
+lastOf file [] = file
+lastOf file (x ∷ xs) = lastOf x xs
+
 -- a list of calls that brings the trip and keeps the buffers is answered so, its refusals are the table's, and it leaves the trip's
 -- proof file
-pub record TripList (xs : List Exchange) : Type 0 where
-  pub sized : AllSized (callsOf xs)
-  pub kept : (f g : List ℕ) → AllKept P true trip (fresh tripStart f g) (startRun tripStart) zeroPass (callsOf xs)
-  pub replies : repliesFrom (startRun tripStart) zeroPass (callsOf xs) ≡ answersOf xs
-  pub refusals : (f g : List ℕ) → tableFrom (fresh tripStart f g) (startRun tripStart) zeroPass (callsOf xs) ≡ refusalsOf xs
-  pub file : fileFrom (startRun tripStart) zeroPass (callsOf xs) [] ≡ tripFile
+pub record TripList (xs : List Exchange) (w : World) : Type 0 where
+  pub sized : AllSized P w (callsOf xs)
+  pub kept : AllKept P true trip w (callsOf xs)
+  pub replies : each (onward P) (λ w m. replyOf (came P w m)) w (callsOf xs) ≡ answersOf xs
+  pub refusals : each (onward P) (λ w m. table P (w .state) (m .call) (m .lent)) w (callsOf xs) ≡ refusalsOf xs
+  pub file : lastOf [] (each (onward P) (λ w m. came P w m .lent .file) w (callsOf xs)) ≡ tripFile

@@ -16,7 +16,6 @@ use Rattle.vector.specs.Vector.{weight}
 use Rattle.vector.specs.Opening.{opens}
 use Rattle.vector.specs.Slice.{overwrite, fifteen, every}
 use Rattle.vector.specs.Item.{plainParts}
-use Rattle.verifier.specs.declared.Verifier.{Verifier}
 use Rattle.verifier.specs.WellFormed.{inCount, turnFits, wellFormed}
 use Rattle.verifier.specs.Starts.{freshVerifier}
 use Rattle.verifier.specs.Sums.{entering, oneMore}
@@ -30,29 +29,29 @@ use Rattle.calls.specs.declared.query.Query.the-variants as query
 use Rattle.calls.specs.declared.query.Told.{Told}
 use Rattle.calls.specs.declared.query.Told.the-variants as told
 use Rattle.calls.specs.QueryStep.{ask}
-use Rattle.calls.specs.QueryStatement.{Asked, startVerifier}
+use Rattle.calls.specs.Lists.{each}
+use Rattle.calls.specs.QueryState.{Posed, Hearing, freshHearing, heard, hearsOn}
 
 abbrev P : ℕ
 P = 2147483647
 
 -- what each call of a list is told
-unfoldable pub toldAll : Verifier → List Asked → List Told
-toldAll v [] = []
-toldAll v (m ∷ ms) = ask P v (m .query) (m .shown) .told ∷ toldAll (ask P v (m .query) (m .shown) .verifier) ms
+abbrev pub toldAll : Hearing → List Posed → List Told
+toldAll = each (hearsOn P) (λ h q. heard P h q .told)
 
 abbrev start : Start
 start = record { items = 3; rounds = 2; plain = true; twists = replicate 15 0 }
 
-abbrev plainly : Query → Asked
+abbrev plainly : Query → Posed
 plainly q = record { query = q; shown = record { file = []; values = [] } }
 
 abbrev file : List ℕ
 file = proofFile 2 (negsuc 5099) (2147482047 ∷ 2147478297 ∷ 2147480147 ∷ 2147457147 ∷ 2147482997 ∷ 200 ∷ 2147483237 ∷ 65 ∷ [])
 
-abbrev withFile : Asked
+abbrev withFile : Posed
 withFile = record { query = query.Proof; shown = record { file = file; values = [] } }
 
-abbrev opening : Asked
+abbrev opening : Posed
 opening =
     record {
       query = query.CheckOpening 2;
@@ -63,12 +62,12 @@ opening =
           };
     }
 
-abbrev items : List Asked → List Asked
+abbrev items : List Posed → List Posed
 items rest = plainly (query.Item (negsuc 179) 10) ∷ plainly (query.Item (negsuc 174) 20) ∷ plainly (query.Item (pos 40) 5) ∷ rest
 
 -- call by call, with a message too early, an item too late and an opening between
 pub trip-told :
-    toldAll (startVerifier start (2 ∷ 3 ∷ []))
+    toldAll (freshHearing start (2 ∷ 3 ∷ []))
     (plainly (query.Message 2147482047 2147478297 2147480147)
     ∷ items
     (plainly (query.Close (negsuc 5099))
@@ -95,12 +94,12 @@ pub trip-told :
     ∷ told.Yes
     ∷ told.Yes
     ∷ []
-unfolding toldAll ask item passOpen wellFormed inCount turnFits plainParts oneMore entering freshVerifier fifteen overwrite powers firstFrom weight image residue addMod negMod mulMod close closedWith inLimits message messageTurn allReduced3 hears passedWith failedNow verdict verdictTurn finds checkOpening hasRounds every openingFinds firstFault opens divMod inverseMod inverseIn halfMod halfOne subMod
+unfolding each ask item passOpen wellFormed inCount turnFits plainParts oneMore entering freshVerifier fifteen overwrite powers firstFrom weight image residue addMod negMod mulMod close closedWith inLimits message messageTurn allReduced3 hears passedWith failedNow verdict verdictTurn finds checkOpening hasRounds every openingFinds firstFault opens divMod inverseMod inverseIn halfMod halfOne subMod
 trip-told = refl
 
 -- with the proof file, given once
 pub trip-file-told :
-    toldAll (startVerifier start (2 ∷ 3 ∷ [])) (items (withFile ∷ plainly query.Verdict ∷ withFile ∷ []))
+    toldAll (freshHearing start (2 ∷ 3 ∷ [])) (items (withFile ∷ plainly query.Verdict ∷ withFile ∷ []))
     ≡ told.Taken ∷ told.Taken ∷ told.Taken ∷ told.Yes ∷ told.Yes ∷ told.Refused 10 ∷ []
-unfolding toldAll ask item passOpen wellFormed inCount turnFits plainParts oneMore entering freshVerifier fifteen overwrite powers firstFrom weight image residue addMod negMod mulMod closedWith inLimits hears passedWith failedNow verdict verdictTurn finds proof readProofOf readProof marked allBelow numAt num bytes signed bits proofHeader numbers hearsNext hearsFirst endsAgree compares afterFile
+unfolding each ask item passOpen wellFormed inCount turnFits plainParts oneMore entering freshVerifier fifteen overwrite powers firstFrom weight image residue addMod negMod mulMod closedWith inLimits hears passedWith failedNow verdict verdictTurn finds proof readProofOf readProof marked allBelow numAt num bytes signed bits proofHeader numbers hearsNext hearsFirst endsAgree compares afterFile
 trip-file-told = refl

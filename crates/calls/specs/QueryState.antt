@@ -1,28 +1,26 @@
--- What follows of a verifier from its start and the answered calls alone, the table over it, and what is asked of the caller.
-use Prim.Native.Nat.{ℕ, suc, _+_, _*_, _^_}
+-- What follows of a verifier from its start and the answered calls alone, the table over it, and its list of calls.
+use Prim.Native.Nat.{ℕ, suc, _+_, _*_}
 use mathlib.Core.Path.{_≡_}
 use mathlib.Core.Bool.{Bool, true, false, cond, not, _&&_, _||_}
 use mathlib.Core.List.{List, [], _∷_}
-use mathlib.Core.Option.{Option, none}
+use mathlib.Core.Option.{Option, none, some}
 use lib.Dec.{eqb, leb, ltb}
 use lib.ListN.{length}
 use Rattle.refusal.specs.Limit.{maxWeight}
 use Rattle.field.specs.Total.{inLimits}
 use Rattle.wire.specs.Header.{marked, versionOf}
 use Rattle.wire.specs.Proof.{proofRounds, proofTotal, proofNumber, allBelow}
-use Rattle.vector.specs.Vector.{at, dot}
-use Rattle.vector.specs.Message.{Message}
-use Rattle.vector.specs.Opening.{opening}
-use Rattle.vector.specs.Slice.{isNonzero, allReduced}
-use Rattle.runs.specs.Trip.{Raw, reading, numbers, Start, Trip, itemOf, vectorF, vectorG, totalOf}
+use Rattle.vector.specs.Slice.{isNonzero, allReduced, fifteen}
+use Rattle.verifier.specs.declared.Verifier.{Verifier}
+use Rattle.verifier.specs.Starts.{freshVerifier}
+use Rattle.runs.specs.Trip.{Raw, reading, numbers, Start}
 use Rattle.calls.specs.declared.query.Query.{Query}
 use Rattle.calls.specs.declared.query.Query.the-variants as query
 use Rattle.calls.specs.declared.query.Told.{Told}
 use Rattle.calls.specs.declared.query.Told.the-variants as told
 use Rattle.calls.specs.declared.query.Heard.{Heard}
-use Rattle.calls.specs.QueryStep.{Shown, isTold}
+use Rattle.calls.specs.QueryStep.{Shown, isTold, ask}
 use Rattle.calls.specs.Table.{Refusal, row, rowAt}
-use Rattle.calls.specs.Meaning.{messageAt, proofOfTrip}
 
 pub record VerifierState : Type 0 where
   pub start : Start
@@ -109,26 +107,36 @@ verifierTable p a (query.CheckOpening b) l =
     (row (eqb (length (l .values)) (6 * a .start .rounds)) 6
     (row (allReduced p (length (l .values)) (l .values)) 11 none)))
 
--- WHAT IS ASKED of an answered call: "the trip's items first to last, the run's total, and the run's messages in order or its proof file"
-abbrev pub Brings : ℕ → Trip → VerifierState → Query → Shown → Type 0
-Brings p T a (query.Item z w) l = reading z w ≡ itemOf T (length (a .items))
-Brings p T a (query.FieldItem x y) l = numbers x y ≡ itemOf T (length (a .items))
-Brings p T a (query.Close t) l = t ≡ totalOf T
-Brings p T a (query.CloseClaim c) l = c ≡ dot p (2 ^ T .start .rounds) (vectorF p T) (vectorG p T)
-Brings p T a (query.Message even cross odd) l = record { even = even; cross = cross; odd = odd } ≡ messageAt p T (a .challenges) (a .round)
-Brings p T a query.Verdict l = Unit {0}
--- there is a proof file where the run's total is within its limits
-Brings p T a query.Proof l = (l .file ≡ proofOfTrip p T (a .challenges)) × (inLimits p (totalOf T) ≡ true)
-Brings p T a (query.CheckOpening b) l = Unit {0}
+-- A LIST OF CALLS: "each call given the record that the last returned"
+-- a call with what it is lent
+pub record Posed : Type 0 where
+  pub query : Query
+  pub shown : Shown
 
--- WHAT AN ANSWERED CALL SAYS: every message passes, every verdict is yes, and an opening of the trip at the point opens
-abbrev pub Says : ℕ → Trip → VerifierState → Query → Shown → Told → Type 0
-Says p T a (query.Item z w) l t = t ≡ told.Taken
-Says p T a (query.FieldItem x y) l t = t ≡ told.Taken
-Says p T a (query.Close z) l t = t ≡ told.Closed
-Says p T a (query.CloseClaim c) l t = t ≡ told.Closed
-Says p T a (query.Message even cross odd) l t = t ≡ told.Passed
-Says p T a query.Verdict l t = t ≡ told.Yes
-Says p T a query.Proof l t = t ≡ told.Yes
-Says p T a (query.CheckOpening b) l t =
-    l .values ≡ opening p (T .start .rounds) (at (a .challenges)) (vectorF p T) (vectorG p T) b → t ≡ told.Yes
+-- the verifier, and the state that follows from the answered calls
+pub record Hearing : Type 0 where
+  pub state : VerifierState
+  pub verifier : Verifier
+
+-- what an answered start gives
+abbrev pub startVerifier : Start → List ℕ → Verifier
+startVerifier s cs = freshVerifier (s .items) (s .rounds) (s .plain) (s .twists) (fifteen (s .rounds) cs)
+
+abbrev pub freshHearing : Start → List ℕ → Hearing
+freshHearing s cs = record { state = freshVerifierState s cs; verifier = startVerifier s cs }
+
+module _ (p : ℕ) where
+  abbrev pub heard : Hearing → Posed → Heard
+  heard h m = ask p (h .verifier) (m .query) (m .shown)
+
+  abbrev pub hearsOn : Hearing → Posed → Hearing
+  hearsOn h m = record { state = followHeard (h .state) (m .query) (heard h m); verifier = heard h m .verifier }
+
+abbrev pub refusedTold : ℕ → Option ℕ → Told
+refusedTold k none = told.Refused k
+refusedTold k (some i) = told.RefusedAt k i
+
+-- refused exactly when, and with the number that, the table says; then nothing changes
+abbrev pub DecidesHeard : Verifier → Option Refusal → Heard → Type 0
+DecidesHeard v none o = isTold (o .told) ≡ true
+DecidesHeard v (some k) o = o ≡ record { verifier = v; told = refusedTold (k .0) (k .1) }

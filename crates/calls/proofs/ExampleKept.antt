@@ -4,23 +4,26 @@ use mathlib.Core.Path.{_≡_, sym, ap, _∙_}
 use mathlib.Core.Bool.{Bool, true, false, cond, true≢false}
 use mathlib.Core.List.{List, [], _∷_}
 use lib.Dec.{eqb, leb}
-use lib.IntN.{ℤ, pos, negsuc, natAbs}
+use lib.IntN.{ℤ, pos, negsuc}
 use lib.ListN.{length}
 use borrow.Author.Tests.{eqb-true, leb-true}
 use Rattle.vector.specs.Vector.{Vector, at}
 use Rattle.vector.specs.Slice.{every}
 use Rattle.vector.proofs.Every.{every-at}
-use Rattle.prover.specs.declared.Run.{Run}
-use Rattle.prover.specs.declared.Pass.{Pass}
+use Rattle.prover.specs.Records.{isFull}
 use Rattle.prover.proofs.Facts.{holds}
 use Rattle.runs.specs.Trip.{Raw, reading, numbers, Trip, itemOf, vectorF, vectorG}
 use Rattle.calls.specs.declared.Call.{Call}
 use Rattle.calls.specs.declared.Call.the-variants as call
-use Rattle.calls.specs.Step.{Lent, Result, isAnswered, step}
-use Rattle.calls.specs.State.{State, isFull, follow}
+use Rattle.calls.specs.Lists.{along, each}
+use Rattle.calls.specs.Step.{Lent, isAnswered}
+use Rattle.calls.specs.State.{State}
+use Rattle.calls.specs.World.{Made, World, came, onward}
 use Rattle.calls.specs.Table.{long}
-use Rattle.calls.specs.Meaning.{bindsItem, AsLeft, ItemKept, Kept}
-use Rattle.calls.specs.Statement.{Made, Sized, AllSized, AllKept}
+use Rattle.calls.specs.Meaning.{bindsItem, AsLeft}
+use Rattle.calls.specs.Demand3.{AllSized, AllKept}
+use Rattle.calls.proofs.KeptCalls.{ItemKept, KeptBy, by-kept}
+use Rattle.calls.proofs.LiveStep.{sizeOf, small-sized}
 
 abbrev pub sameInteger : ℤ → ℤ → Bool
 sameInteger (pos m) (pos n) = eqb m n
@@ -38,31 +41,13 @@ sameItem (numbers a b) (numbers c d) = cond (eqb a c) (eqb b d) false
 abbrev pub samePlaces : ℕ → Lent → Vector → Vector → Bool
 samePlaces m l f g = every m (λ j. cond (eqb (at (l .f) j) (f j)) (eqb (at (l .g) j) (g j)) false)
 
-abbrev pub sizedTest : Call → Bool
-sizedTest call.OpenPass = true
-sizedTest (call.OpenAt b) = true
-sizedTest call.ToFull = true
-sizedTest call.ToSmall = true
-sizedTest (call.Item z w) = leb (natAbs z) 32768
-sizedTest (call.FieldItem x y) = true
-sizedTest call.Close = true
-sizedTest call.Message = true
-sizedTest (call.Challenge c) = true
-sizedTest call.Ends = true
-sizedTest (call.Opening b) = true
-sizedTest call.WriteProof = true
-
-unfoldable pub allSized : List Made → Bool
-allSized [] = true
-allSized (m ∷ ms) = cond (sizedTest (m .call)) (allSized ms) false
-
 module _ (p : ℕ) (through : Bool) (T : Trip) where
   abbrev pub leftTest : State → Lent → Bool
-  leftTest a l = samePlaces (long a) l (at (a .f)) (at (a .g))
+  leftTest a l = samePlaces (long a) l (at (a .buffers .f)) (at (a .buffers .g))
 
   abbrev pub itemTest : State → Raw → Lent → Bool
   itemTest a x l =
-      cond (sameItem x (itemOf T (T .start .items - 1 - length (a .items)))) (cond (bindsItem p T through a) (leftTest a l) true) false
+      cond (sameItem x (itemOf T (T .start .items - 1 - length (a .pass .items)))) (cond (bindsItem through a) (leftTest a l) true) false
 
   abbrev pub keptTest : State → Call → Lent → Bool
   keptTest a call.OpenPass l = true
@@ -73,16 +58,14 @@ module _ (p : ℕ) (through : Bool) (T : Trip) where
   keptTest a (call.FieldItem x y) l = itemTest a (numbers x y) l
   keptTest a call.Close l = true
   keptTest a call.Message l = leftTest a l
-  keptTest a (call.Challenge c) l = cond (isFull (a .mode)) (leftTest a l) true
+  keptTest a (call.Challenge c) l = cond (isFull (a .turn .mode)) (leftTest a l) true
   keptTest a call.Ends l = leftTest a l
   keptTest a (call.Opening b) l = samePlaces (2 ^ T .start .rounds) l (vectorF p T) (vectorG p T)
   keptTest a call.WriteProof l = true
 
-  unfoldable pub allKept : State → Run → Pass → List Made → Bool
-  allKept a r s [] = true
-  allKept a r s (m ∷ ms) =
-      let o : Result = step p r s (m .call) (m .lent) in
-      cond (cond (isAnswered (o .answer)) (keptTest a (m .call) (m .lent)) true) (allKept (follow a (m .call) o) (o .run) (o .pass) ms) false
+  -- at a call of a list
+  abbrev pub keptAt : World → Made → Bool
+  keptAt w m = cond (isAnswered (came p w m .answer)) (keptTest (w .state) (m .call) (m .lent)) true
 
 -- THE TESTS TELL
 implied : (b x : Bool) → cond b x true ≡ true → b ≡ true → x ≡ true
@@ -110,35 +93,33 @@ same-places m l f g e j h =
     let both = holds (eqb (at (l .f) j) (f j)) (eqb (at (l .g) j) (g j)) (every-at (λ k. cond (eqb (at (l .f) k) (f k)) (eqb (at (l .g) k) (g k)) false) m e j h) in
     (eqb-true (at (l .f) j) (f j) (both .0), eqb-true (at (l .g) j) (g j) (both .1))
 
-sized : (c : Call) → sizedTest c ≡ true → Sized c
-sized call.OpenPass e = tt
-sized (call.OpenAt b) e = tt
-sized call.ToFull e = tt
-sized call.ToSmall e = tt
-sized (call.Item z w) e = leb-true (natAbs z) 32768 e
-sized (call.FieldItem x y) e = tt
-sized call.Close e = tt
-sized call.Message e = tt
-sized (call.Challenge c) e = tt
-sized call.Ends e = tt
-sized (call.Opening b) e = tt
-sized call.WriteProof e = tt
+unfoldable pub allTrue : List Bool → Bool
+allTrue [] = true
+allTrue (b ∷ bs) = cond b (allTrue bs) false
 
-pub all-sized : (ms : List Made) → allSized ms ≡ true → AllSized ms
-unfolding allSized AllSized
-all-sized [] e = tt
-all-sized (m ∷ ms) e = let h = holds (sizedTest (m .call)) (allSized ms) e in (sized (m .call) (h .0), all-sized ms (h .1))
+-- along a list
+tested : {W M : Type 0} (next : W → M → W) (P : W → M → Type 0) (test : W → M → Bool) → ((w : W) (m : M) → test w m ≡ true → P w m) → (w : W) (ms : List M)
+    → allTrue (each next test w ms) ≡ true → along next P w ms
+unfolding allTrue each along
+tested next P test tells w [] e = tt
+tested next P test tells w (m ∷ ms) e =
+    let h = holds (test w m) (allTrue (each next test (next w m) ms)) e in
+    (tells w m (h .0), tested next P test tells (next w m) ms (h .1))
+
+pub all-sized : (p : ℕ) (w : World) (ms : List Made) → allTrue (each (onward p) (λ w m. leb (sizeOf (m .call)) 32768) w ms) ≡ true → AllSized p w ms
+all-sized p w ms e =
+    tested (onward p) _ (λ w m. leb (sizeOf (m .call)) 32768) (λ w m h. small-sized (m .call) (leb-true (sizeOf (m .call)) 32768 h)) w ms e
 
 module _ (p : ℕ) (through : Bool) (T : Trip) where
-  left : (a : State) (l : Lent) → leftTest p through T a l ≡ true → AsLeft p T a l
-  left a l e = same-places (long a) l (at (a .f)) (at (a .g)) e
+  left : (a : State) (l : Lent) → leftTest p through T a l ≡ true → AsLeft a l
+  left a l e = same-places (long a) l (at (a .buffers .f)) (at (a .buffers .g)) e
 
   item : (a : State) (x : Raw) (l : Lent) → itemTest p through T a x l ≡ true → ItemKept p T through a x l
   item a x l e =
-      let h = holds (sameItem x (itemOf T (T .start .items - 1 - length (a .items)))) (cond (bindsItem p T through a) (leftTest p through T a l) true) e in
-      (same-item x (itemOf T (T .start .items - 1 - length (a .items))) (h .0), λ b. left a l (implied (bindsItem p T through a) (leftTest p through T a l) (h .1) b))
+      let h = holds (sameItem x (itemOf T (T .start .items - 1 - length (a .pass .items)))) (cond (bindsItem through a) (leftTest p through T a l) true) e in
+      (same-item x (itemOf T (T .start .items - 1 - length (a .pass .items))) (h .0), λ b. left a l (implied (bindsItem through a) (leftTest p through T a l) (h .1) b))
 
-  kept : (a : State) (c : Call) (l : Lent) → keptTest p through T a c l ≡ true → Kept p T through a c l
+  kept : (a : State) (c : Call) (l : Lent) → keptTest p through T a c l ≡ true → KeptBy p T through a c l
   kept a call.OpenPass l e = tt
   kept a (call.OpenAt b) l e = tt
   kept a call.ToFull l e = tt
@@ -147,17 +128,12 @@ module _ (p : ℕ) (through : Bool) (T : Trip) where
   kept a (call.FieldItem x y) l e = item a (numbers x y) l e
   kept a call.Close l e = tt
   kept a call.Message l e = left a l e
-  kept a (call.Challenge c) l e = λ b. left a l (implied (isFull (a .mode)) (leftTest p through T a l) e b)
+  kept a (call.Challenge c) l e = λ b. left a l (implied (isFull (a .turn .mode)) (leftTest p through T a l) e b)
   kept a call.Ends l e = left a l e
   kept a (call.Opening b) l e = same-places (2 ^ T .start .rounds) l (vectorF p T) (vectorG p T) e
   kept a call.WriteProof l e = tt
 
-  pub all-kept : (a : State) (r : Run) (s : Pass) (ms : List Made) → allKept p through T a r s ms ≡ true → AllKept p through T a r s ms
-  unfolding allKept AllKept
-  all-kept a r s [] e = tt
-  all-kept a r s (m ∷ ms) e =
-      let o : Result = step p r s (m .call) (m .lent) in
-      let h = holds (cond (isAnswered (o .answer)) (keptTest p through T a (m .call) (m .lent)) true) (allKept p through T (follow a (m .call) o) (o .run) (o .pass) ms) e in (
-        λ b. kept a (m .call) (m .lent) (implied (isAnswered (o .answer)) (keptTest p through T a (m .call) (m .lent)) (h .0) b),
-        all-kept (follow a (m .call) o) (o .run) (o .pass) ms (h .1),
-      )
+  pub all-kept : (w : World) (ms : List Made) → allTrue (each (onward p) (keptAt p through T) w ms) ≡ true → AllKept p through T w ms
+  all-kept w ms e =
+      tested (onward p) _ (keptAt p through T)
+      (λ w m h y. by-kept p T through (w .state) (m .call) (m .lent) (kept (w .state) (m .call) (m .lent) (implied (isAnswered (came p w m .answer)) (keptTest p through T (w .state) (m .call) (m .lent)) h y))) w ms e
