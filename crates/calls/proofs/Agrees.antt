@@ -24,7 +24,8 @@ use Rattle.prover.specs.declared.Pass.{Pass}
 use Rattle.prover.specs.Records.{kernelOf, isChange, isFull, isOpen}
 use Rattle.prover.specs.Order.{isTotal, levelAt, levelOf}
 use Rattle.prover.specs.WellFormed.{roundFits}
-use Rattle.runs.specs.Trip.{Raw, Trip, vectorF, vectorG, totalOf}
+use Rattle.item.specs.declared.Given.{Given}
+use Rattle.runs.specs.Trip.{Trip, vectorF, vectorG, totalOf}
 use Rattle.runs.specs.Passes.{passAfter, Gives}
 use Rattle.runs.proofs.PassTrip.{after-given}
 use Rattle.calls.specs.State.{State}
@@ -36,14 +37,14 @@ use Rattle.calls.proofs.Arrays.{array-at}
 use Rattle.calls.proofs.Fits.{givenAt, Fits, run-formed}
 
 -- the trip of a state's start
-abbrev pub tripAt : List Raw → State → Trip
+abbrev pub tripAt : List Given → State → Trip
 tripAt its a = record { start = a .start; items = its }
 
 -- from which place on the buffers hold the current fold, by mode and pass
 abbrev pub knownIn : ℕ → ℕ → Mode → Kind → Bool → Bool → ℕ
 knownIn h q m k openings through = cond (isFull m) (cond openings h 0) (cond (isChange k && (through || not openings)) (h - q) h)
 
-pub record Agrees (p : ℕ) (through : Bool) (its : List Raw) (a : State) (past : Notes) : Type 0 where
+pub record Agrees (p : ℕ) (through : Bool) (its : List Given) (a : State) (past : Notes) : Type 0 where
   pub gives : Gives (tripAt its a) (a .pass .items)
   pub placesF : (j : ℕ) → known through a ≤ j → j < long a → at (a .buffers .f) j ≡ foldF p (tripAt its a) a j
   pub placesG : (j : ℕ) → known through a ≤ j → j < long a → at (a .buffers .g) j ≡ foldG p (tripAt its a) a j
@@ -80,7 +81,7 @@ length-messages p T cs (suc k) =
     length-append (messagesTo p T cs k) (messageAt p T cs k .even ∷ messageAt p T cs k .cross ∷ messageAt p T cs k .odd ∷ [])
     ∙ omega (arith, length-messages p T cs k)
 
-module _ (p : ℕ) (its : List Raw) (a : State) {past : Notes} (h : Fits p a past) where
+module _ (p : ℕ) (its : List Given) (a : State) {past : Notes} (h : Fits p a past) where
   abbrev T : Trip
   T = tripAt its a
 

@@ -26,7 +26,7 @@ last-along next P w (x ∷ ms) m h = last-along next P (next w x) ms m (h .1)
 -- an answered call is one that the table has nothing against
 pub answered-none : (r : Run) (s : Pass) (l : Lent) (t : Option Refusal) (o : Result) → Decides r s l t o → isAnswered (o .answer) ≡ true → t ≡ none
 answered-none r s l none o d e = refl
-answered-none r s l (some k) o d e = absurd (true≢false (sym e ∙ ap (λ o. isAnswered (o .answer)) d ∙ refused-with (k .0) (k .1)))
+answered-none r s l (some k) o d e = absurd (true≢false (sym e ∙ ap (λ o. isAnswered (o .answer)) d ∙ refused-with _ (k .0) (k .1)))
 
 module _ (p : ℕ) (T : Trip) where
   -- what an answered call of a list replies

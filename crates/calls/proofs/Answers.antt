@@ -19,8 +19,9 @@ use Rattle.prover.specs.declared.Kind.{Kind}
 use Rattle.prover.specs.declared.Kind.the-variants.{Shut, Asked, Change}
 use Rattle.prover.specs.declared.Run.{Run}
 use Rattle.prover.specs.declared.Pass.{Pass}
-use Rattle.prover.specs.declared.Answer.{Answer}
-use Rattle.prover.specs.declared.Answer.the-variants as answer
+use Rattle.refusal.specs.Outcome.{Outcome, answered}
+use Rattle.prover.specs.Reply.{Reply, answerIn}
+use Rattle.prover.specs.Reply as reply
 use Rattle.prover.specs.Records.{Out, kernelOf, isChange, isFull, isOpen, isSmall}
 use Rattle.prover.specs.Order.{isTotal, levelOf}
 use Rattle.prover.specs.Take.{takes}
@@ -28,7 +29,9 @@ use Rattle.prover.specs.Full.{messageGiven}
 use Rattle.prover.specs.Challenge.{challengedFull}
 use Rattle.prover.specs.Opening.{openingGiven}
 use Rattle.prover.proofs.Facts.{level-at-most}
-use Rattle.runs.specs.Trip.{Raw, reading, numbers, partsIn, Trip, vectorF, vectorG}
+use Rattle.item.specs.declared.Given.{Given}
+use Rattle.item.specs.Item.{contributes}
+use Rattle.runs.specs.Trip.{Trip, vectorF, vectorG}
 use Rattle.runs.specs.Passes.{passAfter}
 use Rattle.runs.specs.Buffers.{Written}
 use Rattle.runs.proofs.PassRecord.{takes-answer}
@@ -37,7 +40,7 @@ use Rattle.calls.specs.declared.Call.the-variants as call
 use Rattle.calls.specs.Step.{Lent, Result, isAnswered, leaving, step}
 use Rattle.calls.specs.State.{State, fresh, withItem, takesChallenge, buffersIn, goesOn, closed, follow}
 use Rattle.calls.specs.Table.{Refusal, waits, passNext, openingsNext, passLevel, taken, table}
-use Rattle.calls.specs.Meaning.{reply, closeAsks, foldF, foldG, messagesTo, AsLeft, challengeWrites, Kept}
+use Rattle.calls.specs.Meaning.{meant, closeAsks, foldF, foldG, messagesTo, AsLeft, challengeWrites, Kept}
 use Rattle.calls.specs.Statement.{Sized, HasStacks, Stacks, Holds, Right}
 use Rattle.calls.specs.World.{Made, World, freshWorld, came, onward}
 use Rattle.calls.specs.Lists.{along, always}
@@ -48,14 +51,14 @@ use Rattle.calls.proofs.Guards.{challengeDoes, totals}
 use Rattle.calls.proofs.Steps.{some-none, row-passed, closeStep, does, refusedResult, settled}
 use Rattle.calls.proofs.Fits.{Fits, few, kind-is}
 use Rattle.calls.proofs.Turns.{both, waits-for}
-use Rattle.calls.proofs.ItemRows.{Admitted, item-admitted, field-admitted}
+use Rattle.calls.proofs.ItemRows.{Admitted, item-admitted}
 use Rattle.calls.proofs.Refusals.{refused-with, Inv, Faithful, goes, step-is, faithful-on, fresh-faithful, asked-level}
 use Rattle.calls.proofs.Agrees.{tripAt, Agrees, pass-taken, round-most}
 use Rattle.calls.proofs.KeptCalls.{ItemKept, KeptBy, kept-by}
 use Rattle.calls.proofs.Rights.{right, item-written-so}
 use Rattle.calls.proofs.Keeps.{opened-agrees, to-full-agrees, item-agrees, close-agrees, full-message, full-ends, challenge-agrees}
 
-module _ (p : ℕ) (large : maxWeight < p) (through : Bool) (its : List Raw) (a : State) {past : Notes} (h : Fits p a past) (g : Agrees p through its a past)
+module _ (p : ℕ) (large : maxWeight < p) (through : Bool) (its : List Given) (a : State) {past : Notes} (h : Fits p a past) (g : Agrees p through its a past)
     (whole : length its ≡ a .start .items) (l : Lent) where
   abbrev T : Trip
   T = tripAt its a
@@ -66,15 +69,15 @@ module _ (p : ℕ) (large : maxWeight < p) (through : Bool) (its : List Raw) (a 
   abbrev S : Pass
   S = passOf p a past
 
-  taken-noted : (b : State) (o : Answer) → o ≡ answer.Taken → Agrees p through its b past → Agrees p through its b (noted past o)
+  taken-noted : (b : State) (o : Outcome Reply) → o ≡ answered reply.taken → Agrees p through its b past → Agrees p through its b (noted past o)
   taken-noted b o e r = subst (λ x. Agrees p through its b (noted past x)) (sym e) r
 
-  item-next : (x : Raw) → Admitted p a x l → ItemKept p T through a x l
-      → (let o : Result = leaving l (takes p R S (partsIn p x) (l .f) (l .g)) in Agrees p through its (withItem a x (o .lent)) (noted past (o .answer)))
+  item-next : (x : Given) → Admitted p a x l → ItemKept p T through a x l
+      → (let o : Result = leaving l (takes p R S (contributes p (a .start) x) (l .f) (l .g)) in Agrees p through its (withItem a x (o .lent)) (noted past (o .answer)))
   item-next x q kept =
-      let o : Result = leaving l (takes p R S (partsIn p x) (l .f) (l .g)) in
+      let o : Result = leaving l (takes p R S (contributes p (a .start) x) (l .f) (l .g)) in
       let b = item-written-so p large through its a h g whole l x q (kept .0) in
-      taken-noted _ (o .answer) (takes-answer p R S (partsIn p x) (l .f) (l .g))
+      taken-noted _ (o .answer) (takes-answer p R S (contributes p (a .start) x) (l .f) (l .g))
       (item-agrees p large through its a h g whole l x (o .lent) (a .pass .kind) refl (q .opened) (q .more) (kept .0) (h .pass .kind) (kept .1) (b .0) (b .1))
 
   close-next : table p a call.Close l ≡ none → (let o : Result = does p R S call.Close l in Agrees p through its (goesOn a call.Close (o .lent)) (noted past (o .answer)))
@@ -83,7 +86,7 @@ module _ (p : ℕ) (large : maxWeight < p) (through : Bool) (its : List Raw) (a 
       let q = row-passed (isOpen (a .pass .kind)) 10 _ e in
       let u = row-passed (eqb (length (a .pass .items)) (a .start .items)) 8 _ (q .1) in
       let r = right p large through its a h g whole l call.Close e tt in
-      subst (λ k. closeStep R S (a .turn .next) k .answer ≡ reply p T (a .turn .challenges) (closeAsks a (a .turn .next) (a .pass .kind)) .answer → Agrees p through its (closed a (a .turn .next) (a .pass .kind)) (noted past (closeStep R S (a .turn .next) k .answer)))
+      subst (λ k. answerIn (closeStep R S (a .turn .next) k .answer) ≡ meant p T (a .turn .challenges) (closeAsks a (a .turn .next) (a .pass .kind)) .answer → Agrees p through its (closed a (a .turn .next) (a .pass .kind)) (noted past (answerIn (closeStep R S (a .turn .next) k .answer))))
       (sym (kind-is p a h))
       (close-agrees p large through its a h g whole l (a .turn .next) (a .pass .kind) refl refl (q .0) (h .pass .kind) (eqb-true _ _ (u .0))) (r .answer)
 
@@ -128,8 +131,7 @@ module _ (p : ℕ) (large : maxWeight < p) (through : Bool) (its : List Raw) (a 
       opened-agrees p large through its a h g whole l b (both (isSmall (a .turn .mode)) (openingsNext (a .turn .next) (a .start .rounds)) (row-passed (isSmall (a .turn .mode) && openingsNext (a .turn .next) (a .start .rounds)) 10 _ e .0) .0)
   agrees-next call.ToFull e kept = to-full-agrees p large through its a h g whole l e
   agrees-next call.ToSmall e kept = absurd (some-none e)
-  agrees-next (call.Item r w) e kept = item-next (reading r w) (item-admitted p a l r w e) kept
-  agrees-next (call.FieldItem x y) e kept = item-next (numbers x y) (field-admitted p a l x y e) kept
+  agrees-next (call.Give x) e kept = item-next x (item-admitted p a l x e) kept
   agrees-next call.Close e kept = close-next e
   agrees-next call.Message e kept = message-next e kept
   agrees-next (call.Challenge c) e kept = challenge-next c e kept
@@ -138,7 +140,7 @@ module _ (p : ℕ) (large : maxWeight < p) (through : Bool) (its : List Raw) (a 
   agrees-next call.WriteProof e kept = g
 
 -- THE STACKS of an open small pass hold the trip's entries
-module _ (p : ℕ) (large : maxWeight < p) (through : Bool) (its : List Raw) where
+module _ (p : ℕ) (large : maxWeight < p) (through : Bool) (its : List Given) where
   stacks-of : (a : State) {past : Notes} → Fits p a past → Agrees p through its a past → HasStacks a → Stacks p (tripAt its a) a (kernelOf (passOf p a past))
   stacks-of a {past} h g e =
       let n : ℕ = a .start .rounds in
@@ -183,7 +185,7 @@ module _ (p : ℕ) (large : maxWeight < p) (through : Bool) (its : List Raw) whe
         subst (λ b. Agrees p through its (cond b (goesOn a c (o .lent)) a) (noted past (o .answer))) (sym yes) (agrees-next p large through its a h g whole l c e (kept-by p U through a c l (kept yes)))
     agrees-so (some k) e kept =
         let o : Result = refusedResult (runOf a past) (passOf p a past) l k in
-        subst (λ b. Agrees p through its (cond b (goesOn a c (o .lent)) a) (noted past (o .answer))) (sym (refused-with (k .0) (k .1)))
+        subst (λ b. Agrees p through its (cond b (goesOn a c (o .lent)) a) (noted past (o .answer))) (sym (refused-with _ (k .0) (k .1)))
         (subst (Agrees p through its a) (sym (refusal-noted past (k .0) (k .1))) g)
 
   pub right-step : (a : State) {past : Notes} (r : Run) (s : Pass) → Inv p large a past r s → Agrees p through its a past → length its ≡ a .start .items → (c : Call) → Sized c → (l : Lent)
@@ -221,8 +223,7 @@ goes-start a call.OpenPass l = refl
 goes-start a (call.OpenAt b) l = refl
 goes-start a call.ToFull l = refl
 goes-start a call.ToSmall l = refl
-goes-start a (call.Item r w) l = buffers-start (isChange (a .pass .kind)) _ l
-goes-start a (call.FieldItem x y) l = buffers-start (isChange (a .pass .kind)) _ l
+goes-start a (call.Give x) l = buffers-start (isChange (a .pass .kind)) _ l
 goes-start a call.Close l = closed-start a (a .turn .next) (a .pass .kind)
 goes-start a call.Message l = refl
 goes-start a (call.Challenge c) l = buffers-start (isFull (a .turn .mode)) (takesChallenge a c) l

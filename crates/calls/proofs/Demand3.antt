@@ -16,7 +16,7 @@ use Rattle.calls.specs.Lists.{after, along}
 use Rattle.calls.specs.Step.{isAnswered}
 use Rattle.calls.specs.World.{Made, World, freshWorld, came, onward}
 use Rattle.calls.specs.Meaning.{reply, meaning, messageAt, proofOfTrip}
-use Rattle.calls.specs.QueryStep.{Shown, isTold}
+use Rattle.calls.specs.QueryStep.{Shown}
 use Rattle.calls.specs.QueryState.{VerifierState, Posed, Hearing, freshHearing, heard, hearsOn}
 use Rattle.calls.specs.Given.{replyOf, BringsRun, SaysRun}
 use Rattle.calls.specs.Starts.{Whole}
@@ -77,7 +77,7 @@ module _ (p : ℕ) (large : maxWeight < p) (through : Bool) (T : Trip) (whole : 
     unfolding along
     all-say h f [] b = tt
     all-say h f (q ∷ qs) b =
-        let brought : isTold (heard p h q .told) ≡ true → BringsTrip p T (h .state) (q .query) (q .shown)
+        let brought : isAnswered (heard p h q .told) ≡ true → BringsTrip p T (h .state) (q .query) (q .shown)
         = λ y. brings (h .state) (f .challenges) (q .query) (q .shown) (b .0 y) in (
           λ e. says (h .state) (f .start) (f .challenges) (q .query) (q .shown) (heard p h q .told) (says-trip p large prime odd word T whole cs listed h f q brought e),
           all-say (hearsOn p h q) (follows-next p large prime odd word T whole cs listed h f q brought) qs (b .1),

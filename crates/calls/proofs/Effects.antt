@@ -21,7 +21,9 @@ use Rattle.prover.specs.Take.{entering, takes}
 use Rattle.prover.specs.Change.{paddedBuffer}
 use Rattle.prover.specs.Challenge.{challengeTurn, challengedFull}
 use Rattle.prover.proofs.FullLaws as full
-use Rattle.runs.specs.Trip.{Raw, partsIn, Trip, itemOf, entersAs, vectorF, vectorG}
+use Rattle.item.specs.declared.Given.{Given}
+use Rattle.item.specs.Item.{contributes}
+use Rattle.runs.specs.Trip.{Trip, itemOf, entersAs, vectorF, vectorG}
 use Rattle.runs.specs.Passes.{passAfter, Gives}
 use Rattle.runs.specs.Buffers.{Written}
 use Rattle.runs.proofs.RunFacts.{change-level}
@@ -39,7 +41,7 @@ use Rattle.calls.proofs.Agrees.{tripAt, old-challenges, new-challenge, 
 pub nothing-written : (v : Vector) (xs : List ℕ) → Written v 0 0 xs xs
 nothing-written v xs = record { size = refl; wrote = λ j l h. absurd (omega arith); below = λ j h. refl; above = λ j h. refl }
 
-module _ (p : ℕ) (its : List Raw) (a : State) {past : Notes} (h : Fits p a past) where
+module _ (p : ℕ) (its : List Given) (a : State) {past : Notes} (h : Fits p a past) where
   abbrev T : Trip
   T = tripAt its a
 
@@ -64,7 +66,7 @@ module _ (p : ℕ) (its : List Raw) (a : State) {past : Notes} (h : Fits p a pas
 
   -- AN ITEM OF A CHANGE
   module _ (gives : Gives T (a .pass .items)) (more : length (a .pass .items) < a .start .items) (change : a .pass .kind ≡ Change) (later : isTotal (a .turn .next) ≡ false)
-      (x : Raw) (next-item : x ≡ itemOf T (a .start .items - 1 - length (a .pass .items))) (fs gs : List ℕ) (lf : long a ≤ length fs) (lg : long a ≤ length gs) where
+      (x : Given) (next-item : x ≡ itemOf T (a .start .items - 1 - length (a .pass .items))) (fs gs : List ℕ) (lf : long a ≤ length fs) (lg : long a ≤ length gs) where
     abbrev S : Pass
     S = passAfter p R Change (a .pass .point) (a .pass .items)
 
@@ -80,30 +82,30 @@ module _ (p : ℕ) (its : List Raw) (a : State) {past : Notes} (h : Fits p a pas
     inside : ltb (a .start .items - 1 - length (a .pass .items)) (a .start .items) ≡ true
     inside = lt-ltb (a .start .items - 1 - length (a .pass .items)) (a .start .items) (omega arith)
 
-    first : entering p R S (partsIn p x) ≡ vectorF p T (2 ^ n - 1 - t)
+    first : entering p R S (contributes p (a .start) x) ≡ vectorF p T (2 ^ n - 1 - t)
     first =
         after-entering p R Change (a .pass .point) (a .pass .items) x
-        ∙ ap (λ y. entersAs p (a .start) (a .start .items - 1 - length (a .pass .items)) (partsIn p y .f)) next-item
-        ∙ sym (ap (vectorF p T) index ∙ ap (λ b. cond b (entersAs p (a .start) (a .start .items - 1 - length (a .pass .items)) (partsIn p (itemOf T (a .start .items - 1 - length (a .pass .items))) .f)) 0) inside)
+        ∙ ap (λ y. entersAs p (a .start) (a .start .items - 1 - length (a .pass .items)) (contributes p (a .start) y .f)) next-item
+        ∙ sym (ap (vectorF p T) index ∙ ap (λ b. cond b (entersAs p (a .start) (a .start .items - 1 - length (a .pass .items)) (contributes p (a .start) (itemOf T (a .start .items - 1 - length (a .pass .items))) .f)) 0) inside)
 
-    second : partsIn p x .g ≡ vectorG p T (2 ^ n - 1 - t)
+    second : contributes p (a .start) x .g ≡ vectorG p T (2 ^ n - 1 - t)
     second =
-        ap (λ y. partsIn p y .g) next-item
-        ∙ sym (ap (vectorG p T) index ∙ ap (λ b. cond b (partsIn p (itemOf T (a .start .items - 1 - length (a .pass .items))) .g) 0) inside)
+        ap (λ y. contributes p (a .start) y .g) next-item
+        ∙ sym (ap (vectorG p T) index ∙ ap (λ b. cond b (contributes p (a .start) (itemOf T (a .start .items - 1 - length (a .pass .items))) .g) 0) inside)
 
     count : 2 ^ n - a .start .items + S .taken ≡ t
     count = ap (λ k. 2 ^ n - a .start .items + k) (after-taken p R Change (a .pass .point) (a .pass .items))
 
-    pub item-so : (let o : Out = takes p R S (partsIn p x) fs gs in
+    pub item-so : (let o : Out = takes p R S (contributes p (a .start) x) fs gs in
         Written (fold p cs (level a) (vectorF p T)) (long a - completed a (suc (taken a))) (long a - completed a (taken a)) fs (o .f)
         × Written (fold p cs (level a) (vectorG p T)) (long a - completed a (suc (taken a))) (long a - completed a (taken a)) gs (o .g))
     item-so =
-        let o : Out = takes p R S (partsIn p x) fs gs in
+        let o : Out = takes p R S (contributes p (a .start) x) fs gs in
         subst
         (λ i. size n i ≤ length fs → size n i ≤ length gs
         → Written (fold p cs i (vectorF p T)) (size n i - suc t / 2 ^ i) (size n i - t / 2 ^ i) fs (o .f)
         × Written (fold p cs i (vectorG p T)) (size n i - suc t / 2 ^ i) (size n i - t / 2 ^ i) gs (o .g)) change-at
-        (item-written p R S (partsIn p x) fs gs (run-formed p a h) (after-kind p R Change (a .pass .point) (a .pass .items)) later t count room
+        (item-written p R S (contributes p (a .start) x) fs gs (run-formed p a h) (after-kind p R Change (a .pass .point) (a .pass .items)) later t count room
         cs (vectorF p T) (vectorG p T) (pass-taken p its a h Change change refl later gives) (agree-at p its a h Change) first second) lf lg
 
   -- A CHALLENGE in full mode

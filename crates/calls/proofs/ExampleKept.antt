@@ -12,7 +12,9 @@ use Rattle.vector.specs.Slice.{every}
 use Rattle.vector.proofs.Every.{every-at}
 use Rattle.prover.specs.Records.{isFull}
 use Rattle.prover.proofs.Facts.{holds}
-use Rattle.runs.specs.Trip.{Raw, reading, numbers, Trip, itemOf, vectorF, vectorG}
+use Rattle.item.specs.declared.Given.{Given}
+use Rattle.item.specs.declared.Given.the-variants.{Reading, Numbers}
+use Rattle.runs.specs.Trip.{Trip, itemOf, vectorF, vectorG}
 use Rattle.calls.specs.declared.Call.{Call}
 use Rattle.calls.specs.declared.Call.the-variants as call
 use Rattle.calls.specs.Lists.{along, each}
@@ -31,11 +33,11 @@ sameInteger (pos m) (negsuc n) = false
 sameInteger (negsuc m) (pos n) = false
 sameInteger (negsuc m) (negsuc n) = eqb m n
 
-abbrev pub sameItem : Raw → Raw → Bool
-sameItem (reading z w) (reading y v) = cond (sameInteger z y) (eqb w v) false
-sameItem (reading z w) (numbers c d) = false
-sameItem (numbers a b) (reading y v) = false
-sameItem (numbers a b) (numbers c d) = cond (eqb a c) (eqb b d) false
+abbrev pub sameItem : Given → Given → Bool
+sameItem (Reading z w) (Reading y v) = cond (sameInteger z y) (eqb w v) false
+sameItem (Reading z w) (Numbers c d) = false
+sameItem (Numbers a b) (Reading y v) = false
+sameItem (Numbers a b) (Numbers c d) = cond (eqb a c) (eqb b d) false
 
 -- the first places of two buffers are those of two vectors
 abbrev pub samePlaces : ℕ → Lent → Vector → Vector → Bool
@@ -45,7 +47,7 @@ module _ (p : ℕ) (through : Bool) (T : Trip) where
   abbrev pub leftTest : State → Lent → Bool
   leftTest a l = samePlaces (long a) l (at (a .buffers .f)) (at (a .buffers .g))
 
-  abbrev pub itemTest : State → Raw → Lent → Bool
+  abbrev pub itemTest : State → Given → Lent → Bool
   itemTest a x l =
       cond (sameItem x (itemOf T (T .start .items - 1 - length (a .pass .items)))) (cond (bindsItem through a) (leftTest a l) true) false
 
@@ -54,8 +56,8 @@ module _ (p : ℕ) (through : Bool) (T : Trip) where
   keptTest a (call.OpenAt b) l = true
   keptTest a call.ToFull l = true
   keptTest a call.ToSmall l = true
-  keptTest a (call.Item z w) l = itemTest a (reading z w) l
-  keptTest a (call.FieldItem x y) l = itemTest a (numbers x y) l
+  keptTest a (call.Item z w) l = itemTest a (Reading z w) l
+  keptTest a (call.FieldItem x y) l = itemTest a (Numbers x y) l
   keptTest a call.Close l = true
   keptTest a call.Message l = leftTest a l
   keptTest a (call.Challenge c) l = cond (isFull (a .turn .mode)) (leftTest a l) true
@@ -78,15 +80,15 @@ same-integer (pos m) (negsuc n) e = absurd (true≢false (sym e))
 same-integer (negsuc m) (pos n) e = absurd (true≢false (sym e))
 same-integer (negsuc m) (negsuc n) e = ap negsuc (eqb-true m n e)
 
-same-item : (x y : Raw) → sameItem x y ≡ true → x ≡ y
-same-item (reading z w) (reading y v) e =
+same-item : (x y : Given) → sameItem x y ≡ true → x ≡ y
+same-item (Reading z w) (Reading y v) e =
     let h = holds (sameInteger z y) (eqb w v) e in
-    ap (λ x. reading x w) (same-integer z y (h .0)) ∙ ap (reading y) (eqb-true w v (h .1))
-same-item (reading z w) (numbers c d) e = absurd (true≢false (sym e))
-same-item (numbers a b) (reading y v) e = absurd (true≢false (sym e))
-same-item (numbers a b) (numbers c d) e =
+    ap (λ x. Reading x w) (same-integer z y (h .0)) ∙ ap (Reading y) (eqb-true w v (h .1))
+same-item (Reading z w) (Numbers c d) e = absurd (true≢false (sym e))
+same-item (Numbers a b) (Reading y v) e = absurd (true≢false (sym e))
+same-item (Numbers a b) (Numbers c d) e =
     let h = holds (eqb a c) (eqb b d) e in
-    ap (λ x. numbers x b) (eqb-true a c (h .0)) ∙ ap (numbers c) (eqb-true b d (h .1))
+    ap (λ x. Numbers x b) (eqb-true a c (h .0)) ∙ ap (Numbers c) (eqb-true b d (h .1))
 
 same-places : (m : ℕ) (l : Lent) (f g : Vector) → samePlaces m l f g ≡ true → (j : ℕ) → j < m → (at (l .f) j ≡ f j) × (at (l .g) j ≡ g j)
 same-places m l f g e j h =
@@ -114,7 +116,7 @@ module _ (p : ℕ) (through : Bool) (T : Trip) where
   left : (a : State) (l : Lent) → leftTest p through T a l ≡ true → AsLeft a l
   left a l e = same-places (long a) l (at (a .buffers .f)) (at (a .buffers .g)) e
 
-  item : (a : State) (x : Raw) (l : Lent) → itemTest p through T a x l ≡ true → ItemKept p T through a x l
+  item : (a : State) (x : Given) (l : Lent) → itemTest p through T a x l ≡ true → ItemKept p T through a x l
   item a x l e =
       let h = holds (sameItem x (itemOf T (T .start .items - 1 - length (a .pass .items)))) (cond (bindsItem through a) (leftTest p through T a l) true) e in
       (same-item x (itemOf T (T .start .items - 1 - length (a .pass .items))) (h .0), λ b. left a l (implied (bindsItem through a) (leftTest p through T a l) (h .1) b))
@@ -124,8 +126,8 @@ module _ (p : ℕ) (through : Bool) (T : Trip) where
   kept a (call.OpenAt b) l e = tt
   kept a call.ToFull l e = tt
   kept a call.ToSmall l e = tt
-  kept a (call.Item z w) l e = item a (reading z w) l e
-  kept a (call.FieldItem x y) l e = item a (numbers x y) l e
+  kept a (call.Item z w) l e = item a (Reading z w) l e
+  kept a (call.FieldItem x y) l e = item a (Numbers x y) l e
   kept a call.Close l e = tt
   kept a call.Message l e = left a l e
   kept a (call.Challenge c) l e = λ b. left a l (implied (isFull (a .turn .mode)) (leftTest p through T a l) e b)

@@ -23,7 +23,11 @@ use Rattle.prover.specs.declared.Kind.{Kind}
 use Rattle.prover.specs.declared.Kind.the-variants.{Shut}
 use Rattle.prover.specs.Order.{isTotal}
 use Rattle.prover.specs.WellFormed.{roundFits, kindFits, runFormed, wellFormed}
-use Rattle.runs.specs.Trip.{Raw, numbers, partsIn, Start, sumOf}
+use Rattle.item.specs.declared.Start.{Start}
+use Rattle.item.specs.declared.Given.{Given}
+use Rattle.item.specs.declared.Given.the-variants.{Numbers}
+use Rattle.item.specs.Item.{contributes}
+use Rattle.runs.specs.Trip.{sumOf}
 use Rattle.runs.specs.Items.{AllWithin}
 use Rattle.runs.proofs.PassRecord.{after-kind, after-taken}
 use Rattle.runs.proofs.PassTotal.{after-total}
@@ -39,9 +43,9 @@ givenAt i next.Challenge = suc i
 givenAt i next.Ends = i
 givenAt i next.Openings = i
 
--- both numbers of an item are field numbers
-abbrev pub Fine : ℕ → Raw → Type 0
-Fine p x = (partsIn p x .f < p) × (partsIn p x .g < p)
+-- both Numbers of an item are field Numbers
+abbrev pub Fine : ℕ → Start → Given → Type 0
+Fine p s x = (contributes p s x .f < p) × (contributes p s x .g < p)
 
 pub record RunFits (p : ℕ) (s : Start) (t : Next) (cs : List ℕ) (z : ℤ) (ms : List ℕ) (a b : ℕ) : Type 0 where
   pub some : 1 ≤ s .items
@@ -54,12 +58,12 @@ pub record RunFits (p : ℕ) (s : Start) (t : Next) (cs : List ℕ) (z : ℤ) (m
   pub fend : a < p
   pub gend : b < p
 
-pub record PassFits (p : ℕ) (s : Start) (m : Mode) (t : Next) (k : Kind) (xs : List Raw) : Type 0 where
+pub record PassFits (p : ℕ) (s : Start) (m : Mode) (t : Next) (k : Kind) (xs : List Given) : Type 0 where
   pub kind : kindFits k m t ≡ true
   pub idle : k ≡ Shut → xs ≡ []
   pub count : length xs ≤ s .items
   pub within : AllWithin xs
-  pub fine : (q : ℕ) → Fine p (getD xs q (numbers 0 0))
+  pub fine : (q : ℕ) → Fine p s (getD xs q (Numbers 0 0))
 
 pub record Fits (p : ℕ) (a : State) (past : Notes) : Type 0 where
   pub run : RunFits p (a .start) (a .turn .next) (a .turn .challenges) (past .total) (past .messages) (past .fend) (past .gend)
@@ -72,7 +76,7 @@ lt-or-le j m = by (ltb j m) refl
     by true e = inl (ltb-true j m e)
     by false e = inr (ltb-false j m e)
 
--- a list of field numbers in an array
+-- a list of field Numbers in an array
 zeros-at : (m j : ℕ) → at (replicate m 0) j ≡ 0
 zeros-at m j =
     ⊎-elim (λ (l : j < m). getD-replicate m j 0 0 l)

@@ -8,6 +8,7 @@ use native.Mathlib.Numerals.{add-one}
 use native.Mathlib.Omega.{arith}
 use lib.Dec.{eqb, ltb}
 use lib.IntN.{ℤ, natAbs}
+use Rattle.refusal.specs.Outcome.{answered}
 use lib.ListN.{length, length-append, getD, set}
 use borrow.Author.Tests.{ltb-true, ltb-false, eqb-true, eq-eqb}
 use Rattle.refusal.specs.Limit.{maxWeight}
@@ -29,6 +30,8 @@ use Rattle.prover.specs.declared.Kind.the-variants.{Shut, Asked, Change}
 use Rattle.prover.specs.declared.Run.{Run}
 use Rattle.prover.specs.declared.Pass.{Pass}
 use Rattle.prover.specs.declared.Answer.the-variants as answer
+use Rattle.prover.specs.Reply as reply
+use Rattle.prover.specs.Reply.{answerIn}
 use Rattle.prover.specs.Records.{answeredStep, isChange, isFull, isOpen}
 use Rattle.prover.specs.Order.{isTotal, levelAt, foldSize, roundOrEnds}
 use Rattle.prover.specs.Close.{goneTo, withTotal, keptMessage, withMessage, shutPass}
@@ -37,22 +40,25 @@ use Rattle.prover.specs.WellFormed.{roundFits, kindFits}
 use Rattle.prover.specs.Take.{takes}
 use Rattle.prover.specs.Full.{messageGiven}
 use Rattle.prover.specs.Challenge.{keptChallenge, challengedFull}
-use Rattle.runs.specs.Trip.{Raw, reading, numbers, partsIn, Start}
+use Rattle.item.specs.declared.Start.{Start}
+use Rattle.item.specs.declared.Given.{Given}
+use Rattle.item.specs.declared.Given.the-variants.{Reading, Numbers}
+use Rattle.item.specs.Item.{contributes}
 use Rattle.runs.specs.Passes.{passAfter}
 use Rattle.runs.specs.Items.{Within, AllWithin}
 use Rattle.runs.proofs.PassTotal.{after-total}
 use Rattle.runs.proofs.PassRecord.{takes-run, after-item}
 use Rattle.calls.specs.declared.Call.the-variants as call
-use Rattle.calls.specs.Step.{Lent, Result, leaving, keepingStep}
+use Rattle.calls.specs.Step.{Lent, Result, leaving}
 use Rattle.calls.specs.State.{State, inPass, goesTo, withBuffers, takesChallenge, buffersIn, goesOn, closed}
 use Rattle.calls.specs.Table.{waits, levelNow, long, bothLong, totalFits, table}
 use Rattle.calls.proofs.Records.{Notes, noted, inArray, runOf, passOf}
 use Rattle.calls.proofs.Arrays as arrays
 use Rattle.calls.proofs.Arrays.{array-next}
 use Rattle.calls.proofs.Guards.{challengeDoes}
-use Rattle.calls.proofs.Steps.{row-passed, closeStep, does}
+use Rattle.calls.proofs.Steps.{row-passed, keepingStep, closeStep, does}
 use Rattle.calls.proofs.Turns.{both, pass-kind, openings-kind, change-kind, waits-for, full-shut, challenge-shut}
-use Rattle.calls.proofs.ItemRows.{item-admitted, field-admitted}
+use Rattle.calls.proofs.ItemRows.{Limits, item-admitted}
 use Rattle.calls.proofs.Fits.{Fine, givenAt, RunFits, PassFits, Fits, few, run-formed, kind-is}
 use Rattle.calls.proofs.Numbers.{own-message, own-ends, slice-below}
 
@@ -106,13 +112,13 @@ module _ (p : ℕ) (large : maxWeight < p) where
       }
 
   -- AN ITEM IS TAKEN
-  one-more : (s : Start) (m : Mode) (t : Next) (k : Kind) (xs : List Raw) (x : Raw) → PassFits p s m t k xs → isOpen k ≡ true → length xs < s .items
-      → Within x → Fine p x → PassFits p s m t k (x ∷ xs)
+  one-more : (s : Start) (m : Mode) (t : Next) (k : Kind) (xs : List Given) (x : Given) → PassFits p s m t k xs → isOpen k ≡ true → length xs < s .items
+      → Within x → Fine p s x → PassFits p s m t k (x ∷ xs)
   unfolding AllWithin
   one-more s m t k xs x h o l w f =
       record { kind = h .kind; idle = λ e. absurd (true≢false (sym o ∙ ap isOpen e)); count = omega arith; within = (w, h .within); fine = fines }
     where
-      fines : (q : ℕ) → Fine p (getD (x ∷ xs) q (numbers 0 0))
+      fines : (q : ℕ) → Fine p s (getD (x ∷ xs) q (Numbers 0 0))
       fines zero = f
       fines (suc q) = h .fine q
 
@@ -121,8 +127,8 @@ module _ (p : ℕ) (large : maxWeight < p) where
   with-or-without true a l o h = record { run = h .run; pass = h .pass; fits = record { run = h .fits .run; pass = h .fits .pass } }
   with-or-without false a l o h = h
 
-  take-follows : (a : State) {past : Notes} → Fits p a past → (x : Raw) (l m : Lent) → isOpen (a .pass .kind) ≡ true → length (a .pass .items) < a .start .items → Within x → Fine p x
-      → (o : Result) → o .run ≡ runOf a past → o .pass ≡ takes p (runOf a past) (passOf p a past) (partsIn p x) (l .f) (l .g) .pass
+  take-follows : (a : State) {past : Notes} → Fits p a past → (x : Given) (l m : Lent) → isOpen (a .pass .kind) ≡ true → length (a .pass .items) < a .start .items → Within x → Fine p (a .start) x
+      → (o : Result) → o .run ≡ runOf a past → o .pass ≡ takes p (runOf a past) (passOf p a past) (contributes p (a .start) x) (l .f) (l .g) .pass
       → Follows p (buffersIn (isChange (a .pass .kind)) (inPass a (a .pass .kind) (a .pass .point) (x ∷ a .pass .items)) m) past o
   take-follows a {past} h x l m op less w f o er ep =
       with-or-without (isChange (a .pass .kind)) (inPass a (a .pass .kind) (a .pass .point) (x ∷ a .pass .items)) m o
@@ -132,20 +138,22 @@ module _ (p : ℕ) (large : maxWeight < p) where
         fits = record { run = h .run; pass = one-more (a .start) (a .turn .mode) (a .turn .next) (a .pass .kind) (a .pass .items) x (h .pass) op less w f };
       })
 
-  pub item-follows : (a : State) {past : Notes} → Fits p a past → (z : ℤ) (w : ℕ) (l : Lent) → natAbs z ≤ 32768 → table p a (call.Item z w) l ≡ none
-      → (let o : Result = does p (runOf a past) (passOf p a past) (call.Item z w) l in Follows p (goesOn a (call.Item z w) (o .lent)) past o)
-  item-follows a {past} h z w l size e =
-      let q = item-admitted p a l z w e in
-      take-follows a h (reading z w) l (does p (runOf a past) (passOf p a past) (call.Item z w) l .lent) (q .opened) (q .more) (size, q .limits)
-      (omega (arith, image-lt p z, base-of p positive), omega (arith, q .limits))
-      (does p (runOf a past) (passOf p a past) (call.Item z w) l) (takes-run p (runOf a past) (passOf p a past) (partsIn p (reading z w)) (l .f) (l .g)) refl
+  -- an item within its limits
+  within : (x : Given) → ((z : ℤ) (w : ℕ) → x ≡ Reading z w → natAbs z ≤ 32768) → Limits p x → Within x
+  within (Reading z w) size h = (size z w refl, h)
+  within (Numbers a b) size h = tt
 
-  pub field-item-follows : (a : State) {past : Notes} → Fits p a past → (x y : ℕ) (l : Lent) → table p a (call.FieldItem x y) l ≡ none
-      → (let o : Result = does p (runOf a past) (passOf p a past) (call.FieldItem x y) l in Follows p (goesOn a (call.FieldItem x y) (o .lent)) past o)
-  field-item-follows a {past} h x y l e =
-      let q = field-admitted p a l x y e in
-      take-follows a h (numbers x y) l (does p (runOf a past) (passOf p a past) (call.FieldItem x y) l .lent) (q .opened) (q .more) tt (q .limits)
-      (does p (runOf a past) (passOf p a past) (call.FieldItem x y) l) (takes-run p (runOf a past) (passOf p a past) (partsIn p (numbers x y)) (l .f) (l .g)) refl
+  fine : (s : Start) (x : Given) → Limits p x → Fine p s x
+  fine s (Reading z w) h = (omega (arith, image-lt p z, base-of p positive), omega (arith, h))
+  fine s (Numbers a b) h = h
+
+  pub item-follows : (a : State) {past : Notes} → Fits p a past → (x : Given) (l : Lent) → ((z : ℤ) (w : ℕ) → x ≡ Reading z w → natAbs z ≤ 32768)
+      → table p a (call.Give x) l ≡ none
+      → (let o : Result = does p (runOf a past) (passOf p a past) (call.Give x) l in Follows p (goesOn a (call.Give x) (o .lent)) past o)
+  item-follows a {past} h x l size e =
+      let q = item-admitted p a l x e in
+      take-follows a h x l (does p (runOf a past) (passOf p a past) (call.Give x) l .lent) (q .opened) (q .more) (within x size (q .limits)) (fine (a .start) x (q .limits))
+      (does p (runOf a past) (passOf p a past) (call.Give x) l) (takes-run p (runOf a past) (passOf p a past) (contributes p (a .start) x) (l .f) (l .g)) refl
 
   -- WHAT IS NEXT after the total and after a challenge
   round-next : (i n : ℕ) → i ≤ n → (roundFits (roundOrEnds i n) i n ≡ true) × (givenAt i (roundOrEnds i n) ≡ i)
@@ -247,13 +255,10 @@ module _ (p : ℕ) (large : maxWeight < p) where
   -- A PASS IS CLOSED
   given-message : (r : Run) (even cross odd : ℕ) (messages : List ℕ) → keptMessage (r .messages) (r .round) even cross odd ≡ messages
       → withMessage r even cross odd ≡ record {
-        items = r .items;
-        rounds = r .rounds;
-        plain = r .plain;
+        start = r .start;
         mode = r .mode;
         next = next.Challenge;
         round = r .round;
-        twists = r .twists;
         challenges = r .challenges;
         messages = messages;
         total = r .total;
@@ -270,7 +275,7 @@ module _ (p : ℕ) (large : maxWeight < p) where
 
   -- the run after a message, in either mode
   message-run : (a : State) {past : Notes} → Fits p a past → a .turn .next ≡ next.Message → (even cross odd : ℕ)
-      → withMessage (runOf a past) even cross odd ≡ runOf (goesTo a next.Challenge) (noted past (answer.Message even cross odd))
+      → withMessage (runOf a past) even cross odd ≡ runOf (goesTo a next.Challenge) (noted past (answered (reply.message even cross odd)))
   message-run a {past} h e even cross odd =
       let q = message-round a h e in
       given-message (runOf a past) even cross odd (inArray 45 (past .messages ++ even ∷ cross ∷ odd ∷ []))
@@ -288,8 +293,8 @@ module _ (p : ℕ) (large : maxWeight < p) where
 
     total-closed : (plain : Bool) → a .start .plain ≡ plain → a .turn .next ≡ next.Total → (plain ≡ true → inLimits p (S Asked .total) ≡ true)
         → (let st : Step = cond plain (answeredStep (withTotal R (S Asked .total)) shutPass (answer.Total (S Asked .total)))
-        (answeredStep (goneTo R (roundOrEnds 0 (R .rounds))) shutPass (answer.FieldTotal (S Asked .dot))) in
-        Follows p (goesTo a (roundOrEnds 0 (a .start .rounds))) (noted past (st .answer)) (keepingStep l st))
+        (answeredStep (goneTo R (roundOrEnds 0 (R .start .rounds))) shutPass (answer.FieldTotal (S Asked .dot))) in
+        Follows p (goesTo a (roundOrEnds 0 (a .start .rounds))) (noted past (answerIn (st .answer))) (keepingStep l st))
     unfolding passAfter
     total-closed true e et fits =
         record { run = refl; pass = refl; fits = record { run = total-fits a h et (S Asked .total) (fits refl); pass = shut-items (a .start) (a .turn .mode) _ } }
@@ -297,7 +302,7 @@ module _ (p : ℕ) (large : maxWeight < p) where
         record { run = refl; pass = refl; fits = record { run = total-fits a h et (past .total) (h .run .total); pass = shut-items (a .start) (a .turn .mode) _ } }
 
     close-core : (t : Next) (k : Kind) → a .turn .next ≡ t → isOpen k ≡ true → kindFits k (a .turn .mode) t ≡ true → (a .start .plain ≡ true → t ≡ next.Total → inLimits p (S Asked .total) ≡ true)
-        → (let st : Step = closeStep R (S k) t k in Follows p (closed a t k) (noted past (st .answer)) (keepingStep l st))
+        → (let st : Step = closeStep R (S k) t k in Follows p (closed a t k) (noted past (answerIn (st .answer))) (keepingStep l st))
     unfolding passAfter
     close-core t Shut et op fit fits = absurd (true≢false (sym op))
     close-core next.Total Asked et op fit fits = total-closed (a .start .plain) refl et (λ e. fits e refl)
@@ -340,7 +345,7 @@ module _ (p : ℕ) (large : maxWeight < p) where
       let u = row-passed (eqb (length (a .pass .items)) (a .start .items)) 8 _ (q .1) in
       let v = row-passed (totalFits p a) 7 none (u .1) in
       let all = eqb-true _ _ (u .0) in
-      subst (λ k. (let st : Step = closeStep (runOf a past) (passOf p a past) (a .turn .next) k in Follows p (closed a (a .turn .next) (a .pass .kind)) (noted past (st .answer)) (keepingStep l st)))
+      subst (λ k. (let st : Step = closeStep (runOf a past) (passOf p a past) (a .turn .next) k in Follows p (closed a (a .turn .next) (a .pass .kind)) (noted past (answerIn (st .answer))) (keepingStep l st)))
       (sym (kind-is p a h))
       (close-core a h l all (a .turn .next) (a .pass .kind) refl (q .0) (h .pass .kind)
       (λ plain first.
@@ -348,7 +353,7 @@ module _ (p : ℕ) (large : maxWeight < p) where
       ∙ limit-of (waits next.Total (a .turn .next)) (a .start .plain) _ (v .0) (ap (waits next.Total) first) plain))
 
   -- the closed pass is the same of any run
-  shut-same : (r r′ : Run) (k : Kind) (b : ℕ) (xs : List Raw) → k ≡ Shut → xs ≡ [] → passAfter p r k b xs ≡ passAfter p r′ Shut 0 []
+  shut-same : (r r′ : Run) (k : Kind) (b : ℕ) (xs : List Given) → k ≡ Shut → xs ≡ [] → passAfter p r k b xs ≡ passAfter p r′ Shut 0 []
   unfolding passAfter
   shut-same r r′ k b xs ek ex = rw (ek, ex)
 

@@ -9,12 +9,12 @@ use lib.IntN.{ℤ}
 use lib.ListN.{length}
 use borrow.Author.Tests.{le-leb, leb-true, ltb-true, ltb-false}
 use Rattle.refusal.specs.Limit.{maxWeight}
-use Rattle.refusal.specs.Outcome.{Outcome, answered, refused, refusedAt, require}
+use Rattle.refusal.specs.Outcome.{Outcome, answered, refusedAt, require, requireAt}
 use Rattle.field.specs.Total.{inLimits}
 use Rattle.vector.specs.Rounds.{size}
 use Rattle.vector.specs.Slice.{allReduced, isNonzero}
-use Rattle.vector.specs.Item.{plainParts, numberParts}
-use Rattle.vector.specs.declared.item.Item.{Item}
+use Rattle.item.specs.declared.Item.{Item}
+use Rattle.item.specs.declared.Given.{Given}
 use Rattle.prover.specs.declared.Mode.{Mode}
 use Rattle.prover.specs.declared.Mode.the-variants.{Small, Full}
 use Rattle.prover.specs.declared.Next.{Next}
@@ -29,7 +29,7 @@ use Rattle.prover.specs.WellFormed.{wellFormed}
 use Rattle.prover.specs.Open.{openNext, opened, noPoints, pointsOf, openKernel, paddedKernel, openCall, openAtCall}
 use Rattle.prover.specs.Take.{takes}
 use Rattle.prover.specs.Calls as calls
-use Rattle.prover.specs.Calls.{withParts, itemPlaces, itemTurn, placesThere, itemCall, fieldItemCall}
+use Rattle.prover.specs.Calls.{withItem, itemPlaces, placesThere, giveCall}
 use Rattle.prover.specs.Change.{changeAt, changes, toFullCall}
 use Rattle.prover.specs.Close as close
 use Rattle.prover.specs.Close.{closing, closeCall}
@@ -37,10 +37,12 @@ use Rattle.prover.specs.Full.{bothReduced, lentFolds, messageGiven, messageCall
 use Rattle.prover.specs.Challenge.{isChallenge, challengedSmall, challengedFull, challenged, challengeCall}
 use Rattle.prover.specs.Opening.{openingGiven, openingCall}
 use Rattle.prover.proofs.Facts.{size-32}
-use Rattle.runs.specs.Trip.{reading, numbers, partsIn, sumOf}
+use Rattle.item.specs.declared.Given.the-variants.{Reading, Numbers}
+use Rattle.item.specs.Item.{contributes, partsOf}
+use Rattle.runs.specs.Trip.{sumOf}
 use Rattle.calls.specs.Step.{Lent}
 use Rattle.calls.specs.State.{State}
-use Rattle.calls.specs.Table.{Refusal, decided, row, rowAt, waits, passNext, openingsNext, changeNext, levelNow, long, bothLong, readRows, itemRows, placeRow, totalFits, table}
+use Rattle.calls.specs.Table.{Refusal, decided, row, rowAt, waits, passNext, openingsNext, changeNext, levelNow, long, bothLong, readRows, givenRows, placeRow, totalFits, table}
 use Rattle.calls.specs.declared.Call.the-variants as call
 use Rattle.calls.proofs.Records.{Notes, runOf}
 
@@ -231,52 +233,31 @@ module _ (p : ℕ) (a : State) (past : Notes) (few : a .start .rounds ≤ 15) wh
       places : (l : Lent) (x : Item) → itemPlaces p R s (l .f) (l .g) x ≡ decided (placeRow a l) (answered (takes p R s x (l .f) (l .g)))
       places l x = like-row _ _ 9 _ none _ (place-there l) refl
 
-      turn : (same : Bool) (rest : Outcome Out) (t : Option Refusal) (o : Outcome Out) → rest ≡ decided t o
-          → itemTurn p R s same rest ≡ decided (itemRows a same t) o
-      turn same rest t o e =
-          like-row _ _ 10 _ _ _ open-test (like-row _ _ 8 _ _ _ wanted-test (same-row same 10 rest t o e))
-
-      plain-item : (z : ℤ) (w : ℕ) (l : Lent)
-          → withParts (plainParts p z w) (refusedAt 5 (a .start .items - 1 - s .taken)) (itemPlaces p R s (l .f) (l .g))
-          ≡ decided (rowAt (leb w maxWeight) 5 (a .start .items - 1 - length (a .pass .items)) (placeRow a l)) (answered (takes p R s (partsIn p (reading z w)) (l .f) (l .g)))
-      unfolding plainParts
-      plain-item z w l = by (ltb maxWeight w) (leb w maxWeight) refl refl
+      own-rows : (x : Given) (l : Lent)
+          → withItem (partsOf p (a .start) (a .start .items - 1 - s .taken) x) (itemPlaces p R s (l .f) (l .g))
+          ≡ decided (givenRows p (a .start) (a .start .items - 1 - length (a .pass .items)) x (placeRow a l)) (answered (takes p R s (contributes p (a .start) x) (l .f) (l .g)))
+      unfolding partsOf
+      own-rows (Reading z w) l = by (a .start .plain) (leb w maxWeight)
         where
-          by : (over fits : Bool) → ltb maxWeight w ≡ over → leb w maxWeight ≡ fits
-              → withParts (cond over none (some (partsIn p (reading z w)))) (refusedAt 5 (a .start .items - 1 - s .taken)) (itemPlaces p R s (l .f) (l .g))
-              ≡ decided (rowAt fits 5 (a .start .items - 1 - length (a .pass .items)) (placeRow a l)) (answered (takes p R s (partsIn p (reading z w)) (l .f) (l .g)))
-          by true true o f = absurd (omega (arith, ltb-true maxWeight w o, leb-true w maxWeight f))
-          by true false o f = ap (λ n. refusedAt 5 (a .start .items - 1 - n)) count
-          by false true o f = places l (partsIn p (reading z w))
-          by false false o f = let z : _≡_ {A = Bool} true false = sym (le-leb w maxWeight (ltb-false maxWeight w o)) ∙ f in cc
-
-      pub item-decided : (z : ℤ) (w : ℕ) (l : Lent)
-          → itemCall p R s z w (l .f) (l .g) ≡ decided (table p a (call.Item z w) l) (answered (takes p R s (partsIn p (reading z w)) (l .f) (l .g)))
-      unfolding itemCall table
-      item-decided z w l = turn (a .start .plain) _ _ _ (plain-item z w l)
-
-      field-parts : (x y : ℕ) (l : Lent)
-          → withParts (numberParts p x y) (refused 16) (itemPlaces p R s (l .f) (l .g))
-          ≡ decided (row (ltb x p && ltb y p) 16 (placeRow a l)) (answered (takes p R s (partsIn p (numbers x y)) (l .f) (l .g)))
-      unfolding numberParts
-      field-parts x y l = by (leb p x) (leb p y) (ltb x p) (ltb y p) refl refl refl refl
+          by : (plain fits : Bool)
+              → withItem (require plain 10 (requireAt fits 5 (a .start .items - 1 - s .taken) (answered (contributes p (a .start) (Reading z w))))) (itemPlaces p R s (l .f) (l .g))
+              ≡ decided (row plain 10 (rowAt fits 5 (a .start .items - 1 - length (a .pass .items)) (placeRow a l))) (answered (takes p R s (contributes p (a .start) (Reading z w)) (l .f) (l .g)))
+          by false fits = refl
+          by true false = ap (λ n. refusedAt 5 (a .start .items - 1 - n)) count
+          by true true = places l (contributes p (a .start) (Reading z w))
+      own-rows (Numbers x y) l = by (not (a .start .plain)) (ltb x p && ltb y p)
         where
-          by : (big bad fine good : Bool) → leb p x ≡ big → leb p y ≡ bad → ltb x p ≡ fine → ltb y p ≡ good
-              → withParts (cond big none (cond bad none (some (partsIn p (numbers x y))))) (refused 16) (itemPlaces p R s (l .f) (l .g))
-              ≡ decided (row (fine && good) 16 (placeRow a l)) (answered (takes p R s (partsIn p (numbers x y)) (l .f) (l .g)))
-          by true bad true good b d f g = absurd (omega (arith, leb-true p x b, ltb-true x p f))
-          by true bad false good b d f g = refl
-          by false true true true b d f g = absurd (omega (arith, leb-true p y d, ltb-true y p g))
-          by false true true false b d f g = refl
-          by false true false good b d f g = refl
-          by false false true true b d f g = places l (partsIn p (numbers x y))
-          by false false true false b d f g = let z : _≡_ {A = Bool} true false = sym (le-leb p y (ltb-false y p g)) ∙ d in cc
-          by false false false good b d f g = let z : _≡_ {A = Bool} true false = sym (le-leb p x (ltb-false x p f)) ∙ b in cc
+          by : (twisted fine : Bool)
+              → withItem (require twisted 10 (require fine 16 (answered (contributes p (a .start) (Numbers x y))))) (itemPlaces p R s (l .f) (l .g))
+              ≡ decided (row twisted 10 (row fine 16 (placeRow a l))) (answered (takes p R s (contributes p (a .start) (Numbers x y)) (l .f) (l .g)))
+          by false fine = refl
+          by true false = refl
+          by true true = places l (contributes p (a .start) (Numbers x y))
 
-      pub field-item-decided : (x y : ℕ) (l : Lent)
-          → fieldItemCall p R s x y (l .f) (l .g) ≡ decided (table p a (call.FieldItem x y) l) (answered (takes p R s (partsIn p (numbers x y)) (l .f) (l .g)))
-      unfolding fieldItemCall table
-      field-item-decided x y l = turn (not (a .start .plain)) _ _ _ (field-parts x y l)
+      pub item-decided : (x : Given) (l : Lent)
+          → giveCall p R s x (l .f) (l .g) ≡ decided (table p a (call.Give x) l) (answered (takes p R s (contributes p (a .start) x) (l .f) (l .g)))
+      unfolding giveCall table
+      item-decided x l = like-row _ _ 10 _ _ _ open-test (like-row _ _ 8 _ _ _ wanted-test (own-rows x l))
 
       total-test : (isTotal (a .turn .next) ≡ true → s .total ≡ sumOf (a .pass .items)) → close.totalFits p R s ≡ totalFits p a
       total-test sums = by (isTotal (a .turn .next)) refl (totals (a .turn .next))

@@ -30,7 +30,8 @@ use Rattle.verifier.specs.Openings.{openingFinds}
 use Rattle.verifier.specs.ProofFile.{fileMessage, hearsNext, hearsFirst, endsAgree, compares, afterFile}
 use Rattle.verifier.proofs.Invariant.{not-true}
 use Rattle.verifier.proofs.TrueOpenings.{true-opening-holds}
-use Rattle.runs.specs.Trip.{reading, numbers, Trip, itemOf, vectorF, vectorG}
+use Rattle.item.specs.declared.Given.the-variants.{Reading, Numbers}
+use Rattle.runs.specs.Trip.{Trip, itemOf, vectorF, vectorG}
 use Rattle.calls.specs.declared.query.Query.{Query}
 use Rattle.calls.specs.declared.query.Query.the-variants as query
 use Rattle.calls.specs.QueryStep.{Shown, toldOf, toldVerdict, toldOpening}
@@ -145,16 +146,16 @@ module _ (p : ℕ) (large : maxWeight < p) (prime : Prime p) (odd : p % 2 ≡ 1)
     answers-right (query.Item z w) l e brings =
         let rows = item-rows p a l z w e in (
           refl,
-          item-follows p T cs a v f (reading z w) brings
-              (subst (λ b. Fine p b (reading z w)) (sym (kind (rows .same))) (leb-true w maxWeight (item-weight p a l z w e)))
+          item-follows p T cs a v f (Reading z w) brings
+              (subst (λ b. Fine p b (Reading z w)) (sym (kind (rows .same))) (leb-true w maxWeight (item-weight p a l z w e)))
               (rows .unclosed) (stands-after p a v (f .stands) (query.Item z w) l e),
         )
     answers-right (query.FieldItem x y) l e brings =
         let rows = field-rows p a l x y e in
         let below = field-numbers p a l x y e in (
           refl,
-          item-follows p T cs a v f (numbers x y) brings
-              (subst (λ b. Fine p b (numbers x y)) (sym (kind (not-true (a .start .plain) (rows .same)))) (ltb-true x p (below .0), ltb-true y p (below .1)))
+          item-follows p T cs a v f (Numbers x y) brings
+              (subst (λ b. Fine p b (Numbers x y)) (sym (kind (not-true (a .start .plain) (rows .same)))) (ltb-true x p (below .0), ltb-true y p (below .1)))
               (rows .unclosed) (stands-after p a v (f .stands) (query.FieldItem x y) l e),
         )
     answers-right (query.Close t) l e brings =

@@ -27,7 +27,10 @@ use Rattle.verifier.specs.Sums.{entering, oneMore}
 use Rattle.verifier.specs.Claims.{closedWith, passedWith, hears, finds}
 use Rattle.verifier.specs.Calls.{verdictTurn}
 use Rattle.verifier.proofs.Invariant.{parts-of, formed-of, open-turn, closed-taken, closed-turn}
-use Rattle.runs.specs.Trip.{Raw, partsIn, Start, Trip, itemOf, entersAs, vectorF, vectorG}
+use Rattle.item.specs.declared.Start.{Start}
+use Rattle.item.specs.declared.Given.{Given}
+use Rattle.item.specs.Item.{contributes}
+use Rattle.runs.specs.Trip.{Trip, itemOf, entersAs, vectorF, vectorG}
 use Rattle.calls.specs.Meaning.{messageAt}
 use Rattle.calls.specs.QueryStep.{toldOf, toldVerdict}
 use Rattle.calls.specs.QueryState.{VerifierState, takesItem, atRound, hearing, isWhole}
@@ -108,7 +111,7 @@ module _ (p : ℕ) (T : Trip) (cs : List ℕ) where
     carries = rw (f .start, f .challenges) at (f .stands .carries)
 
     -- AN ITEM
-    pub item-follows : (x : Raw) → x ≡ itemOf T (length (a .items)) → Fine p (T .start .plain) x → a .closed ≡ false
+    pub item-follows : (x : Given) → x ≡ itemOf T (length (a .items)) → Fine p (T .start .plain) x → a .closed ≡ false
         → Stands p (takesItem a x) (oneMore p v (partsIn p x .f) (partsIn p x .g))
         → Follows p T cs (takesItem a x) (oneMore p v (partsIn p x .f) (partsIn p x .g))
     unfolding oneMore entering

@@ -15,8 +15,7 @@ use Rattle.vector.specs.Vector.{sum}
 use Rattle.verifier.specs.Starts.{freshVerifier}
 use Rattle.runs.specs.Trip.{Trip}
 use Rattle.calls.specs.declared.query.Heard.{Heard}
-use Rattle.calls.specs.QueryStep.{isTold}
-use Rattle.calls.specs.QueryState.{VerifierState, freshVerifierState, hears, verifierTable, Posed, Hearing, startVerifier, heard, hearsOn}
+use Rattle.calls.specs.QueryState.{VerifierState, freshVerifierState, hears, verifierTable, Posed, Hearing, heard, hearsOn}
 use Rattle.calls.specs.Starts.{Whole}
 use Rattle.calls.proofs.HeardMeaning.{BringsTrip, SaysTrip}
 use Rattle.calls.proofs.QueryStands.{fresh-stands}
@@ -28,7 +27,7 @@ use Rattle.calls.proofs.HeardAnswers.{answers-right}
 module _ (p : ℕ) (large : maxWeight < p) (prime : Prime p) (odd : p % 2 ≡ 1) (word : p ≤ 2 ^ 32) (T : Trip)
     (whole : Whole T) (cs : List ℕ) (listed : length cs ≡ T .start .rounds) where
   module _ (h : Hearing) (f : Follows p T cs (h .state) (h .verifier)) (q : Posed)
-      (brings : isTold (heard p h q .told) ≡ true → BringsTrip p T (h .state) (q .query) (q .shown)) where
+      (brings : isAnswered (heard p h q .told) ≡ true → BringsTrip p T (h .state) (q .query) (q .shown)) where
     abbrev a : VerifierState
     a = h .state
 
@@ -46,7 +45,7 @@ module _ (p : ℕ) (large : maxWeight < p) (prime : Prime p) (odd : p % 2 ≡ 1)
         → SaysTrip p T a (q .query) (q .shown) (did .told) × Follows p T cs (hears a (q .query) (did .told)) (did .verifier)
     right e =
         answers-right p large prime odd word T (whole .start .most) (whole .start .rounds) (whole .items) cs listed a (h .verifier) f (q .query) (q .shown) e
-        (brings (ap (λ (o : Heard). isTold (o .told)) (let-through e) ∙ answers-told p (h .verifier) (q .query) (q .shown)))
+        (brings (ap (λ (o : Heard). isAnswered (o .told)) (let-through e) ∙ answers-told p (h .verifier) (q .query) (q .shown)))
 
     pub says-trip : verifierTable p a (q .query) (q .shown) ≡ none → SaysTrip p T a (q .query) (q .shown) (heard p h q .told)
     says-trip e = subst (λ (o : Heard). SaysTrip p T a (q .query) (q .shown) (o .told)) (sym (let-through e)) (right e .0)
@@ -56,7 +55,7 @@ module _ (p : ℕ) (large : maxWeight < p) (prime : Prime p) (odd : p % 2 ≡ 1)
         follows p a (h .verifier) (q .query) (Follows p T cs) (verifierTable p a (q .query) (q .shown)) did (heard p h q) same
         (answers-told p (h .verifier) (q .query) (q .shown)) f (λ e. right e .1)
 
-  pub fresh-follows : Follows p T cs (freshVerifierState (T .start) cs) (startVerifier (T .start) cs)
+  pub fresh-follows : Follows p T cs (freshVerifierState (T .start) cs) (verifierOf (T .start) cs)
   unfolding freshVerifier sum
   fresh-follows =
       record {

@@ -6,7 +6,8 @@ use lib.ListN.{length}
 use Rattle.field.specs.Total.{inLimits}
 use Rattle.vector.specs.Vector.{at, dot}
 use Rattle.vector.specs.Opening.{opening}
-use Rattle.runs.specs.Trip.{reading, numbers, Trip, itemOf, vectorF, vectorG, totalOf}
+use Rattle.item.specs.declared.Given.the-variants.{Reading, Numbers}
+use Rattle.runs.specs.Trip.{Trip, itemOf, vectorF, vectorG, totalOf}
 use Rattle.calls.specs.declared.query.Query.{Query}
 use Rattle.calls.specs.declared.query.Query.the-variants as query
 use Rattle.calls.specs.declared.query.Told.{Told}
@@ -17,8 +18,8 @@ use Rattle.calls.specs.QueryState.{VerifierState}
 
 -- "the trip's items first to last, the run's total, and the run's messages in order or its proof file"
 abbrev pub BringsTrip : ℕ → Trip → VerifierState → Query → Shown → Type 0
-BringsTrip p T a (query.Item z w) l = reading z w ≡ itemOf T (length (a .items))
-BringsTrip p T a (query.FieldItem x y) l = numbers x y ≡ itemOf T (length (a .items))
+BringsTrip p T a (query.Item z w) l = Reading z w ≡ itemOf T (length (a .items))
+BringsTrip p T a (query.FieldItem x y) l = Numbers x y ≡ itemOf T (length (a .items))
 BringsTrip p T a (query.Close t) l = t ≡ totalOf T
 BringsTrip p T a (query.CloseClaim c) l = c ≡ dot p (2 ^ T .start .rounds) (vectorF p T) (vectorG p T)
 BringsTrip p T a (query.Message even cross odd) l =

@@ -23,14 +23,17 @@ use Rattle.vector.proofs.Folds.{fold-challenges}
 use Rattle.vector.proofs.Messages.{dot-padded}
 use Rattle.vector.proofs.Overwrite.{fifteen-at}
 use Rattle.vector.proofs.EndValues.{weighted, end-padded}
-use Rattle.runs.specs.Trip.{Raw, reading, numbers, partsIn, Trip, itemOf, entersAs, vectorF, vectorG, worth, sumOf, totalOf}
+use Rattle.item.specs.declared.Given.{Given}
+use Rattle.item.specs.declared.Given.the-variants.{Reading, Numbers}
+use Rattle.item.specs.Item.{contributes}
+use Rattle.runs.specs.Trip.{Trip, itemOf, entersAs, vectorF, vectorG, worth, sumOf, totalOf}
 
 -- an item of the run's kind within its limits
-abbrev pub Fine : ℕ → Bool → Raw → Type 0
-Fine p true (reading z w) = w ≤ maxWeight
-Fine p true (numbers x y) = ⊥
-Fine p false (reading z w) = ⊥
-Fine p false (numbers x y) = (x < p) × (y < p)
+abbrev pub Fine : ℕ → Bool → Given → Type 0
+Fine p true (Reading z w) = w ≤ maxWeight
+Fine p true (Numbers x y) = ⊥
+Fine p false (Reading z w) = ⊥
+Fine p false (Numbers x y) = (x < p) × (y < p)
 
 -- what holds below k and at k
 pub below-suc : (P : ℕ → Type 0) (k : ℕ) → ((i : ℕ) → i < k → P i) → P k → (i : ℕ) → i < suc k → P i
@@ -39,7 +42,7 @@ below-suc P k below here i h = ⊎-elim (λ e. subst P (sym e) here) (below i) (
     at-most : (i k : ℕ) → i < suc k → i ≤ k
     at-most i k h = omega arith
 
--- the numbers that enter the sums
+-- the Numbers that enter the sums
 abbrev pub entersF : ℕ → Trip → Vector
 entersF p T i = entersAs p (T .start) i (partsIn p (itemOf T i) .f)
 
@@ -47,29 +50,29 @@ abbrev pub entersG : ℕ → Trip → Vector
 entersG p T i = partsIn p (itemOf T i) .g
 
 module _ (p : ℕ) (large : maxWeight < p) where
-  fine-f : (kind : Bool) (k : ℕ) (x : Raw) → Fine p kind x
+  fine-f : (kind : Bool) (k : ℕ) (x : Given) → Fine p kind x
       → residue p (cond kind (partsIn p x .f) (mulMod p (partsIn p x .f) k)) ≡ cond kind (partsIn p x .f) (mulMod p (partsIn p x .f) k)
   unfolding mulMod
-  fine-f true k (reading z w) h = image-residue p z
-  fine-f true k (numbers x y) h = absurd h
+  fine-f true k (Reading z w) h = image-residue p z
+  fine-f true k (Numbers x y) h = absurd h
   fine-f false k x h = residue-twice p (partsIn p x .f * k)
 
-  fine-g : (kind : Bool) (x : Raw) → Fine p kind x → residue p (partsIn p x .g) ≡ partsIn p x .g
-  fine-g true (reading z w) h = residue-small p w (omega arith)
-  fine-g true (numbers x y) h = absurd h
-  fine-g false (reading z w) h = absurd h
-  fine-g false (numbers x y) h = let less = h .1 in residue-small p y (omega arith)
+  fine-g : (kind : Bool) (x : Given) → Fine p kind x → residue p (partsIn p x .g) ≡ partsIn p x .g
+  fine-g true (Reading z w) h = residue-small p w (omega arith)
+  fine-g true (Numbers x y) h = absurd h
+  fine-g false (Reading z w) h = absurd h
+  fine-g false (Numbers x y) h = let less = h .1 in residue-small p y (omega arith)
 
   -- one item more
-  worth-more : (x : Raw) → Fine p true x → (t : ℤ) → image p (t +ℤ worth x) ≡ addMod p (image p t) (mulMod p (partsIn p x .f) (partsIn p x .g))
-  worth-more (reading z w) h t =
+  worth-more : (x : Given) → Fine p true x → (t : ℤ) → image p (t +ℤ worth x) ≡ addMod p (image p t) (mulMod p (partsIn p x .f) (partsIn p x .g))
+  worth-more (Reading z w) h t =
       ap (image p) (+ℤ-comm t (z *ℤ pos w)) ∙ image-step p z w t ∙ add-commutes p (mulMod p (image p z) w) (image p t)
-  worth-more (numbers x y) h t = absurd h
+  worth-more (Numbers x y) h t = absurd h
 
-  abbrev product : List Raw → Vector
-  product xs i = partsIn p (getD xs i (numbers 0 0)) .f * partsIn p (getD xs i (numbers 0 0)) .g
+  abbrev product : List Given → Vector
+  product xs i = partsIn p (getD xs i (Numbers 0 0)) .f * partsIn p (getD xs i (Numbers 0 0)) .g
 
-  sum-image : (xs : List Raw) → ((i : ℕ) → i < length xs → Fine p true (getD xs i (numbers 0 0))) → image p (sumOf xs) ≡ residue p (sum (length xs) (product xs))
+  sum-image : (xs : List Given) → ((i : ℕ) → i < length xs → Fine p true (getD xs i (Numbers 0 0))) → image p (sumOf xs) ≡ residue p (sum (length xs) (product xs))
   unfolding sumOf sum image
   sum-image [] h = refl
   sum-image (x ∷ xs) h =

@@ -24,7 +24,7 @@ use Rattle.calls.specs.Step.{Lent, isAnswered}
 use Rattle.calls.specs.State.{State}
 use Rattle.calls.specs.World.{Made, World, came, onward}
 use Rattle.calls.specs.Table.{waits, openingsNext, table}
-use Rattle.calls.specs.Meaning.{Question, total, roundMessage, ends, openingAt, proof, done, closeAsks, question, reply, Kept}
+use Rattle.calls.specs.Meaning.{Question, total, roundMessage, ends, openingAt, proof, done, closeAsks, question, meant, Kept}
 use Rattle.calls.specs.Statement.{Sized, Right}
 use Rattle.calls.specs.Given.{replyOf, Answered}
 use Rattle.calls.specs.Demand3.{AllSized, AllKept, AllTake}
@@ -53,8 +53,8 @@ module _ (p : ℕ) (large : maxWeight < p) (through : Bool) (T : Trip) (whole : 
     pub right : Right p T (world .state) (made .call) (made .lent) (came p world made)
 
   -- what it replied
-  pub hit-replies : (q : Question) (h : Hit q) → replyOf (came p (h .world) (h .made)) ≡ reply p T (h .world .state .turn .challenges) q
-  hit-replies q h = ap₂ (λ x y. record { answer = x; values = y }) (h .right .answer) (h .right .values) ∙ ap (reply p T (h .world .state .turn .challenges)) (h .asked)
+  pub hit-replies : (q : Question) (h : Hit q) → replyOf (came p (h .world) (h .made)) ≡ meant p T (h .world .state .turn .challenges) q
+  hit-replies q h = ap₂ (λ x y. record { answer = x; values = y }) (h .right .answer) (h .right .values) ∙ ap (meant p T (h .world .state .turn .challenges)) (h .asked)
 
   hit-here : (w : World) {past : Notes} → Going p large through T whole w past → Prefix (w .state .turn .challenges) cs → (m : Made) → Sized (m .call)
       → (isAnswered (came p w m .answer) ≡ true → Kept p T through (w .state) (m .call) (m .lent)) → (q : Question) → Answered p q w m → Hit q
@@ -96,8 +96,7 @@ call-round a call.OpenPass = refl
 call-round a (call.OpenAt b) = refl
 call-round a call.ToFull = refl
 call-round a call.ToSmall = refl
-call-round a (call.Item r w) = refl
-call-round a (call.FieldItem x y) = refl
+call-round a (call.Give x) = refl
 call-round a call.Close = close-round a (a .turn .next) (a .pass .kind)
 call-round a call.Message = refl
 call-round a (call.Challenge c) = refl
@@ -132,8 +131,7 @@ late p a call.OpenPass l t e = absurd (true≢false (sym e))
 late p a (call.OpenAt b) l t e = absurd (true≢false (sym e))
 late p a call.ToFull l t e = absurd (true≢false (sym e))
 late p a call.ToSmall l t e = absurd (true≢false (sym e))
-late p a (call.Item r w) l t e = absurd (true≢false (sym e))
-late p a (call.FieldItem x y) l t e = absurd (true≢false (sym e))
+late p a (call.Give x) l t e = absurd (true≢false (sym e))
 late p a call.Close l t e = late-close a (a .turn .next) (a .pass .kind) e
 late p a call.Message l t e = absurd (true≢false (sym e))
 late p a (call.Challenge c) l t e = absurd (true≢false (sym e))

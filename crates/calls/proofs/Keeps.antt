@@ -24,19 +24,21 @@ use Rattle.prover.specs.declared.Kind.the-variants.{Shut, Asked, Change}
 use Rattle.prover.specs.declared.Run.{Run}
 use Rattle.prover.specs.declared.Pass.{Pass}
 use Rattle.prover.specs.declared.Step.{Step}
-use Rattle.prover.specs.declared.Answer.{Answer}
-use Rattle.prover.specs.declared.Answer.the-variants as answer
+use Rattle.refusal.specs.Outcome.{Outcome, answered}
+use Rattle.prover.specs.Reply.{Reply, answerIn}
+use Rattle.prover.specs.Reply as reply
 use Rattle.prover.specs.Order.{roundOrEnds}
 use Rattle.prover.specs.WellFormed.{roundFits, kindFits}
 use Rattle.prover.specs.Records.{isChange, isFull, isOpen, isSmall}
-use Rattle.runs.specs.Trip.{Raw, Trip, itemOf, vectorF, vectorG, totalOf}
+use Rattle.item.specs.declared.Given.{Given}
+use Rattle.runs.specs.Trip.{Trip, itemOf, vectorF, vectorG, totalOf}
 use Rattle.runs.specs.Passes.{passAfter, Gives}
 use Rattle.runs.specs.Buffers.{Written}
 use Rattle.calls.specs.declared.Call.the-variants as call
 use Rattle.calls.specs.Step.{Lent, Result}
 use Rattle.calls.specs.State.{State, inPass, goesTo, withBuffers, inFullMode, takesChallenge, buffersIn, closed}
 use Rattle.calls.specs.Table.{waits, changeNext, levelNow, level, long, taken, completed, table}
-use Rattle.calls.specs.Meaning.{reply, roundMessage, ends, closeAsks, messagesTo, foldF, foldG, AsLeft, itemWrites}
+use Rattle.calls.specs.Meaning.{meant, roundMessage, ends, closeAsks, messagesTo, foldF, foldG, AsLeft, itemWrites}
 use Rattle.calls.specs.Statement.{known}
 use Rattle.calls.proofs.Records.{Notes, noted, runOf, passOf}
 use Rattle.calls.proofs.Steps.{row-passed, closeStep, does}
@@ -93,12 +95,12 @@ no-items-given : (T : Trip) → Gives T []
 no-items-given T q h = absurd (omega arith)
 
 -- one item more of the trip
-one-given : (T : Trip) (x : Raw) (xs : List Raw) → length xs < T .start .items → x ≡ itemOf T (T .start .items - 1 - length xs) → Gives T xs → Gives T (x ∷ xs)
+one-given : (T : Trip) (x : Given) (xs : List Given) → length xs < T .start .items → x ≡ itemOf T (T .start .items - 1 - length xs) → Gives T xs → Gives T (x ∷ xs)
 one-given T x xs l e gives zero h = e ∙ ap (itemOf T) (let q : T .start .items - 1 - length xs ≡ T .start .items - suc (length xs) + 0 = omega arith in q)
 one-given T x xs l e gives (suc q) h =
     gives q (omega arith) ∙ ap (itemOf T) (let r : T .start .items - length xs + q ≡ T .start .items - suc (length xs) + suc q = omega arith in r)
 
-module _ (p : ℕ) (large : maxWeight < p) (through : Bool) (its : List Raw) (a : State) {past : Notes} (h : Fits p a past) (g : Agrees p through its a past)
+module _ (p : ℕ) (large : maxWeight < p) (through : Bool) (its : List Given) (a : State) {past : Notes} (h : Fits p a past) (g : Agrees p through its a past)
     (whole : length its ≡ a .start .items) (l : Lent) where
   abbrev T : Trip
   T = tripAt its a
@@ -145,7 +147,7 @@ module _ (p : ℕ) (large : maxWeight < p) (through : Bool) (its : List Raw) (a 
       by true e = w .wrote j lo (ltb-true j to e)
       by false e = w .above j (ltb-false j to e) ∙ left j hi ∙ known j (ltb-false j to e) hi
 
-  pub item-agrees : (x : Raw) (o : Lent) (k : Kind) → a .pass .kind ≡ k → isOpen k ≡ true → length (a .pass .items) < a .start .items → x ≡ itemOf T (a .start .items - 1 - length (a .pass .items))
+  pub item-agrees : (x : Given) (o : Lent) (k : Kind) → a .pass .kind ≡ k → isOpen k ≡ true → length (a .pass .items) < a .start .items → x ≡ itemOf T (a .start .items - 1 - length (a .pass .items))
       → kindFits k (a .turn .mode) (a .turn .next) ≡ true → ((isChange k && (through || not (waits next.Openings (a .turn .next)))) ≡ true → AsLeft a l)
       → Written (foldF p T a) (itemWrites a k .0) (itemWrites a k .1) (l .f) (o .f)
       → Written (foldG p T a) (itemWrites a k .0) (itemWrites a k .1) (l .g) (o .g)
@@ -196,7 +198,7 @@ module _ (p : ℕ) (large : maxWeight < p) (through : Bool) (its : List Raw) (a 
       ∙ small-none (long b) (taken b / 2 ^ level b) (a .turn .mode) Shut (waits next.Openings (b .turn .next)) through s refl
 
   total-agrees : (plain : Bool) → a .start .plain ≡ plain → a .turn .next ≡ next.Total → isSmall (a .turn .mode) ≡ true → (z : ℤ) (d : ℕ) → (plain ≡ true → z ≡ totalOf T)
-      → Agrees p through its (goesTo a (roundOrEnds 0 (a .start .rounds))) (noted past (cond plain (answer.Total z) (answer.FieldTotal d)))
+      → Agrees p through its (goesTo a (roundOrEnds 0 (a .start .rounds))) (noted past (cond plain (answered (reply.total z)) (answered (reply.fieldTotal d))))
   total-agrees plain ep et s z d e =
       let none-yet : length (a .turn .challenges) ≡ 0 = eqb-true _ _ (subst (λ t. roundFits t (length (a .turn .challenges)) (a .start .rounds) ≡ true) et (h .run .round)) in
       let q = given-round 0 (a .start .rounds) in
@@ -208,7 +210,7 @@ module _ (p : ℕ) (large : maxWeight < p) (through : Bool) (its : List Raw) (a 
       by : (plain : Bool) → a .start .plain ≡ plain → (plain ≡ true → z ≡ totalOf T)
           → past .messages ≡ messagesTo p T (a .turn .challenges) (givenAt (length (a .turn .challenges)) (roundOrEnds 0 (a .start .rounds)))
           → waits next.Openings (roundOrEnds 0 (a .start .rounds)) ≡ false
-          → Agrees p through its (goesTo a (roundOrEnds 0 (a .start .rounds))) (noted past (cond plain (answer.Total z) (answer.FieldTotal d)))
+          → Agrees p through its (goesTo a (roundOrEnds 0 (a .start .rounds))) (noted past (cond plain (answered (reply.total z)) (answered (reply.fieldTotal d))))
       by true ep e messages later =
           let b : State = goesTo a (roundOrEnds 0 (a .start .rounds)) in
           let none = still-none b refl refl s in
@@ -233,14 +235,14 @@ module _ (p : ℕ) (large : maxWeight < p) (through : Bool) (its : List Raw) (a 
           }
 
   -- a message was given: in small mode with the close, in full mode by its own call
-  message-kept : a .turn .next ≡ next.Message → (even cross odd : ℕ) → answer.Message even cross odd ≡ reply p T (a .turn .challenges) (roundMessage (length (a .turn .challenges))) .answer
+  message-kept : a .turn .next ≡ next.Message → (even cross odd : ℕ) → answered (reply.message even cross odd) ≡ meant p T (a .turn .challenges) (roundMessage (length (a .turn .challenges))) .answer
       → past .messages ++ even ∷ cross ∷ odd ∷ [] ≡ messagesTo p T (a .turn .challenges) (suc (length (a .turn .challenges)))
   unfolding messagesTo
   message-kept et even cross odd e =
       ap₂ _++_ (g .messages ∙ ap (λ t. messagesTo p T (a .turn .challenges) (givenAt (length (a .turn .challenges)) t)) et) (ap numbersIn e)
 
-  small-message : a .turn .next ≡ next.Message → isSmall (a .turn .mode) ≡ true → (even cross odd : ℕ) → answer.Message even cross odd ≡ reply p T (a .turn .challenges) (roundMessage (length (a .turn .challenges))) .answer
-      → Agrees p through its (goesTo a next.Challenge) (noted past (answer.Message even cross odd))
+  small-message : a .turn .next ≡ next.Message → isSmall (a .turn .mode) ≡ true → (even cross odd : ℕ) → answered (reply.message even cross odd) ≡ meant p T (a .turn .challenges) (roundMessage (length (a .turn .challenges))) .answer
+      → Agrees p through its (goesTo a next.Challenge) (noted past (answered (reply.message even cross odd)))
   small-message et s even cross odd e =
       let b : State = goesTo a next.Challenge in
       let none = still-none b refl refl s in
@@ -254,12 +256,12 @@ module _ (p : ℕ) (large : maxWeight < p) (through : Bool) (its : List Raw) (a 
       }
 
   -- the ends were given
-  ends-kept : (x y : ℕ) → answer.Ends x y ≡ reply p T (a .turn .challenges) ends .answer
+  ends-kept : (x y : ℕ) → answered (reply.ends x y) ≡ meant p T (a .turn .challenges) ends .answer
       → (x ≡ endValue p (at (a .turn .challenges)) (a .start .rounds) (vectorF p T)) × (y ≡ endValue p (at (a .turn .challenges)) (a .start .rounds) (vectorG p T))
   ends-kept x y e = (ap (λ z. at (numbersIn z) 0) e, ap (λ z. at (numbersIn z) 1) e)
 
-  small-ends : a .turn .next ≡ next.Ends → isSmall (a .turn .mode) ≡ true → (x y : ℕ) → answer.Ends x y ≡ reply p T (a .turn .challenges) ends .answer
-      → Agrees p through its (goesTo a next.Openings) (noted past (answer.Ends x y))
+  small-ends : a .turn .next ≡ next.Ends → isSmall (a .turn .mode) ≡ true → (x y : ℕ) → answered (reply.ends x y) ≡ meant p T (a .turn .challenges) ends .answer
+      → Agrees p through its (goesTo a next.Openings) (noted past (answered (reply.ends x y)))
   small-ends et s x y e =
       let b : State = goesTo a next.Openings in
       let none = still-none b refl refl s in
@@ -315,22 +317,22 @@ module _ (p : ℕ) (large : maxWeight < p) (through : Bool) (its : List Raw) (a 
       openings true e f j lo hi = absurd (omega arith)
       openings false e f j lo hi = f e
 
-  total-answer : (plain : Bool) (z : ℤ) (d : ℕ) (x : Answer) → cond plain (answer.Total z) (answer.FieldTotal d) ≡ cond plain (answer.Total (totalOf T)) x → plain ≡ true → z ≡ totalOf T
+  total-answer : (plain : Bool) (z : ℤ) (d : ℕ) (x : Reply) → cond plain (answered (reply.total z)) (answered (reply.fieldTotal d)) ≡ answered (cond plain (reply.total (totalOf T)) x) → plain ≡ true → z ≡ totalOf T
   total-answer true z d x e w = ap totalIn e
   total-answer false z d x e w = absurd (true≢false (sym w))
 
   -- the answer of a close for the total
-  step-answer : (plain : Bool) (s t : Step) (x y : Answer) → s .answer ≡ x → t .answer ≡ y → cond plain s t .answer ≡ cond plain x y
+  step-answer : (plain : Bool) (s t : Step) (x y : Outcome Reply) → answerIn (s .answer) ≡ x → answerIn (t .answer) ≡ y → answerIn (cond plain s t .answer) ≡ cond plain x y
   step-answer true s t x y e f = e
   step-answer false s t x y e f = f
 
   pub close-agrees : (t : Next) (k : Kind) → a .turn .next ≡ t → a .pass .kind ≡ k → isOpen k ≡ true → kindFits k (a .turn .mode) t ≡ true → length (a .pass .items) ≡ a .start .items
       → (let st : Step = closeStep R (passAfter p R k (a .pass .point) (a .pass .items)) t k in
-      st .answer ≡ reply p T (a .turn .challenges) (closeAsks a t k) .answer → Agrees p through its (closed a t k) (noted past (st .answer)))
+      answerIn (st .answer) ≡ meant p T (a .turn .challenges) (closeAsks a t k) .answer → Agrees p through its (closed a t k) (noted past (answerIn (st .answer))))
   close-agrees t Shut et ek op fit all e = absurd (true≢false (sym op))
   close-agrees next.Total Asked et ek op fit all e =
       let s : Pass = passAfter p R Asked (a .pass .point) (a .pass .items) in
-      let same = step-answer (a .start .plain) _ _ (answer.Total (s .total)) (answer.FieldTotal (s .dot)) refl refl in
+      let same = step-answer (a .start .plain) _ _ (answered (reply.total (s .total))) (answered (reply.fieldTotal (s .dot))) refl refl in
       subst (λ x. Agrees p through its (goesTo a (roundOrEnds 0 (a .start .rounds))) (noted past x)) (sym same)
       (total-agrees (a .start .plain) refl et (small-asked (a .turn .mode) next.Total fit) (s .total) (s .dot) (total-answer (a .start .plain) (s .total) (s .dot) _ (sym same ∙ e)))
   close-agrees next.Message Asked et ek op fit all e = small-message et (small-asked (a .turn .mode) next.Message fit) _ _ _ e
@@ -357,8 +359,8 @@ module _ (p : ℕ) (large : maxWeight < p) (through : Bool) (its : List Raw) (a 
       ∙ ap (λ o. cond o (long b) 0) w
 
   pub full-message : a .turn .next ≡ next.Message → isFull (a .turn .mode) ≡ true → AsLeft a l → (even cross odd : ℕ)
-      → answer.Message even cross odd ≡ reply p T (a .turn .challenges) (roundMessage (length (a .turn .challenges))) .answer
-      → Agrees p through its (withBuffers (goesTo a next.Challenge) l) (noted past (answer.Message even cross odd))
+      → answered (reply.message even cross odd) ≡ meant p T (a .turn .challenges) (roundMessage (length (a .turn .challenges))) .answer
+      → Agrees p through its (withBuffers (goesTo a next.Challenge) l) (noted past (answered (reply.message even cross odd)))
   full-message et f kept even cross odd e =
       let k = full-places a refl f (ap (waits next.Openings) et) in
       let lv : levelNow (a .start .rounds) (length (a .turn .challenges)) 0 (a .turn .next) ≡ length (a .turn .challenges) = ap (levelNow (a .start .rounds) (length (a .turn .challenges)) 0) et in
@@ -371,8 +373,8 @@ module _ (p : ℕ) (large : maxWeight < p) (through : Bool) (its : List Raw) (a 
         ends = λ w. absurd (true≢false (sym w));
       }
 
-  pub full-ends : a .turn .next ≡ next.Ends → isFull (a .turn .mode) ≡ true → (x y : ℕ) → answer.Ends x y ≡ reply p T (a .turn .challenges) ends .answer
-      → Agrees p through its (withBuffers (goesTo a next.Openings) l) (noted past (answer.Ends x y))
+  pub full-ends : a .turn .next ≡ next.Ends → isFull (a .turn .mode) ≡ true → (x y : ℕ) → answered (reply.ends x y) ≡ meant p T (a .turn .challenges) ends .answer
+      → Agrees p through its (withBuffers (goesTo a next.Openings) l) (noted past (answered (reply.ends x y)))
   full-ends et f x y e =
       let b : State = withBuffers (goesTo a next.Openings) l in
       let none = full-none b refl f refl in

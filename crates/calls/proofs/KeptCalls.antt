@@ -5,15 +5,16 @@ use mathlib.Core.Bool.{Bool, true}
 use lib.ListN.{length}
 use Rattle.vector.specs.Vector.{at}
 use Rattle.prover.specs.Records.{isFull}
-use Rattle.runs.specs.Trip.{Raw, reading, numbers, Trip, itemOf, vectorF, vectorG}
+use Rattle.item.specs.declared.Given.{Given}
+use Rattle.runs.specs.Trip.{Trip, itemOf, vectorF, vectorG}
 use Rattle.calls.specs.declared.Call.{Call}
 use Rattle.calls.specs.declared.Call.the-variants as call
 use Rattle.calls.specs.Step.{Lent}
 use Rattle.calls.specs.State.{State}
-use Rattle.calls.specs.Meaning.{AsLeft, bindsItem, handsIn, Kept}
+use Rattle.calls.specs.Meaning.{AsLeft, bindsItem, Kept}
 
 module _ (p : ℕ) (T : Trip) (through : Bool) (a : State) where
-  abbrev pub ItemKept : Raw → Lent → Type 0
+  abbrev pub ItemKept : Given → Lent → Type 0
   ItemKept x l = (x ≡ itemOf T (T .start .items - 1 - length (a .pass .items))) × (bindsItem through a ≡ true → AsLeft a l)
 
   abbrev pub KeptBy : Call → Lent → Type 0
@@ -21,8 +22,7 @@ module _ (p : ℕ) (T : Trip) (through : Bool) (a : State) where
   KeptBy (call.OpenAt b) l = Unit {0}
   KeptBy call.ToFull l = Unit {0}
   KeptBy call.ToSmall l = Unit {0}
-  KeptBy (call.Item r w) l = ItemKept (reading r w) l
-  KeptBy (call.FieldItem x y) l = ItemKept (numbers x y) l
+  KeptBy (call.Give x) l = ItemKept x l
   KeptBy call.Close l = Unit {0}
   KeptBy call.Message l = AsLeft a l
   KeptBy (call.Challenge c) l = isFull (a .turn .mode) ≡ true → AsLeft a l
@@ -30,15 +30,11 @@ module _ (p : ℕ) (T : Trip) (through : Bool) (a : State) where
   KeptBy (call.Opening b) l = (j : ℕ) → j < 2 ^ T .start .rounds → (at (l .f) j ≡ vectorF p T j) × (at (l .g) j ≡ vectorG p T j)
   KeptBy call.WriteProof l = Unit {0}
 
-  item-kept : (x : Raw) (l : Lent) → KeptBy (handsIn x) l → ItemKept x l
-  item-kept (reading r w) l h = h
-  item-kept (numbers x y) l h = h
-
   pub by-kept : (c : Call) (l : Lent) → KeptBy c l → Kept p T through a c l
   by-kept c l h =
       record {
-        item = λ x e. item-kept x l (subst (λ c. KeptBy c l) e h) .0;
-        change = λ x e. item-kept x l (subst (λ c. KeptBy c l) e h) .1;
+        item = λ x e. subst (λ c. KeptBy c l) e h .0;
+        change = λ x e. subst (λ c. KeptBy c l) e h .1;
         message = λ e. subst (λ c. KeptBy c l) e h;
         challenge = λ x e. subst (λ c. KeptBy c l) e h;
         ends = λ e. subst (λ c. KeptBy c l) e h;
@@ -50,8 +46,7 @@ module _ (p : ℕ) (T : Trip) (through : Bool) (a : State) where
   kept-by (call.OpenAt b) l h = tt
   kept-by call.ToFull l h = tt
   kept-by call.ToSmall l h = tt
-  kept-by (call.Item r w) l h = (h .item (reading r w) refl, h .change (reading r w) refl)
-  kept-by (call.FieldItem x y) l h = (h .item (numbers x y) refl, h .change (numbers x y) refl)
+  kept-by (call.Give x) l h = (h .item x refl, h .change x refl)
   kept-by call.Close l h = tt
   kept-by call.Message l h = h .message refl
   kept-by (call.Challenge c) l h = h .challenge c refl

@@ -8,7 +8,8 @@ use lib.IntN.{pos, negsuc}
 use lib.ListN.{replicate}
 use Rattle.field.specs.Total.{inLimits}
 use Rattle.vector.specs.Rounds.{powers, firstFrom}
-use Rattle.runs.specs.Trip.{reading, Trip, itemOf, sumOf}
+use Rattle.item.specs.declared.Given.the-variants.{Reading}
+use Rattle.runs.specs.Trip.{Trip, itemOf, sumOf}
 use Rattle.calls.specs.Step.{Lent}
 use Rattle.calls.specs.World.{freshWorld}
 use Rattle.calls.specs.Proper.{ItemFits, Valid, AllNonzero, Brings, properRun}
@@ -22,7 +23,7 @@ abbrev trip : Trip
 trip =
     record {
       start = record { items = 3; rounds = 2; plain = true; twists = replicate 15 0 };
-      items = reading (negsuc 179) 10 ∷ reading (negsuc 174) 20 ∷ reading (pos 40) 5 ∷ [];
+      items = Reading (negsuc 179) 10 ∷ Reading (negsuc 174) 20 ∷ Reading (pos 40) 5 ∷ [];
     }
 
 valid : Valid P trip

@@ -18,7 +18,9 @@ use Rattle.prover.specs.declared.Kind.{Kind}
 use Rattle.prover.specs.declared.Kind.the-variants.{Shut, Asked, Change}
 use Rattle.prover.specs.Order.{roundOrEnds}
 use Rattle.prover.specs.Records.{isChange, isOpen, isSmall}
-use Rattle.runs.specs.Trip.{Raw, reading, numbers, Trip, itemOf, sumOf}
+use Rattle.item.specs.declared.Given.{Given}
+use Rattle.item.specs.declared.Given.the-variants.{Reading, Numbers}
+use Rattle.runs.specs.Trip.{Trip, itemOf, sumOf}
 use Rattle.runs.specs.Buffers.{Written}
 use Rattle.runs.proofs.PassTrip.{gives-all}
 use Rattle.calls.specs.declared.Call.{Call}
@@ -26,12 +28,13 @@ use Rattle.calls.specs.declared.Call.the-variants as call
 use Rattle.calls.specs.Step.{Lent}
 use Rattle.calls.specs.State.{State, inPass, buffersIn, closed, goesOn}
 use Rattle.calls.specs.Table.{waits, passNext, openingsNext, changeNext, bothLong, totalFits}
-use Rattle.calls.specs.Meaning.{itemWrites, handsIn}
+use Rattle.calls.specs.Meaning.{itemWrites}
+use Rattle.calls.specs.Statement.{Sized}
 use Rattle.calls.specs.Proper.{ItemFits, Valid, itemsBelow, wholePass, Host, hostOn}
 use Rattle.calls.proofs.Agrees.{tripAt}
 use Rattle.calls.proofs.KeptCalls.{ItemKept}
 use Rattle.calls.proofs.LiveStep.{small-sized, other-sized}
-use Rattle.calls.proofs.LiveTable.{open-free, open-at-free, to-full-free, item-free, field-item-free, close-free}
+use Rattle.calls.proofs.LiveTable.{open-free, open-at-free, to-full-free, item-free, close-free}
 use Rattle.calls.proofs.LiveWorld.{still, made, Lives, SameBuffers, buffers-so, Standing, MovedBy, call-lives, stands, fits-long}
 
 -- an item's place, in a change pass, is noted in the state
@@ -86,7 +89,7 @@ module _ (p : ℕ) (large : maxWeight < p) (through : Bool) (T : Trip) (due : Ty
     abbrev a : State
     a = w .world .state
 
-    kept-item : (x : Raw) → x ≡ itemOf T (L - 1 - q) → ItemKept p T through a x (w .lent)
+    kept-item : (x : Given) → x ≡ itemOf T (L - 1 - q) → ItemKept p T through a x (w .lent)
     kept-item x e = (e ∙ ap (λ q. itemOf T (L - 1 - q)) (sym (st .taken)), λ y j h. st .left refl j)
 
     more-so : length (a .pass .items) < a .start .items
@@ -96,10 +99,10 @@ module _ (p : ℕ) (large : maxWeight < p) (through : Bool) (T : Trip) (due : Ty
     fits-change y = fits-long p large through T due valid Small t i k q w st (w .lent) (st .room (may (ap isChange (sym (st .kind)) ∙ y)))
 
     -- after it
-    abbrev taking : Raw → State
+    abbrev taking : Given → State
     taking x = inPass a (a .pass .kind) (a .pass .point) (x ∷ a .pass .items)
 
-    stands-item : (x : Raw) (c : Call) → MovedBy p large through T due valid Small t i k q w st c
+    stands-item : (x : Given) (c : Call) → MovedBy p large through T due valid Small t i k q w st c
         → goesOn a c (made p T w c .lent) ≡ buffersIn (isChange (a .pass .kind)) (taking x) (made p T w c .lent)
         → SameBuffers (made p T w c .lent) (buffersIn (isChange (a .pass .kind)) (taking x) (made p T w c .lent))
         → Stands Small t i k (suc q) (hostOn p T w c)
@@ -111,25 +114,19 @@ module _ (p : ℕ) (large : maxWeight < p) (through : Bool) (T : Trip) (due : Ty
         (ap (λ d. d .mode) turn ∙ st .mode) (ap (λ d. d .next) turn ∙ st .next) (ap (λ d. length (d .challenges)) turn ∙ st .round)
         (ap (λ d. d .kind) pass ∙ st .kind) (ap (λ d. length (d .items)) pass ∙ ap suc (st .taken)) (λ y. subst (SameBuffers (made p T w c .lent)) (sym e) left)
 
-    item-lives : (x : Raw) → ItemFits p (T .start .plain) x → x ≡ itemOf T (L - 1 - q) → (cs : List Call)
-        → ((w : Host) → Stands Small t i k (suc q) w → Lives p T through w cs) → Lives p T through w (handsIn x ∷ cs)
-    item-lives (reading r m) fits e cs on =
-        let c : Call = call.Item r m in
-        let plain : a .start .plain ≡ true = ap (λ s. s .plain) (st .going .start) ∙ fits .0 in
-        let free = item-free p a (w .lent) r m (ap isOpen (st .kind) ∙ op) more-so plain (fits .2) fits-change in
-        let kept = kept-item (reading r m) e in
-        let sized = small-sized c (fits .1) in
-        call-lives p large through T due valid Small t i k q w st c sized false refl free kept cs
-        (λ v o. on _ (stands-item (reading r m) c v refl
-        (item-left a (taking (reading r m)) (w .lent) (made p T w c .lent) _ _ (a .pass .kind) refl refl (o .f) (o .g) (st .left refl))))
-    item-lives (numbers x y) fits e cs on =
-        let c : Call = call.FieldItem x y in
-        let twisted : a .start .plain ≡ false = ap (λ s. s .plain) (st .going .start) ∙ fits .0 in
-        let free = field-item-free p a (w .lent) x y (ap isOpen (st .kind) ∙ op) more-so twisted (fits .1) (fits .2) fits-change in
-        let kept = kept-item (numbers x y) e in
-        call-lives p large through T due valid Small t i k q w st c (other-sized _ refl) false refl free kept cs
-        (λ v r. on _ (stands-item (numbers x y) c v refl
-        (item-left a (taking (numbers x y)) (w .lent) (made p T w c .lent) _ _ (a .pass .kind) refl refl (r .f) (r .g) (st .left refl))))
+    item-sized : (x : Given) → ItemFits p (T .start .plain) x → Sized (call.Give x)
+    item-sized (Reading r m) fits = small-sized (call.Give (Reading r m)) (fits .1)
+    item-sized (Numbers x y) fits = other-sized (call.Give (Numbers x y)) refl
+
+    item-lives : (x : Given) → ItemFits p (T .start .plain) x → x ≡ itemOf T (L - 1 - q) → (cs : List Call)
+        → ((w : Host) → Stands Small t i k (suc q) w → Lives p T through w cs) → Lives p T through w (call.Give x ∷ cs)
+    item-lives x fits e cs on =
+        let c : Call = call.Give x in
+        let own : ItemFits p (a .start .plain) x = subst (λ s. ItemFits p (s .plain) x) (sym (st .going .start)) fits in
+        let free = item-free p a (w .lent) x (ap isOpen (st .kind) ∙ op) more-so own fits-change in
+        call-lives p large through T due valid Small t i k q w st c (item-sized x fits) false refl free (kept-item x e) cs
+        (λ v o. on _ (stands-item x c v refl
+        (item-left a (taking x) (w .lent) (made p T w c .lent) _ _ (a .pass .kind) refl refl (o .f) (o .g) (st .left refl))))
 
   items-live : (t : Next) (i : ℕ) (k : Kind) → isOpen k ≡ true → (isChange k ≡ true → due) → (rest q : ℕ) → q + rest ≡ L → (w : Host) → Stands Small t i k q w
       → (cs : List Call) → ((w : Host) → Stands Small t i k L w → Lives p T through w cs) → Lives p T through w (itemsBelow T rest ++ cs)

@@ -12,6 +12,7 @@ use Rattle.calls.specs.declared.Call.{Call}
 use Rattle.calls.specs.declared.Call.the-variants as call
 use Rattle.calls.specs.Step.{isAnswered}
 use Rattle.calls.specs.State.{goesOn, follow}
+use Rattle.item.specs.declared.Given.the-variants.{Reading, Numbers}
 use Rattle.calls.specs.World.{Made, World, came, onward}
 use Rattle.calls.specs.Table.{table}
 use Rattle.calls.specs.Meaning.{Kept}
@@ -26,8 +27,8 @@ sizeOf call.OpenPass = 0
 sizeOf (call.OpenAt b) = 0
 sizeOf call.ToFull = 0
 sizeOf call.ToSmall = 0
-sizeOf (call.Item r w) = natAbs r
-sizeOf (call.FieldItem x y) = 0
+sizeOf (call.Give (Reading r w)) = natAbs r
+sizeOf (call.Give (Numbers x y)) = 0
 sizeOf call.Close = 0
 sizeOf call.Message = 0
 sizeOf (call.Challenge c) = 0

@@ -2,8 +2,7 @@
 use mathlib.Core.Path.{_≡_, refl, sym, ap, ap₂, subst}
 use mathlib.Core.Bool.{Bool, true, false, cond, not, _&&_, _||_}
 use mathlib.Core.Option.{Option, none}
-use Prim.Native.Nat.{ℕ, _+_, _*_, _<_, _≤_}
-use lib.IntN.{ℤ}
+use Prim.Native.Nat.{ℕ, _-_, _<_, _≤_}
 use lib.ListN.{length}
 use borrow.Author.Tests.{le-leb, lt-ltb, eq-eqb}
 use Rattle.refusal.specs.Limit.{maxWeight}
@@ -18,7 +17,10 @@ use Rattle.calls.specs.declared.Call.{Call}
 use Rattle.calls.specs.declared.Call.the-variants as call
 use Rattle.calls.specs.Step.{Lent, isAnswered, step}
 use Rattle.calls.specs.State.{State}
-use Rattle.calls.specs.Table.{Refusal, row, rowAt, waits, passNext, openingsNext, changeNext, long, bothLong, readRows, itemRows, placeRow, totalFits, table}
+use Rattle.item.specs.declared.Given.{Given}
+use Rattle.item.specs.declared.Given.the-variants.{Reading, Numbers}
+use Rattle.calls.specs.Proper.{ItemFits}
+use Rattle.calls.specs.Table.{Refusal, row, rowAt, waits, passNext, openingsNext, changeNext, long, bothLong, readRows, givenRows, placeRow, totalFits, fileSize, table}
 use Rattle.calls.specs.Statement.{Sized, Decides}
 use Rattle.calls.proofs.Records.{Notes}
 use Rattle.calls.proofs.Refusals.{Inv, decide-step}
@@ -59,20 +61,15 @@ module _ (p : ℕ) (a : State) (l : Lent) where
       by true h = h refl
       by false h = refl
 
-  items-free : (kind : Bool) (rest : Option Refusal) → isOpen (a .pass .kind) ≡ true → length (a .pass .items) < a .start .items → kind ≡ true → rest ≡ none
-      → itemRows a kind rest ≡ none
-  items-free kind rest op more k r = row-free _ 10 _ op (row-free _ 8 _ (lt-ltb _ _ more) (row-free _ 10 rest k r))
+  own-free : (x : Given) → ItemFits p (a .start .plain) x → placeRow a l ≡ none
+      → givenRows p (a .start) (a .start .items - 1 - length (a .pass .items)) x (placeRow a l) ≡ none
+  own-free (Reading r w) fits place = row-free _ 10 _ (fits .0) (row-at-free _ 5 _ _ (le-leb w maxWeight (fits .2)) place)
+  own-free (Numbers x y) fits place = row-free _ 10 _ (ap not (fits .0)) (row-free _ 16 _ (ap₂ _&&_ (lt-ltb x p (fits .1)) (lt-ltb y p (fits .2))) place)
 
-  pub item-free : (r : ℤ) (w : ℕ) → isOpen (a .pass .kind) ≡ true → length (a .pass .items) < a .start .items → a .start .plain ≡ true → w ≤ maxWeight
-      → (isChange (a .pass .kind) ≡ true → bothLong a l ≡ true) → table p a (call.Item r w) l ≡ none
+  pub item-free : (x : Given) → isOpen (a .pass .kind) ≡ true → length (a .pass .items) < a .start .items → ItemFits p (a .start .plain) x
+      → (isChange (a .pass .kind) ≡ true → bothLong a l ≡ true) → table p a (call.Give x) l ≡ none
   unfolding table
-  item-free r w op more plain fits long = items-free _ _ op more plain (row-at-free _ 5 _ _ (le-leb w maxWeight fits) (place-free long))
-
-  pub field-item-free : (x y : ℕ) → isOpen (a .pass .kind) ≡ true → length (a .pass .items) < a .start .items → a .start .plain ≡ false → x < p → y < p
-      → (isChange (a .pass .kind) ≡ true → bothLong a l ≡ true) → table p a (call.FieldItem x y) l ≡ none
-  unfolding table
-  field-item-free x y op more twisted f g long =
-      items-free _ _ op more (ap not twisted) (row-free _ 16 _ (ap₂ _&&_ (lt-ltb x p f) (lt-ltb y p g)) (place-free long))
+  item-free x op more fits long = row-free _ 10 _ op (row-free _ 8 _ (lt-ltb _ _ more) (own-free x fits (place-free long)))
 
   pub close-free : isOpen (a .pass .kind) ≡ true → length (a .pass .items) ≡ a .start .items → totalFits p a ≡ true → table p a call.Close l ≡ none
   unfolding table
@@ -100,7 +97,7 @@ module _ (p : ℕ) (a : State) (l : Lent) where
   unfolding table
   opening-free b full turn ok reads = row-free _ 10 _ (ap₂ _&&_ full turn) (row-free _ 6 _ ok reads)
 
-  pub write-free : a .start .plain ≡ true → waits next.Openings (a .turn .next) ≡ true → 18 + 12 * a .start .rounds ≤ length (l .file) → table p a call.WriteProof l ≡ none
+  pub write-free : a .start .plain ≡ true → waits next.Openings (a .turn .next) ≡ true → fileSize (a .start .rounds) ≤ length (l .file) → table p a call.WriteProof l ≡ none
   unfolding table
   write-free plain turn long = row-free _ 10 _ (ap₂ _&&_ plain turn) (row-free _ 9 none (le-leb _ _ long) refl)
 

@@ -22,6 +22,8 @@ use Rattle.prover.specs.declared.Run.{Run}
 use Rattle.prover.specs.declared.Pass.{Pass}
 use Rattle.prover.specs.declared.Step.{Step}
 use Rattle.prover.specs.declared.Answer.the-variants as answer
+use Rattle.prover.specs.Reply.{answerIn}
+use Rattle.prover.specs.Reply as reply
 use Rattle.prover.specs.Records.{Out, noValues, answeredStep, kernelOf, isFull, isOpen}
 use Rattle.prover.specs.Order.{isTotal, isOpenings, levelOf, roundOrEnds}
 use Rattle.prover.specs.WellFormed.{roundFits, kindFits}
@@ -33,7 +35,8 @@ use Rattle.prover.specs.Written.{proofOf}
 use Rattle.prover.proofs.FullLaws as full
 use Rattle.prover.proofs.FullLaws.{message-law, ends-law}
 use Rattle.prover.proofs.OpeningLaws.{opening-law}
-use Rattle.runs.specs.Trip.{Raw, Trip, vectorF, vectorG, totalOf}
+use Rattle.item.specs.declared.Given.{Given}
+use Rattle.runs.specs.Trip.{Trip, vectorF, vectorG, totalOf}
 use Rattle.runs.specs.Passes.{passAfter, Gives}
 use Rattle.runs.proofs.PassRecord.{after-kind, after-points}
 use Rattle.runs.proofs.PassTrip.{after-dot, after-sum}
@@ -42,7 +45,7 @@ use Rattle.calls.specs.declared.Call.the-variants as call
 use Rattle.calls.specs.Step.{Lent}
 use Rattle.calls.specs.State.{State}
 use Rattle.calls.specs.Table.{decided, waits, long, bothLong, readRows, table}
-use Rattle.calls.specs.Meaning.{Reply, reply, roundMessage, ends, openingAt, closeAsks, foldF, foldG, messagesTo, proofOfTrip}
+use Rattle.calls.specs.Meaning.{Answer, meant, roundMessage, ends, openingAt, closeAsks, foldF, foldG, messagesTo, proofOfTrip}
 use Rattle.calls.proofs.Records.{Notes, runOf, passOf}
 use Rattle.calls.proofs.Arrays.{array-take}
 use Rattle.calls.proofs.Guards.{level-now, fold-long, message-decided, ends-decided, opening-decided}
@@ -69,13 +72,13 @@ same-out : {s t : Out} → answered s ≡ answered t → s ≡ t
 same-out {s} {t} e = ap (outIn s) e
 
 -- an answer with its values
-abbrev pub replied : Step → Reply
-replied s = record { answer = s .answer; values = s .values }
+abbrev pub replied : Step → Answer
+replied s = record { answer = answerIn (s .answer); values = s .values }
 
-abbrev pub repliedOut : Out → Reply
+abbrev pub repliedOut : Out → Answer
 repliedOut o = record { answer = o .answer; values = o .values }
 
-module _ (p : ℕ) (large : maxWeight < p) (through : Bool) (its : List Raw) (a : State) {past : Notes} (h : Fits p a past) where
+module _ (p : ℕ) (large : maxWeight < p) (through : Bool) (its : List Given) (a : State) {past : Notes} (h : Fits p a past) where
   abbrev T : Trip
   T = tripAt its a
 
@@ -95,13 +98,13 @@ module _ (p : ℕ) (large : maxWeight < p) (through : Bool) (its : List Raw) (a 
 
     total-meant : (plain : Bool) → a .turn .next ≡ next.Total
         → replied (cond plain (answeredStep (withTotal R (S Asked .total)) shutPass (answer.Total (S Asked .total)))
-        (answeredStep (goneTo R (roundOrEnds 0 (R .rounds))) shutPass (answer.FieldTotal (S Asked .dot))))
-        ≡ record { answer = cond plain (answer.Total (totalOf T)) (answer.FieldTotal (dot p (2 ^ n) (vectorF p T) (vectorG p T))); values = noValues }
+        (answeredStep (goneTo R (roundOrEnds 0 (R .start .rounds))) shutPass (answer.FieldTotal (S Asked .dot))))
+        ≡ record { answer = answered (cond plain (reply.total (totalOf T)) (reply.fieldTotal (dot p (2 ^ n) (vectorF p T) (vectorG p T)))); values = noValues }
     total-meant true e =
-        ap (λ z. record { answer = answer.Total z; values = noValues })
+        ap (λ z. record { answer = answered (reply.total z); values = noValues })
         (after-sum p R Asked (a .pass .point) (a .pass .items) (run-formed p a h) (ap isTotal e) (h .pass .within) all T refl gives whole)
     total-meant false e =
-        ap (λ z. record { answer = answer.FieldTotal z; values = noValues })
+        ap (λ z. record { answer = answered (reply.fieldTotal z); values = noValues })
         (after-dot p R Asked (a .pass .point) (a .pass .items) (run-formed p a h) (ap isTotal e) all T refl gives)
 
     taken-whole : a .pass .kind ≡ Asked → isTotal (a .turn .next) ≡ false
@@ -115,7 +118,7 @@ module _ (p : ℕ) (large : maxWeight < p) (through : Bool) (its : List Raw) (a 
     opening-points et = after-points p R Asked (a .pass .point) (a .pass .items) ∙ ap (λ t. cond (isOpenings t) (newPass Asked (pointsOf p (a .pass .point)) (paddedKernel R)) (newPass Asked noPoints (openKernel R)) .points) et
 
     pub close-meant : (t : Next) (k : Kind) → a .turn .next ≡ t → a .pass .kind ≡ k → isOpen k ≡ true → kindFits k (a .turn .mode) t ≡ true
-        → replied (closeStep R (S k) t k) ≡ reply p T (a .turn .challenges) (closeAsks a t k)
+        → replied (closeStep R (S k) t k) ≡ meant p T (a .turn .challenges) (closeAsks a t k)
     close-meant t Shut et ek op fit = absurd (true≢false (sym op))
     close-meant next.Total Asked et ek op fit = total-meant (a .start .plain) et
     close-meant next.Message Asked et ek op fit =
@@ -156,7 +159,7 @@ module _ (p : ℕ) (large : maxWeight < p) (through : Bool) (its : List Raw) (a 
         rw (fold-long p a past (few p a h), q .0, q .1)
 
     pub message-meant : table p a call.Message l ≡ none → a .turn .next ≡ next.Message → isFull (a .turn .mode) ≡ true
-        → repliedOut (messageGiven p R (passOf p a past) (l .f) (l .g)) ≡ reply p T (a .turn .challenges) (roundMessage (length (a .turn .challenges)))
+        → repliedOut (messageGiven p R (passOf p a past) (l .f) (l .g)) ≡ meant p T (a .turn .challenges) (roundMessage (length (a .turn .challenges)))
     message-meant e et f =
         let turn : messageTurn p R (passOf p a past) ≡ true = rw (formed p a h, f, et) in
         let law = message-law p cs (vectorF p T) (vectorG p T) R (passOf p a past) (l .f) (l .g) lent-full reduced turn in
@@ -164,7 +167,7 @@ module _ (p : ℕ) (large : maxWeight < p) (through : Bool) (its : List Raw) (a 
         ap repliedOut (same-out (sym here ∙ law))
 
     pub ends-meant : table p a call.Ends l ≡ none → a .turn .next ≡ next.Ends → isFull (a .turn .mode) ≡ true
-        → repliedOut (endsGiven R (passOf p a past) (l .f) (l .g)) ≡ reply p T (a .turn .challenges) ends
+        → repliedOut (endsGiven R (passOf p a past) (l .f) (l .g)) ≡ meant p T (a .turn .challenges) ends
     ends-meant e et f =
         let turn : endsTurn p R (passOf p a past) ≡ true = rw (formed p a h, f, et) in
         let law = ends-law p cs (vectorF p T) (vectorG p T) R (passOf p a past) (l .f) (l .g) lent-full reduced turn in
@@ -173,7 +176,7 @@ module _ (p : ℕ) (large : maxWeight < p) (through : Bool) (its : List Raw) (a 
 
     pub opening-meant : (b : ℕ) → table p a (call.Opening b) l ≡ none → openingTurn p R (passOf p a past) ≡ true → isNonzero p b ≡ true
         → ((j : ℕ) → j < n → at (R .challenges) j ≡ cs j)
-        → repliedOut (openingGiven p R (passOf p a past) b (l .f) (l .g)) ≡ reply p T (a .turn .challenges) (openingAt b)
+        → repliedOut (openingGiven p R (passOf p a past) b (l .f) (l .g)) ≡ meant p T (a .turn .challenges) (openingAt b)
     opening-meant b e turn ok agree =
         let law = opening-law p cs (vectorF p T) (vectorG p T) R (passOf p a past) (l .f) (l .g) lent-full reduced agree b turn ok in
         let here = opening-decided p a past (few p a h) (passOf p a past) (formed p a h) b l ∙ ap (λ t. decided t (answered (openingGiven p R (passOf p a past) b (l .f) (l .g)))) e in

@@ -5,10 +5,10 @@ use mathlib.Core.List.{List, [], _∷_}
 use mathlib.Core.Option.{Option, none, some}
 use Prim.Native.Nat.{ℕ}
 use Rattle.verifier.specs.declared.Verifier.{Verifier}
-use Rattle.runs.specs.Trip.{Start}
+use Rattle.item.specs.declared.Start.{Start}
 use Rattle.calls.specs.declared.query.Query.{Query}
 use Rattle.calls.specs.declared.query.Heard.{Heard}
-use Rattle.calls.specs.QueryStep.{Shown, ask, isTold}
+use Rattle.calls.specs.QueryStep.{Shown, ask}
 use Rattle.calls.specs.QueryState.{VerifierState, hears, followHeard, verifierTable, Posed, Hearing, freshHearing, hearsOn, refusedTold, DecidesHeard}
 use Rattle.calls.specs.Lists.{along}
 use Rattle.calls.specs.Starts.{Startable}
@@ -18,17 +18,17 @@ use Rattle.calls.proofs.QueryStands.{Stands, fresh-stands}
 use Rattle.calls.proofs.QuerySteps.{answers, settledHeard, asks, answers-told}
 use Rattle.calls.proofs.QueryKeeps.{stands-after}
 
-refused-told : (k : ℕ) (i : Option ℕ) → isTold (refusedTold k i) ≡ false
+refused-told : (k : ℕ) (i : Option ℕ) → isAnswered (refusedTold k i) ≡ false
 refused-told k none = refl
 refused-told k (some i) = refl
 
 module _ (p : ℕ) (a : VerifierState) (v : Verifier) (c : Query) where
-  decides : (t : Option Refusal) (o x : Heard) → x ≡ settledHeard v t o → isTold (o .told) ≡ true → DecidesHeard v t x
-  decides none o x e told = ap (λ (h : Heard). isTold (h .told)) e ∙ told
+  decides : (t : Option Refusal) (o x : Heard) → x ≡ settledHeard v t o → isAnswered (o .told) ≡ true → DecidesHeard v t x
+  decides none o x e told = ap (λ (h : Heard). isAnswered (h .told)) e ∙ told
   decides (some k) o x e told = e
 
   -- what holds of the state and the verifier after a call
-  pub follows : (P : VerifierState → Verifier → Type 0) (t : Option Refusal) (o x : Heard) → x ≡ settledHeard v t o → isTold (o .told) ≡ true
+  pub follows : (P : VerifierState → Verifier → Type 0) (t : Option Refusal) (o x : Heard) → x ≡ settledHeard v t o → isAnswered (o .told) ≡ true
       → P a v → (t ≡ none → P (hears a c (o .told)) (o .verifier)) → P (followHeard a c x) (x .verifier)
   follows P none o x e told before after =
       subst (λ (h : Heard). P (followHeard a c h) (h .verifier)) (sym e)

@@ -25,7 +25,7 @@ use Rattle.calls.specs.declared.query.Query.{Query}
 use Rattle.calls.specs.declared.query.Query.the-variants as query
 use Rattle.calls.specs.declared.query.Told.the-variants as told
 use Rattle.calls.specs.declared.query.Heard.{Heard}
-use Rattle.calls.specs.QueryStep.{Shown, toldOf, toldVerdict, ask, isTold}
+use Rattle.calls.specs.QueryStep.{Shown, toldOf, toldVerdict, ask}
 use Rattle.calls.specs.Lists.{after}
 use Rattle.calls.specs.QueryState.{Posed}
 use Rattle.calls.proofs.QueryStands.{spoken, verdict-closed}
@@ -71,24 +71,24 @@ module _ (p : ℕ) where
       ap (λ w. ask p w query.Verdict l) (after-same v (a .0) (b .0) ms) ∙ ap (λ o. record { verifier = v; told = toldVerdict o }) e
 
   -- A VERDICT IS GIVEN AGAIN
-  pub verdict-again : (v : Verifier) (l : Shown) → isTold (ask p v query.Verdict l .told) ≡ true → (ms : List Posed) (m : Shown)
+  pub verdict-again : (v : Verifier) (l : Shown) → isAnswered (ask p v query.Verdict l .told) ≡ true → (ms : List Posed) (m : Shown)
       → ask p (afterPosed v ms) query.Verdict m ≡ ask p v query.Verdict l
   unfolding ask
   verdict-again v l h ms m = by (verdict p v) refl h
     where
-      by : (o : Outcome Finding) → verdict p v ≡ o → isTold (toldVerdict o) ≡ true
+      by : (o : Outcome Finding) → verdict p v ≡ o → isAnswered (toldVerdict o) ≡ true
           → ask p (afterPosed v ms) query.Verdict m ≡ record { verifier = v; told = toldVerdict o }
       by (answered f) e h = again v f e ms m
       by (refused k) e h = absurd (true≢false (sym h))
       by (refusedAt k i) e h = absurd (true≢false (sym h))
 
   -- that of a proof file too
-  pub file-verdict-again : (v : Verifier) (l : Shown) → isTold (ask p v query.Proof l .told) ≡ true → (ms : List Posed) (m : Shown)
+  pub file-verdict-again : (v : Verifier) (l : Shown) → isAnswered (ask p v query.Proof l .told) ≡ true → (ms : List Posed) (m : Shown)
       → ask p (afterPosed (ask p v query.Proof l .verifier) ms) query.Verdict m ≡ ask p v query.Proof l
   unfolding ask
   file-verdict-again v l h ms m = by (proof p v (l .file)) refl h
     where
-      by : (o : Outcome Judgement) → proof p v (l .file) ≡ o → isTold (toldVerdict (leavesJudged v o .1)) ≡ true
+      by : (o : Outcome Judgement) → proof p v (l .file) ≡ o → isAnswered (toldVerdict (leavesJudged v o .1)) ≡ true
           → ask p (afterPosed (leavesJudged v o .0) ms) query.Verdict m
           ≡ record { verifier = leavesJudged v o .0; told = toldVerdict (leavesJudged v o .1) }
       by (answered j) e h = again (j .verifier) (j .finding) (given-again p v (l .file) (proof-answered p v (l .file) e)) ms m

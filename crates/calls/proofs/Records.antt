@@ -5,13 +5,14 @@ use mathlib.Core.List.{List, [], _∷_, _++_}
 use mathlib.Core.Option.{Option, none, some}
 use lib.IntN.{ℤ, pos}
 use lib.ListN.{length, replicate}
+use Rattle.refusal.specs.Outcome.{Outcome, answered, refused, refusedAt}
 use Rattle.prover.specs.declared.Run.{Run}
 use Rattle.prover.specs.declared.Pass.{Pass}
-use Rattle.prover.specs.declared.Answer.{Answer}
-use Rattle.prover.specs.declared.Answer.the-variants as answer
+use Rattle.prover.specs.Reply.{Reply}
+use Rattle.prover.specs.Reply as reply
 use Rattle.runs.specs.Passes.{passAfter}
 use Rattle.calls.specs.State.{State}
-use Rattle.calls.specs.Statement.{refusedWith}
+use Rattle.calls.specs.Table.{refusedWith}
 
 -- what was answered: the plain total, the numbers of the messages in order, the end values
 pub record Notes : Type 0 where
@@ -23,21 +24,24 @@ pub record Notes : Type 0 where
 abbrev pub noNotes : Notes
 noNotes = record { total = pos 0; messages = []; fend = 0; gend = 0 }
 
-abbrev pub noted : Notes → Answer → Notes
-noted past answer.Started = past
-noted past answer.Opened = past
-noted past answer.Taken = past
-noted past (answer.Total t) = record { total = t; messages = past .messages; fend = past .fend; gend = past .gend }
-noted past (answer.FieldTotal t) = past
-noted past (answer.Message even cross odd) =
+abbrev pub notes : Notes → Reply → Notes
+notes past reply.started = past
+notes past reply.opened = past
+notes past reply.taken = past
+notes past (reply.total t) = record { total = t; messages = past .messages; fend = past .fend; gend = past .gend }
+notes past (reply.fieldTotal t) = past
+notes past (reply.message even cross odd) =
     record { total = past .total; messages = past .messages ++ even ∷ cross ∷ odd ∷ []; fend = past .fend; gend = past .gend }
-noted past answer.Challenged = past
-noted past (answer.Ends f g) = record { total = past .total; messages = past .messages; fend = f; gend = g }
-noted past answer.Opening = past
-noted past answer.Changed = past
-noted past (answer.Written size) = past
-noted past (answer.Refused k) = past
-noted past (answer.RefusedAt k i) = past
+notes past reply.challenged = past
+notes past (reply.ends f g) = record { total = past .total; messages = past .messages; fend = f; gend = g }
+notes past reply.opening = past
+notes past reply.changed = past
+notes past (reply.written size) = past
+
+abbrev pub noted : Notes → Outcome Reply → Notes
+noted past (answered x) = notes past x
+noted past (refused k) = past
+noted past (refusedAt k i) = past
 
 pub refusal-noted : (past : Notes) (k : ℕ) (i : Option ℕ) → noted past (refusedWith k i) ≡ past
 refusal-noted past k none = refl
@@ -50,13 +54,10 @@ inArray size xs = xs ++ replicate (size - length xs) 0
 abbrev pub runOf : State → Notes → Run
 runOf a past =
     record {
-      items = a .start .items;
-      rounds = a .start .rounds;
-      plain = a .start .plain;
+      start = a .start;
       mode = a .turn .mode;
       next = a .turn .next;
       round = length (a .turn .challenges);
-      twists = a .start .twists;
       challenges = inArray 15 (a .turn .challenges);
       messages = inArray 45 (past .messages);
       total = past .total;

@@ -9,6 +9,7 @@ use native.Mathlib.Omega.{arith}
 use lib.ListN.{length}
 use borrow.Author.Tests.{le-leb}
 use Rattle.refusal.specs.Limit.{maxWeight}
+use Rattle.refusal.specs.Outcome.{answered}
 use Rattle.field.specs.Total.{limit, inLimits}
 use Rattle.vector.specs.declared.kernel.Kernel.{Kernel}
 use Rattle.vector.proofs.StackCount.{ones-at-most}
@@ -22,13 +23,16 @@ use Rattle.prover.specs.declared.Kind.the-variants.{Shut, Asked, Change}
 use Rattle.prover.specs.declared.Run.{Run}
 use Rattle.prover.specs.declared.Pass.{Pass}
 use Rattle.prover.specs.declared.Answer.the-variants as answer
+use Rattle.prover.specs.Reply as reply
+use Rattle.prover.specs.Reply.{answerIn}
 use Rattle.prover.specs.Records.{kernelOf, answeredStep}
 use Rattle.prover.specs.Order.{isTotal, levelAt, levelOf, padding, roundOrEnds}
 use Rattle.prover.specs.Close.{withTotal, goneTo, shutPass}
 use Rattle.prover.specs.Full.{messageGiven}
 use Rattle.prover.specs.Opening.{openingGiven}
 use Rattle.prover.specs.Challenge.{challengedFull}
-use Rattle.runs.specs.Trip.{reading, numbers, partsIn, Start}
+use Rattle.item.specs.declared.Start.{Start}
+use Rattle.item.specs.Item.{contributes}
 use Rattle.runs.specs.Passes.{passAfter}
 use Rattle.runs.proofs.RunFacts.{bounds}
 use Rattle.runs.proofs.PassRecord.{takes-answer}
@@ -37,8 +41,8 @@ use Rattle.calls.specs.declared.Call.{Call}
 use Rattle.calls.specs.declared.Call.the-variants as call
 use Rattle.calls.specs.Step.{Lent, Result, isAnswered, step}
 use Rattle.calls.specs.State.{State, goesOn, follow}
-use Rattle.calls.specs.Table.{Refusal, levelNow, passLevel, taken, table}
-use Rattle.calls.specs.Statement.{Sized, refusedWith, Decides, Counted, CountsHold}
+use Rattle.calls.specs.Table.{Refusal, refusedWith, levelNow, passLevel, taken, table}
+use Rattle.calls.specs.Statement.{Sized, Decides, Counted, CountsHold}
 use Rattle.calls.specs.World.{Made, World, freshWorld, came, onward}
 use Rattle.calls.specs.Lists.{along, always}
 use Rattle.calls.specs.Demand3.{AllSized, AllDecided}
@@ -47,13 +51,13 @@ use Rattle.calls.proofs.Records.{Notes, noNotes, noted, refusal-noted, 
 use Rattle.calls.proofs.Guards.{challengeDoes, totals}
 use Rattle.calls.proofs.Steps.{some-none, closeStep, does, refusedResult, settled, steps}
 use Rattle.calls.proofs.Fits.{Fits, few, run-formed, formed, kind-is, taken-is, sum-is, messages-below}
-use Rattle.calls.proofs.Follows.{Follows, positive, no-items, open-follows, open-at-follows, to-full-follows, item-follows, field-item-follows, close-follows, message-follows, ends-follows, challenge-follows}
+use Rattle.calls.proofs.Follows.{Follows, positive, no-items, open-follows, open-at-follows, to-full-follows, item-follows, close-follows, message-follows, ends-follows, challenge-follows}
 
-close-answered : (r : Run) (s : Pass) (t : Next) (k : Kind) → isAnswered (closeStep r s t k .answer) ≡ true
+close-answered : (r : Run) (s : Pass) (t : Next) (k : Kind) → isAnswered (answerIn (closeStep r s t k .answer)) ≡ true
 close-answered r s t Shut = refl
-close-answered r s next.Total Asked = by (r .plain)
+close-answered r s next.Total Asked = by (r .start .plain)
   where
-    by : (plain : Bool) → isAnswered (cond plain (answeredStep (withTotal r (s .total)) shutPass (answer.Total (s .total))) (answeredStep (goneTo r (roundOrEnds 0 (r .rounds))) shutPass (answer.FieldTotal (s .dot))) .answer) ≡ true
+    by : (plain : Bool) → isAnswered (answerIn (cond plain (answeredStep (withTotal r (s .total)) shutPass (answer.Total (s .total))) (answeredStep (goneTo r (roundOrEnds 0 (r .start .rounds))) shutPass (answer.FieldTotal (s .dot))) .answer)) ≡ true
     by true = refl
     by false = refl
 close-answered r s next.Message Asked = refl
@@ -62,12 +66,12 @@ close-answered r s next.Ends Asked = refl
 close-answered r s next.Openings Asked = refl
 close-answered r s t Change = refl
 
-pub refused-with : (k : ℕ) (i : Option ℕ) → isAnswered (refusedWith k i) ≡ false
-refused-with k none = refl
-refused-with k (some i) = refl
+pub refused-with : (A : Type 0) (k : ℕ) (i : Option ℕ) → isAnswered (refusedWith {A = A} k i) ≡ false
+refused-with A k none = refl
+refused-with A k (some i) = refl
 
 -- what an answered item notes: nothing
-take-noted : (p : ℕ) (b : State) (past : Notes) (o : Result) → o .answer ≡ answer.Taken → Follows p b past o → (isAnswered (o .answer) ≡ true) × Follows p b (noted past (o .answer)) o
+take-noted : (p : ℕ) (b : State) (past : Notes) (o : Result) → o .answer ≡ answered reply.taken → Follows p b past o → (isAnswered (o .answer) ≡ true) × Follows p b (noted past (o .answer)) o
 take-noted p b past o e h = (ap isAnswered e, subst (λ x. Follows p b (noted past x) o) (sym e) h)
 
 module _ (p : ℕ) (large : maxWeight < p) where
@@ -90,10 +94,9 @@ module _ (p : ℕ) (large : maxWeight < p) where
   goes a {past} h (call.OpenAt b) z l e = (refl, open-at-follows p large a h b l e)
   goes a {past} h call.ToFull z l e = (refl, to-full-follows p large a h l e)
   goes a {past} h call.ToSmall z l e = absurd (never a l e)
-  goes a {past} h (call.Item r w) z l e =
-      take-noted p _ past _ (takes-answer p (runOf a past) (passOf p a past) (partsIn p (reading r w)) (l .f) (l .g)) (item-follows p large a h r w l (z r w refl) e)
-  goes a {past} h (call.FieldItem x y) z l e =
-      take-noted p _ past _ (takes-answer p (runOf a past) (passOf p a past) (partsIn p (numbers x y)) (l .f) (l .g)) (field-item-follows p large a h x y l e)
+  goes a {past} h (call.Give x) z l e =
+      take-noted p _ past _ (takes-answer p (runOf a past) (passOf p a past) (contributes p (a .start) x) (l .f) (l .g))
+      (item-follows p large a h x l (λ r w q. z r w (ap call.Give q)) e)
   goes a {past} h call.Close z l e = (close-answered (runOf a past) (passOf p a past) (a .turn .next) (passOf p a past .kind), close-follows p large a h l e)
   goes a {past} h call.Message z l e = (refl, message-follows p large a h l e)
   goes a {past} h (call.Challenge c) z l e = (challenge-answered (runOf a past) (passOf p a past) c l (a .turn .mode), challenge-follows p large a h c l e)
@@ -129,7 +132,7 @@ module _ (p : ℕ) (large : maxWeight < p) where
         (record { run = g .1 .run; pass = g .1 .pass; fits = g .1 .fits })
     stands-so (some k) e =
         let o : Result = refusedResult (runOf a past) (passOf p a past) l k in
-        subst (λ b. Inv (cond b (goesOn a c (o .lent)) a) (noted past (o .answer)) (runOf a past) (passOf p a past)) (sym (refused-with (k .0) (k .1)))
+        subst (λ b. Inv (cond b (goesOn a c (o .lent)) a) (noted past (o .answer)) (runOf a past) (passOf p a past)) (sym (refused-with _ (k .0) (k .1)))
         (subst (λ n. Inv a n (runOf a past) (passOf p a past)) (sym (refusal-noted past (k .0) (k .1))) (record { run = refl; pass = refl; fits = h }))
 
   pub decide-step : (a : State) {past : Notes} (r : Run) (s : Pass) → Inv a past r s → (c : Call) → Sized c → (l : Lent) → Decides r s l (table p a c l) (step p r s c l)

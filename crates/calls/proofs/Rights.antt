@@ -6,11 +6,11 @@ use mathlib.Core.Option.{none}
 use Prim.Native.Nat.{ℕ, suc, _+_, _*_, _-_, _^_, _<_, _≤_}
 use native.Mathlib.Omega.{arith}
 use lib.Dec.{eqb, leb, ltb}
-use lib.IntN.{ℤ}
 use lib.ListN.{length, length-append, drop}
 use native.Mathlib.Numerals.{add-one}
 use borrow.Author.Tests.{leb-true, ltb-true, ltb-false, eqb-true}
 use Rattle.refusal.specs.Limit.{maxWeight}
+use Rattle.refusal.specs.Outcome.{answered}
 use Rattle.vector.specs.Vector.{Vector, at}
 use Rattle.vector.specs.Rounds.{size}
 use Rattle.vector.specs.Fold.{fold, foldWith}
@@ -25,7 +25,7 @@ use Rattle.prover.specs.declared.Kind.{Kind}
 use Rattle.prover.specs.declared.Kind.the-variants.{Shut, Asked, Change}
 use Rattle.prover.specs.declared.Run.{Run}
 use Rattle.prover.specs.declared.Pass.{Pass}
-use Rattle.prover.specs.declared.Answer.the-variants as answer
+use Rattle.prover.specs.Reply as reply
 use Rattle.prover.specs.Records.{Out, noValues, isChange, isFull, isOpen}
 use Rattle.prover.specs.Order.{isTotal}
 use Rattle.prover.specs.WellFormed.{roundFits, kindFits}
@@ -33,7 +33,9 @@ use Rattle.prover.specs.Take.{takes}
 use Rattle.prover.specs.Full.{messageGiven, openingTurn}
 use Rattle.prover.specs.Challenge.{challengeTurn, challengedFull}
 use Rattle.prover.specs.Opening.{openingGiven}
-use Rattle.runs.specs.Trip.{Raw, reading, numbers, partsIn, Trip, itemOf, vectorF, vectorG}
+use Rattle.item.specs.declared.Given.{Given}
+use Rattle.item.specs.Item.{contributes}
+use Rattle.runs.specs.Trip.{Trip, itemOf, vectorF, vectorG}
 use Rattle.runs.specs.Passes.{passAfter}
 use Rattle.runs.specs.Buffers.{Written}
 use Rattle.runs.proofs.PassRecord.{takes-answer, takes-values, after-kind}
@@ -42,7 +44,7 @@ use Rattle.calls.specs.declared.Call.{Call}
 use Rattle.calls.specs.declared.Call.the-variants as call
 use Rattle.calls.specs.Step.{Lent, Result, leaving}
 use Rattle.calls.specs.State.{State, inPass, withItem, takesChallenge, buffersIn, goesOn}
-use Rattle.calls.specs.Table.{waits, openingsNext, changeNext, levelNow, level, long, taken, completed, bothLong, readRows, table}
+use Rattle.calls.specs.Table.{waits, openingsNext, changeNext, levelNow, level, long, taken, completed, bothLong, readRows, fileSize, table}
 use Rattle.calls.specs.Meaning.{meaning, foldF, foldG, AsLeft, itemWrites, challengeWrites}
 use Rattle.calls.specs.Statement.{known, Right}
 use Rattle.calls.proofs.Records.{Notes, runOf, passOf}
@@ -51,7 +53,7 @@ use Rattle.calls.proofs.Guards.{challengeDoes}
 use Rattle.calls.proofs.Steps.{row-passed, closeStep, does}
 use Rattle.calls.proofs.Fits.{Fits, formed, kind-is}
 use Rattle.calls.proofs.Turns.{both, waits-for}
-use Rattle.calls.proofs.ItemRows.{Admitted, item-admitted, field-admitted}
+use Rattle.calls.proofs.ItemRows.{Admitted, item-admitted}
 use Rattle.calls.proofs.Agrees.{tripAt, knownIn, Agrees}
 use Rattle.calls.proofs.KeptCalls.{ItemKept, KeptBy}
 use Rattle.calls.proofs.Means.{replied, close-meant, message-meant, ends-meant, opening-meant, lent-full, file-meant}
@@ -63,8 +65,7 @@ isWrite call.OpenPass = false
 isWrite (call.OpenAt b) = false
 isWrite call.ToFull = false
 isWrite call.ToSmall = false
-isWrite (call.Item r w) = false
-isWrite (call.FieldItem x y) = false
+isWrite (call.Give x) = false
 isWrite call.Close = false
 isWrite call.Message = false
 isWrite (call.Challenge c) = false
@@ -75,7 +76,7 @@ isWrite call.WriteProof = true
 not-write : (c : Call) → isWrite c ≡ false → c ≡ call.WriteProof → ⊥
 not-write c e h = true≢false (sym (ap isWrite h) ∙ e)
 
-module _ (p : ℕ) (large : maxWeight < p) (through : Bool) (its : List Raw) (a : State) {past : Notes} (h : Fits p a past) (g : Agrees p through its a past)
+module _ (p : ℕ) (large : maxWeight < p) (through : Bool) (its : List Given) (a : State) {past : Notes} (h : Fits p a past) (g : Agrees p through its a past)
     (whole : length its ≡ a .start .items) (l : Lent) where
   abbrev T : Trip
   T = tripAt its a
@@ -116,14 +117,14 @@ module _ (p : ℕ) (large : maxWeight < p) (through : Bool) (its : List Raw) (a 
   refolded : (v w : Vector) (from to : ℕ) (xs ys : List ℕ) → ((i : ℕ) → v i ≡ w i) → Written v from to xs ys → Written w from to xs ys
   refolded v w from to xs ys e r = record { size = r .size; wrote = λ j lo hi. r .wrote j lo hi ∙ e j; below = r .below; above = r .above }
 
-  item-buffers : (x : Raw) (k : Kind) → a .pass .kind ≡ k → isOpen k ≡ true → length (a .pass .items) < a .start .items → kindFits k (a .turn .mode) (a .turn .next) ≡ true
+  item-buffers : (x : Given) (k : Kind) → a .pass .kind ≡ k → isOpen k ≡ true → length (a .pass .items) < a .start .items → kindFits k (a .turn .mode) (a .turn .next) ≡ true
       → (not (isChange k) || bothLong a l) ≡ true → x ≡ itemOf T (a .start .items - 1 - length (a .pass .items))
-      → (let o : Out = takes p R (passAfter p R k (a .pass .point) (a .pass .items)) (partsIn p x) (l .f) (l .g) in
+      → (let o : Out = takes p R (passAfter p R k (a .pass .point) (a .pass .items)) (contributes p (a .start) x) (l .f) (l .g) in
       Written (foldF p T a) (itemWrites a k .0) (itemWrites a k .1) (l .f) (o .f) × Written (foldG p T a) (itemWrites a k .0) (itemWrites a k .1) (l .g) (o .g))
   item-buffers x Shut ek op more fit there e = absurd (true≢false (sym op))
   item-buffers x Asked ek op more fit there e =
       let s : Pass = passAfter p R Asked (a .pass .point) (a .pass .items) in
-      let q = asked-leaves p R s (partsIn p x) (l .f) (l .g) (ap isChange (after-kind p R Asked (a .pass .point) (a .pass .items))) in (
+      let q = asked-leaves p R s (contributes p (a .start) x) (l .f) (l .g) (ap isChange (after-kind p R Asked (a .pass .point) (a .pass .items))) in (
         subst (Written (foldF p T a) 0 0 (l .f)) (sym (q .0)) (nothing-written (foldF p T a) (l .f)),
         subst (Written (foldG p T a) 0 0 (l .g)) (sym (q .1)) (nothing-written (foldG p T a) (l .g)),
       )
@@ -139,15 +140,15 @@ module _ (p : ℕ) (large : maxWeight < p) (through : Bool) (its : List Raw) (a 
       later Small next.Ends e = refl
       later Small next.Openings e = refl
 
-  pub item-written-so : (x : Raw) → Admitted p a x l → x ≡ itemOf T (a .start .items - 1 - length (a .pass .items))
-      → (let o : Out = takes p R S (partsIn p x) (l .f) (l .g) in
+  pub item-written-so : (x : Given) → Admitted p a x l → x ≡ itemOf T (a .start .items - 1 - length (a .pass .items))
+      → (let o : Out = takes p R S (contributes p (a .start) x) (l .f) (l .g) in
       Written (foldF p T a) (itemWrites a (a .pass .kind) .0) (itemWrites a (a .pass .kind) .1) (l .f) (o .f)
       × Written (foldG p T a) (itemWrites a (a .pass .kind) .0) (itemWrites a (a .pass .kind) .1) (l .g) (o .g))
   item-written-so x q e =
       item-buffers x (a .pass .kind) refl (q .opened) (q .more) (h .pass .kind) (row-passed (not (isChange (a .pass .kind)) || bothLong a l) 9 none (q .place) .0) e
 
   -- an item's place in the fold of the state that follows
-  take-so : (v : Vector) (x : Raw) (m : Lent) (xs ys : List ℕ) → (let z : ℕ × ℕ = itemWrites a (a .pass .kind) in
+  take-so : (v : Vector) (x : Given) (m : Lent) (xs ys : List ℕ) → (let z : ℕ × ℕ = itemWrites a (a .pass .kind) in
       let b : State = buffersIn (isChange (a .pass .kind)) (inPass a (a .pass .kind) (a .pass .point) (x ∷ a .pass .items)) m in
       Written (fold p (at (a .turn .challenges)) (level a) v) (z .0) (z .1) xs ys → Written (fold p (at (b .turn .challenges)) (level b) v) (z .0) (z .1) xs ys)
   take-so v x m xs ys w =
@@ -157,28 +158,23 @@ module _ (p : ℕ) (large : maxWeight < p) (through : Bool) (its : List Raw) (a 
       (same-fold v (isChange (a .pass .kind)) (inPass a (a .pass .kind) (a .pass .point) (x ∷ a .pass .items)) m) w
 
   -- what a taken item answers and leaves
-  item-leaves : (x : Raw) → Admitted p a x l → ItemKept p T through a x l
-      → (let o : Result = leaving l (takes p R S (partsIn p x) (l .f) (l .g)) in
+  item-leaves : (x : Given) → Admitted p a x l → ItemKept p T through a x l
+      → (let o : Result = leaving l (takes p R S (contributes p (a .start) x) (l .f) (l .g)) in
       let z : ℕ × ℕ = itemWrites a (a .pass .kind) in
       let b : State = withItem a x (o .lent) in
-      (o .answer ≡ answer.Taken) × (o .values ≡ noValues) × Written (foldF p T b) (z .0) (z .1) (l .f) (o .lent .f) × Written (foldG p T b) (z .0) (z .1) (l .g) (o .lent .g))
+      (o .answer ≡ answered reply.taken) × (o .values ≡ noValues) × Written (foldF p T b) (z .0) (z .1) (l .f) (o .lent .f) × Written (foldG p T b) (z .0) (z .1) (l .g) (o .lent .g))
   item-leaves x q kept =
-      let o : Result = leaving l (takes p R S (partsIn p x) (l .f) (l .g)) in
+      let o : Result = leaving l (takes p R S (contributes p (a .start) x) (l .f) (l .g)) in
       let b = item-written-so x q (kept .0) in (
-        takes-answer p R S (partsIn p x) (l .f) (l .g),
-        takes-values p R S (partsIn p x) (l .f) (l .g),
+        takes-answer p R S (contributes p (a .start) x) (l .f) (l .g),
+        takes-values p R S (contributes p (a .start) x) (l .f) (l .g),
         take-so (vectorF p T) x (o .lent) (l .f) (o .lent .f) (b .0),
         take-so (vectorG p T) x (o .lent) (l .g) (o .lent .g) (b .1),
       )
 
-  item-right : (r : ℤ) (w : ℕ) → table p a (call.Item r w) l ≡ none → ItemKept p T through a (reading r w) l → Right p T a (call.Item r w) l (does p R S (call.Item r w) l)
-  item-right r w e kept =
-      let b = item-leaves (reading r w) (item-admitted p a l r w e) kept in
-      record { answer = b .0; values = b .1; f = b .2; g = b .3; proof = λ e. absurd (not-write _ refl e); file = λ other. refl }
-
-  field-item-right : (x y : ℕ) → table p a (call.FieldItem x y) l ≡ none → ItemKept p T through a (numbers x y) l → Right p T a (call.FieldItem x y) l (does p R S (call.FieldItem x y) l)
-  field-item-right x y e kept =
-      let b = item-leaves (numbers x y) (field-admitted p a l x y e) kept in
+  item-right : (x : Given) → table p a (call.Give x) l ≡ none → ItemKept p T through a x l → Right p T a (call.Give x) l (does p R S (call.Give x) l)
+  item-right x e kept =
+      let b = item-leaves x (item-admitted p a l x e) kept in
       record { answer = b .0; values = b .1; f = b .2; g = b .3; proof = λ e. absurd (not-write _ refl e); file = λ other. refl }
 
   -- THE CLOSE
@@ -299,7 +295,7 @@ module _ (p : ℕ) (large : maxWeight < p) (through : Bool) (its : List Raw) (a 
           → (let o : Result = leaving l (challengeDoes p R S c l m) in
           let z : ℕ × ℕ = challengeWrites a m in
           let b : State = buffersIn (isFull m) (takesChallenge a c) (o .lent) in
-          (o .answer ≡ answer.Challenged) × (o .values ≡ noValues) × Written (foldF p T b) (z .0) (z .1) (l .f) (o .lent .f)
+          (o .answer ≡ answered reply.challenged) × (o .values ≡ noValues) × Written (foldF p T b) (z .0) (z .1) (l .f) (o .lent .f)
           × Written (foldG p T b) (z .0) (z .1) (l .g) (o .lent .g) × (o .lent .file ≡ l .file))
       by Small em et rows kept = (refl, refl, nothing-written (foldF p T (takesChallenge a c)) (l .f), nothing-written (foldG p T (takesChallenge a c)) (l .g), refl)
       by Full em et rows kept =
@@ -325,7 +321,7 @@ module _ (p : ℕ) (large : maxWeight < p) (through : Bool) (its : List Raw) (a 
         values = refl;
         f = nothing-written (foldF p T a) (l .f);
         g = nothing-written (foldG p T a) (l .g);
-        proof = λ here. ap (λ f. f ++ drop (18 + 12 * a .start .rounds) (l .file)) (file-meant p large through its a h g (q .0) (waits-for next.Openings (a .turn .next) (q .1)));
+        proof = λ here. ap (λ f. f ++ drop (fileSize (a .start .rounds)) (l .file)) (file-meant p large through its a h g (q .0) (waits-for next.Openings (a .turn .next) (q .1)));
         file = λ other. absurd (other refl);
       }
 
@@ -335,8 +331,7 @@ module _ (p : ℕ) (large : maxWeight < p) (through : Bool) (its : List Raw) (a 
   right (call.OpenAt b) e kept = record { answer = refl; values = refl; f = nothing-written _ (l .f); g = nothing-written _ (l .g); proof = λ e. absurd (not-write _ refl e); file = λ other. refl }
   right call.ToFull e kept = to-full-right e
   right call.ToSmall e kept = record { answer = refl; values = refl; f = nothing-written _ (l .f); g = nothing-written _ (l .g); proof = λ e. absurd (not-write _ refl e); file = λ other. refl }
-  right (call.Item r w) e kept = item-right r w e kept
-  right (call.FieldItem x y) e kept = field-item-right x y e kept
+  right (call.Give x) e kept = item-right x e kept
   right call.Close e kept = close-right e
   right call.Message e kept = message-right e kept
   right (call.Challenge c) e kept = challenge-right c e kept

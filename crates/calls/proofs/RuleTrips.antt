@@ -12,7 +12,9 @@ use Rattle.vector.specs.Message.{message}
 use Rattle.vector.proofs.Rounds.{rounds-power}
 use Rattle.vector.proofs.TwistPowers.{twists-weight}
 use Rattle.prover.specs.declared.Answer.the-variants as answer
-use Rattle.runs.specs.Trip.{numbers, partsIn, Trip, itemOf, vectorF, vectorG}
+use Rattle.item.specs.declared.Given.the-variants.{Numbers}
+use Rattle.item.specs.Item.{contributes}
+use Rattle.runs.specs.Trip.{Trip, itemOf, vectorF, vectorG}
 use Rattle.r1cs.specs.Check.{ruleFirst, ruleSecond, ruleTotal, ruleMessage}
 use Rattle.r1cs.proofs.RuleTotals.{padded-same, rule-first}
 use Rattle.calls.specs.Meaning.{reply, says, total, messageAt}
@@ -24,11 +26,11 @@ unfolding pairsFrom
 pairs-length a b i zero = refl
 pairs-length a b i (suc m) = ap suc (pairs-length a b (suc i) m)
 
-pairs-at : (a b : Vector) (i m j : ℕ) → j < m → getD (pairsFrom a b i m) j (numbers 0 0) ≡ numbers (a (i + j)) (b (i + j))
+pairs-at : (a b : Vector) (i m j : ℕ) → j < m → getD (pairsFrom a b i m) j (Numbers 0 0) ≡ Numbers (a (i + j)) (b (i + j))
 unfolding pairsFrom
 pairs-at a b i zero j h = absurd (omega arith)
-pairs-at a b i (suc m) zero h = ap (λ k. numbers (a k) (b k)) (sym (add-zero i))
-pairs-at a b i (suc m) (suc j) h = pairs-at a b (suc i) m j (omega arith) ∙ ap (λ k. numbers (a k) (b k)) (suc-add i j ∙ sym (add-suc i j))
+pairs-at a b i (suc m) zero h = ap (λ k. Numbers (a k) (b k)) (sym (add-zero i))
+pairs-at a b i (suc m) (suc j) h = pairs-at a b (suc i) m j (omega arith) ∙ ap (λ k. Numbers (a k) (b k)) (suc-add i j ∙ sym (add-suc i j))
 
 module _ (p v n : ℕ) (few : n ≤ 15) (a b : Vector) where
   abbrev T : Trip
@@ -40,8 +42,8 @@ module _ (p v n : ℕ) (few : n ≤ 15) (a b : Vector) where
       let most : 2 ^ n ≤ 2 ^ 15 = pow-mono few in
       record { start = record { least = pow-pos n; most = most; rounds = sym (rounds-power n few) }; items = pairs-length a b 0 (2 ^ n) }
 
-  item-at : (i : ℕ) → i < 2 ^ n → itemOf T i ≡ numbers (a i) (b i)
-  item-at i less = pairs-at a b 0 (2 ^ n) i less ∙ ap (λ k. numbers (a k) (b k)) (zero-add i)
+  item-at : (i : ℕ) → i < 2 ^ n → itemOf T i ≡ Numbers (a i) (b i)
+  item-at i less = pairs-at a b 0 (2 ^ n) i less ∙ ap (λ k. Numbers (a k) (b k)) (zero-add i)
 
   pub rule-vector-f : vectorF p T ≡ ruleFirst p v n a
   rule-vector-f =

@@ -18,7 +18,7 @@ use Rattle.prover.specs.Start as prover
 use Rattle.verifier.specs.declared.Step.{Step}
 use Rattle.verifier.specs.WellFormed.{inCount}
 use Rattle.verifier.specs.Starts as verifier
-use Rattle.runs.specs.Trip.{Start}
+use Rattle.item.specs.declared.Start.{Start}
 use Rattle.calls.specs.Table.{Refusal, row}
 use Rattle.calls.specs.Starts.{plainStart, twistedStart, ruleStart, Startable, countRow, listRow, ruleRows, StartsRun, StartsVerifier, Starts}
 use Rattle.calls.proofs.Steps.{some-none}

@@ -20,8 +20,8 @@ use Rattle.prover.specs.declared.Kind.the-variants.{Shut, Asked, Change}
 use Rattle.prover.specs.declared.Run.{Run}
 use Rattle.prover.specs.declared.Pass.{Pass}
 use Rattle.prover.specs.declared.Step.{Step}
-use Rattle.prover.specs.declared.Answer.the-variants as answer
-use Rattle.prover.specs.Records.{Out, leaves, noValues, isOpen}
+use Rattle.prover.specs.Reply as reply
+use Rattle.prover.specs.Records.{Out, out, leaves, noValues, isOpen}
 use Rattle.prover.specs.Order.{isTotal, isOpenings}
 use Rattle.prover.specs.WellFormed.{kindFits, wellFormed}
 use Rattle.prover.specs.Open.{opened, noPoints, pointsOf, openKernel, paddedKernel, toSmallCall}
@@ -31,15 +31,15 @@ use Rattle.prover.specs.Close.{totalStep, messageStep, endsStep, openingStep, c
 use Rattle.prover.specs.Full.{messageGiven, endsGiven}
 use Rattle.prover.specs.Opening.{openingGiven}
 use Rattle.prover.specs.Written.{mayWrite, writeCall, writtenStep, proofOf}
-use Rattle.runs.specs.Trip.{reading, numbers, partsIn, sumOf}
+use Rattle.item.specs.Item.{contributes}
+use Rattle.runs.specs.Trip.{sumOf}
 use Rattle.calls.specs.declared.Call.{Call}
 use Rattle.calls.specs.declared.Call.the-variants as call
-use Rattle.calls.specs.Step.{Lent, Result, keeping, leaving, keepingStep, step}
+use Rattle.calls.specs.Step.{Lent, Result, keeping, leaving, step}
 use Rattle.calls.specs.State.{State}
-use Rattle.calls.specs.Table.{Refusal, decided, row, waits, table}
-use Rattle.calls.specs.Statement.{refusedWith}
+use Rattle.calls.specs.Table.{Refusal, refusedWith, decided, row, waits, table}
 use Rattle.calls.proofs.Records.{Notes, runOf}
-use Rattle.calls.proofs.Guards.{challengeDoes, same-row, like-row, proof-next, open-decided, open-at-decided, to-full-decided, message-decided, ends-decided, opening-decided, challenge-decided, item-decided, field-item-decided, close-decided}
+use Rattle.calls.proofs.Guards.{challengeDoes, same-row, like-row, proof-next, open-decided, open-at-decided, to-full-decided, message-decided, ends-decided, opening-decided, challenge-decided, item-decided, close-decided}
 
 -- what the close of a pass comes to; the first and the fourth line are met by no list
 abbrev pub closeStep : Run → Pass → Next → Kind → Step
@@ -51,14 +51,17 @@ closeStep r s next.Ends Asked = endsStep r s
 closeStep r s next.Openings Asked = openingStep r s
 closeStep r s t Change = changedStep r
 
+-- a call with no buffers
+abbrev pub keepingStep : Lent → Step → Result
+keepingStep l s = keeping l (out s [] [])
+
 -- an answered call
 abbrev pub does : ℕ → Run → Pass → Call → Lent → Result
 does p r s call.OpenPass l = keeping l (opened r noPoints (openKernel r))
 does p r s (call.OpenAt b) l = keeping l (opened r (pointsOf p b) (paddedKernel r))
 does p r s call.ToFull l = leaving l (changes r (l .f) (l .g))
 does p r s call.ToSmall l = keepingStep l (changedStep r)
-does p r s (call.Item z w) l = leaving l (takes p r s (partsIn p (reading z w)) (l .f) (l .g))
-does p r s (call.FieldItem x y) l = leaving l (takes p r s (partsIn p (numbers x y)) (l .f) (l .g))
+does p r s (call.Give x) l = leaving l (takes p r s (contributes p (r .start) x) (l .f) (l .g))
 does p r s call.Close l = keepingStep l (closeStep r s (r .next) (s .kind))
 does p r s call.Message l = leaving l (messageGiven p r s (l .f) (l .g))
 does p r s (call.Challenge c) l = leaving l (challengeDoes p r s c l (r .mode))
@@ -68,9 +71,9 @@ does p r s call.WriteProof l =
     record {
       run = r;
       pass = s;
-      answer = answer.Written (proofSize (r .rounds));
+      answer = answered (reply.written (proofSize (r .start .rounds)));
       values = noValues;
-      lent = record { f = l .f; g = l .g; file = proofOf r ++ drop (proofSize (r .rounds)) (l .file) };
+      lent = record { f = l .f; g = l .g; file = proofOf r ++ drop (proofSize (r .start .rounds)) (l .file) };
     }
 
 abbrev pub refusedResult : Run → Pass → Lent → Refusal → Result
@@ -130,7 +133,7 @@ module _ (p : ℕ) (a : State) (past : Notes) (few : a .start .rounds ≤ 15) (s
   close-so l (some (k, none)) e = refl
   close-so l (some (k, some i)) e = refl
 
-  -- the numbers that a plain run has given
+  -- the Numbers that a plain run has given
   module _ (total : inLimits p (past .total) ≡ true) (messages : allBelow p (λ k. getD (R .messages) k 0) (3 * a .start .rounds) ≡ true)
       (fend : past .fend < p) (gend : past .gend < p) where
     file-rows : (file : List ℕ) → writeProof p (a .start .rounds) (past .total) (R .messages) (past .fend) (past .gend) file
@@ -148,14 +151,8 @@ module _ (p : ℕ) (a : State) (past : Notes) (few : a .start .rounds ≤ 15) (s
     write-so l = like-row _ _ 10 _ _ _ write-turn (file-rows (l .file))
 
     write-settled : (l : Lent) (t : Option Refusal) (o : Outcome ℕ) → o ≡ decided t (answered (proofSize (a .start .rounds)))
-        → (let w : Step = writtenStep R s o in
-        _≡_ {A = Result} (record {
-          run = w .run;
-          pass = w .pass;
-          answer = w .answer;
-          values = w .values;
-          lent = record { f = l .f; g = l .g; file = writtenIn o (proofOf R) (l .file) };
-        }) (settled R s l t (does p R s call.WriteProof l)))
+        → keepingStep (record { f = l .f; g = l .g; file = writtenIn o (proofOf R) (l .file) }) (writtenStep R s o)
+        ≡ settled R s l t (does p R s call.WriteProof l)
     unfolding writtenIn
     write-settled l none o e = rw e
     write-settled l (some (k, none)) o e = rw e
@@ -172,8 +169,7 @@ module _ (p : ℕ) (a : State) (past : Notes) (few : a .start .rounds ≤ 15) (s
     steps (call.OpenAt b) l = ap (λ o. keeping l (leaves R s [] [] o)) (open-at-decided p a past few s wf b l) ∙ keeps R s l (table p a (call.OpenAt b) l) _
     steps call.ToFull l = ap (λ o. leaving l (leaves R s (l .f) (l .g) o)) (to-full-decided p a past few s wf l) ∙ leaving-so R s l (table p a call.ToFull l) _
     steps call.ToSmall l = to-small-so l
-    steps (call.Item z w) l = ap (λ o. leaving l (leaves R s (l .f) (l .g) o)) (item-decided p a past few s wf kind count z w l) ∙ leaving-so R s l (table p a (call.Item z w) l) _
-    steps (call.FieldItem x y) l = ap (λ o. leaving l (leaves R s (l .f) (l .g) o)) (field-item-decided p a past few s wf kind count x y l) ∙ leaving-so R s l (table p a (call.FieldItem x y) l) _
+    steps (call.Give x) l = ap (λ o. leaving l (leaves R s (l .f) (l .g) o)) (item-decided p a past few s wf kind count x l) ∙ leaving-so R s l (table p a (call.Give x) l) _
     steps call.Close l = ap (λ o. keepingStep l (leavesStep R s o)) (close-decided p a past few s wf kind count sums l) ∙ close-so l (table p a call.Close l) refl
     steps call.Message l = ap (λ o. leaving l (leaves R s (l .f) (l .g) o)) (message-decided p a past few s wf l) ∙ leaving-so R s l (table p a call.Message l) _
     steps (call.Challenge c) l = ap (λ o. leaving l (leaves R s (l .f) (l .g) o)) (challenge-decided p a past few s wf c l) ∙ leaving-so R s l (table p a (call.Challenge c) l) _

@@ -7,7 +7,8 @@ use mathlib.Core.List.{List, [], _∷_, _++_}
 use mathlib.Core.Option.{none}
 use lib.ListN.{length}
 use Rattle.vector.specs.Vector.{at}
-use Rattle.runs.specs.Trip.{Start, Trip}
+use Rattle.item.specs.declared.Start.{Start}
+use Rattle.runs.specs.Trip.{Trip}
 use Rattle.calls.specs.Lists.{after, along, always}
 use Rattle.calls.specs.Step.{Lent, isAnswered}
 use Rattle.calls.specs.World.{Made, World, freshWorld, came, onward}
@@ -15,7 +16,6 @@ use Rattle.calls.specs.Table.{table}
 use Rattle.calls.specs.Meaning.{question, Kept}
 use Rattle.calls.specs.Statement.{Sized, Decides, CountsHold, Holds, Right}
 use Rattle.calls.specs.QueryState.{verifierTable, Posed, Hearing, freshHearing, heard, hearsOn, DecidesHeard}
-use Rattle.calls.specs.QueryStep.{isTold}
 use Rattle.calls.specs.Proper.{Valid, Brings, properRun}
 use Rattle.calls.specs.Given.{replyOf, BringsRun, SaysRun}
 use Rattle.calls.specs.Starts.{Startable, Whole, Starts}
@@ -55,7 +55,7 @@ module _ (p : ℕ) where
 
   abbrev pub AllBringRun : Trip → World → List Made → Hearing → List Posed → Type 0
   AllBringRun T w ms =
-      along (hearsOn p) (λ h q. isTold (heard p h q .told) ≡ true → BringsRun p T w ms (h .state) (q .query) (q .shown))
+      along (hearsOn p) (λ h q. isAnswered (heard p h q .told) ≡ true → BringsRun p T w ms (h .state) (q .query) (q .shown))
 
   abbrev pub AllSayRun : Trip → World → List Made → Hearing → List Posed → Type 0
   AllSayRun T w ms =

@@ -6,20 +6,23 @@ use mathlib.Core.List.{List, [], _∷_, _++_}
 use mathlib.Core.Option.{Option, none, some}
 use lib.IntN.{pos, negsuc}
 use lib.ListN.{replicate}
-use Rattle.refusal.specs.Outcome.{answered}
+use Rattle.refusal.specs.Outcome.{Outcome, answered, refused, refusedAt}
 use Rattle.vector.specs.Rounds.{powers, firstFrom}
-use Rattle.prover.specs.declared.Answer.{Answer}
-use Rattle.prover.specs.declared.Answer.the-variants as answer
+use Rattle.item.specs.declared.Start.{Start}
+use Rattle.item.specs.declared.Given.the-variants.{Reading}
+use Rattle.item.specs.Start.{plainStart}
+use Rattle.prover.specs.Reply as reply
+use Rattle.prover.specs.Records.{noValues}
 use Rattle.prover.specs.Values.{inNinety}
-use Rattle.prover.specs.Start.{started, startPlain}
-use Rattle.runs.specs.Trip.{Start, Trip, reading}
+use Rattle.prover.specs.Start.{started, freshRun, startPlain}
+use Rattle.runs.specs.Trip.{Trip}
 use Rattle.calls.specs.declared.Call.{Call}
 use Rattle.calls.specs.declared.Call.the-variants as call
 use Rattle.calls.specs.Dispatch.{lending}
 use Rattle.calls.specs.Table.{Refusal, table}
-use Rattle.calls.specs.Meaning.{Reply, says}
+use Rattle.calls.specs.Meaning.{Answer, says}
 use Rattle.calls.specs.Lists.{each}
-use Rattle.calls.specs.World.{Made, World, startRun, came, onward}
+use Rattle.calls.specs.World.{Made, World, came, onward}
 use Rattle.calls.specs.Given.{replyOf}
 use Rattle.calls.specs.Demand3.{AllSized, AllKept}
 
@@ -30,22 +33,22 @@ abbrev pub tripStart : Start
 tripStart = record { items = 3; rounds = 2; plain = true; twists = replicate 15 0 }
 
 -- the start is answered so
-pub trip-starts : startPlain 3 ≡ answered (started (startRun tripStart))
+pub trip-starts : startPlain 3 ≡ answered (started (freshRun tripStart))
 unfolding startPlain powers firstFrom
 trip-starts = refl
 
 abbrev pub trip : Trip
-trip = record { start = tripStart; items = reading (negsuc 179) 10 ∷ reading (negsuc 174) 20 ∷ reading (pos 40) 5 ∷ [] }
+trip = record { start = tripStart; items = Reading (negsuc 179) 10 ∷ Reading (negsuc 174) 20 ∷ Reading (pos 40) 5 ∷ [] }
 
 -- the trip's items as calls
 abbrev pub item0 : Call
-item0 = call.Item (negsuc 179) 10
+item0 = call.Give (Reading (negsuc 179) 10)
 
 abbrev pub item1 : Call
-item1 = call.Item (negsuc 174) 20
+item1 = call.Give (Reading (negsuc 174) 20)
 
 abbrev pub item2 : Call
-item2 = call.Item (pos 40) 5
+item2 = call.Give (Reading (pos 40) 5)
 
 -- a call that is lent nothing, one that is lent the two buffers, and one that is lent a file of so many bytes
 abbrev pub alone : Call → Made
@@ -59,61 +62,51 @@ proofInto size = record { call = call.WriteProof; lent = lending [] [] (replicat
 
 -- a call and its answer
 abbrev pub Exchange : Type 0
-Exchange = Made × Reply
+Exchange = Made × Answer
 
-abbrev pub refuses : ℕ → Reply
-refuses k = says (answer.Refused k)
+abbrev pub refuses : ℕ → Answer
+refuses k = record { answer = refused k; values = noValues }
 
 unfoldable pub callsOf : List Exchange → List Made
 callsOf [] = []
 callsOf (x ∷ xs) = x .0 ∷ callsOf xs
 
-unfoldable pub answersOf : List Exchange → List Reply
+unfoldable pub answersOf : List Exchange → List Answer
 answersOf [] = []
 answersOf (x ∷ xs) = x .1 ∷ answersOf xs
 
 -- the refusals among the answers
-abbrev pub refusalIn : Answer → Option Refusal
-refusalIn answer.Started = none
-refusalIn answer.Opened = none
-refusalIn answer.Taken = none
-refusalIn (answer.Total t) = none
-refusalIn (answer.FieldTotal t) = none
-refusalIn (answer.Message even cross odd) = none
-refusalIn answer.Challenged = none
-refusalIn (answer.Ends f g) = none
-refusalIn answer.Opening = none
-refusalIn answer.Changed = none
-refusalIn (answer.Written size) = none
-refusalIn (answer.Refused k) = some (k, none)
-refusalIn (answer.RefusedAt k i) = some (k, some i)
+abbrev pub refusalIn : {A : Type 0} → Outcome A → Option Refusal
+refusalIn (answered x) = none
+refusalIn (refused k) = some (k, none)
+refusalIn (refusedAt k i) = some (k, some i)
 
 unfoldable pub refusalsOf : List Exchange → List (Option Refusal)
 refusalsOf [] = []
 refusalsOf (x ∷ xs) = refusalIn (x .1 .answer) ∷ refusalsOf xs
 
 -- a pass of small mode that is whole, its close answered so
-abbrev pub answeredPass : Call → Reply → List Exchange
+abbrev pub answeredPass : Call → Answer → List Exchange
 answeredPass opens closes =
-    (alone opens, says answer.Opened)
-    ∷ (alone item2, says answer.Taken)
-    ∷ (alone item1, says answer.Taken)
-    ∷ (alone item0, says answer.Taken)
+    (alone opens, says reply.opened)
+    ∷ (alone item2, says reply.taken)
+    ∷ (alone item1, says reply.taken)
+    ∷ (alone item0, says reply.taken)
     ∷ (alone call.Close, closes)
     ∷ []
 
 -- the lines of the output
-abbrev pub tripTotal : Reply
-tripTotal = says (answer.Total (negsuc 5099))
+abbrev pub tripTotal : Answer
+tripTotal = says (reply.total (negsuc 5099))
 
-abbrev pub round0 : Reply
-round0 = says (answer.Message 2147482047 2147478297 2147480147)
+abbrev pub round0 : Answer
+round0 = says (reply.message 2147482047 2147478297 2147480147)
 
-abbrev pub round1 : Reply
-round1 = says (answer.Message 2147457147 2147482997 200)
+abbrev pub round1 : Answer
+round1 = says (reply.message 2147457147 2147482997 200)
 
-abbrev pub tripEnds : Reply
-tripEnds = says (answer.Ends 2147483237 65)
+abbrev pub tripEnds : Answer
+tripEnds = says (reply.ends 2147483237 65)
 
 abbrev pub openF : List ℕ
 openF = 2147483277 ∷ 330 ∷ 2147483277 ∷ 2147483197 ∷ 2147483037 ∷ 2147483237 ∷ []
@@ -121,8 +114,8 @@ openF = 2147483277 ∷ 330 ∷ 2147483277 ∷ 2147483197 ∷ 2147483037 ∷ 2147
 abbrev pub openG : List ℕ
 openG = 70 ∷ 2147483637 ∷ 70 ∷ 60 ∷ 40 ∷ 65 ∷ []
 
-abbrev pub tripOpening : Reply
-tripOpening = record { answer = answer.Opening; values = inNinety 2 (openF ++ openG) }
+abbrev pub tripOpening : Answer
+tripOpening = record { answer = answered reply.opening; values = inNinety 2 (openF ++ openG) }
 
 -- RVP, version 1, n and the total; two messages; the end values; then eight bytes that were there before
 abbrev pub tripFile : List ℕ

@@ -5,20 +5,22 @@ use mathlib.Core.Path.{_≡_}
 use mathlib.Core.Bool.{true}
 use mathlib.Core.List.{List}
 use lib.ListN.{length, take}
-use Rattle.prover.specs.declared.Answer.the-variants as answer
-use Rattle.runs.specs.Trip.{reading, numbers, Trip, itemOf}
+use Rattle.refusal.specs.Outcome.{Outcome, answered}
+use Rattle.prover.specs.Reply as reply
+use Rattle.verifier.specs.Reply as heard
+use Rattle.verifier.specs.Records.{yes, holds}
+use Rattle.runs.specs.Trip.{Trip, itemOf}
 use Rattle.calls.specs.declared.query.Query.{Query}
 use Rattle.calls.specs.declared.query.Query.the-variants as query
-use Rattle.calls.specs.declared.query.Told.{Told}
-use Rattle.calls.specs.declared.query.Told.the-variants as told
 use Rattle.calls.specs.Lists.{somewhere}
 use Rattle.calls.specs.Step.{Result, isAnswered}
 use Rattle.calls.specs.World.{Made, World, came, onward}
-use Rattle.calls.specs.Meaning.{Question, total, roundMessage, openingAt, proof, question, Reply, says}
-use Rattle.calls.specs.QueryStep.{Shown}
+use Rattle.calls.specs.Meaning.{Question, total, roundMessage, openingAt, proof, question, Answer, says}
+use Rattle.calls.specs.Table.{fileSize}
+use Rattle.calls.specs.QueryStep.{Shown, Said, replies, finds, opens}
 use Rattle.calls.specs.QueryState.{VerifierState}
 
-abbrev pub replyOf : Result → Reply
+abbrev pub replyOf : Result → Answer
 replyOf o = record { answer = o .answer; values = o .values }
 
 module _ (p : ℕ) where
@@ -27,35 +29,33 @@ module _ (p : ℕ) where
   Answered q w m = (isAnswered (came p w m .answer) ≡ true) × (question (w .state) (m .call) ≡ q)
 
   -- one of the list was, and replied x
-  abbrev pub Gave : World → List Made → Question → Reply → Type 0
+  abbrev pub Gave : World → List Made → Question → Answer → Type 0
   Gave w ms q x = somewhere (onward p) (λ w m. Answered q w m × (replyOf (came p w m) ≡ x)) w ms
 
   -- one wrote a proof, and these are its bytes
   abbrev pub Wrote : World → List Made → List ℕ → Type 0
   Wrote w ms file =
-      somewhere (onward p) (λ w m. Answered proof w m × (take (18 + 12 * w .state .start .rounds) (came p w m .lent .file) ≡ file)) w ms
+      somewhere (onward p) (λ w m. Answered proof w m × (take (fileSize (w .state .start .rounds)) (came p w m .lent .file) ≡ file)) w ms
 
   -- A VERIFIER'S CALL beside a run's list
   module _ (T : Trip) (w : World) (ms : List Made) where
     abbrev pub BringsRun : VerifierState → Query → Shown → Type 0
-    BringsRun b (query.Item z v) l = reading z v ≡ itemOf T (length (b .items))
-    BringsRun b (query.FieldItem x y) l = numbers x y ≡ itemOf T (length (b .items))
-    BringsRun b (query.Close t) l = Gave w ms total (says (answer.Total t))
-    BringsRun b (query.CloseClaim c) l = Gave w ms total (says (answer.FieldTotal c))
-    BringsRun b (query.Message even cross odd) l = Gave w ms (roundMessage (b .round)) (says (answer.Message even cross odd))
+    BringsRun b (query.Give x) l = x ≡ itemOf T (length (b .items))
+    BringsRun b (query.Close t) l = Gave w ms total (says (reply.total t))
+    BringsRun b (query.CloseClaim c) l = Gave w ms total (says (reply.fieldTotal c))
+    BringsRun b (query.Message even cross odd) l = Gave w ms (roundMessage (b .round)) (says (reply.message even cross odd))
     BringsRun b query.Verdict l = Unit {0}
     BringsRun b query.Proof l = Wrote w ms (l .file)
     BringsRun b (query.CheckOpening x) l = Unit {0}
 
     -- every message passes, every verdict is yes; "every opening check .. is yes if point and values are an opening that the run gave"
-    abbrev pub SaysRun : VerifierState → Query → Shown → Told → Type 0
-    SaysRun b (query.Item z v) l t = t ≡ told.Taken
-    SaysRun b (query.FieldItem x y) l t = t ≡ told.Taken
-    SaysRun b (query.Close z) l t = t ≡ told.Closed
-    SaysRun b (query.CloseClaim c) l t = t ≡ told.Closed
-    SaysRun b (query.Message even cross odd) l t = t ≡ told.Passed
-    SaysRun b query.Verdict l t = t ≡ told.Yes
-    SaysRun b query.Proof l t = t ≡ told.Yes
+    abbrev pub SaysRun : VerifierState → Query → Shown → Outcome Said → Type 0
+    SaysRun b (query.Give x) l t = t ≡ answered (replies heard.taken)
+    SaysRun b (query.Close z) l t = t ≡ answered (replies heard.closed)
+    SaysRun b (query.CloseClaim c) l t = t ≡ answered (replies heard.closed)
+    SaysRun b (query.Message even cross odd) l t = t ≡ answered (replies heard.passed)
+    SaysRun b query.Verdict l t = t ≡ answered (finds yes)
+    SaysRun b query.Proof l t = t ≡ answered (finds yes)
     SaysRun b (query.CheckOpening x) l t =
-        (values : List ℕ) → Gave w ms (openingAt x) (record { answer = answer.Opening; values = values })
-        → l .values ≡ take (6 * b .start .rounds) values → t ≡ told.Yes
+        (values : List ℕ) → Gave w ms (openingAt x) (record { answer = answered reply.opening; values = values })
+        → l .values ≡ take (6 * b .start .rounds) values → t ≡ answered (opens holds)

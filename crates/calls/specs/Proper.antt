@@ -13,21 +13,22 @@ use Rattle.vector.specs.Vector.{at}
 use Rattle.vector.specs.Slice.{overwrite, isNonzero}
 use Rattle.prover.specs.declared.Next.the-variants as next
 use Rattle.prover.specs.Records.{isFull}
-use Rattle.runs.specs.Trip.{Raw, reading, numbers, Trip, itemOf, vectorF, vectorG, totalOf}
+use Rattle.item.specs.declared.Given.{Given}
+use Rattle.item.specs.declared.Given.the-variants.{Reading, Numbers}
+use Rattle.runs.specs.Trip.{Trip, itemOf, vectorF, vectorG, totalOf}
 use Rattle.calls.specs.declared.Call.{Call}
 use Rattle.calls.specs.declared.Call.the-variants as call
 use Rattle.calls.specs.Lists.{each}
 use Rattle.calls.specs.Step.{Lent}
 use Rattle.calls.specs.State.{State}
 use Rattle.calls.specs.Table.{waits}
-use Rattle.calls.specs.Meaning.{handsIn}
 use Rattle.calls.specs.World.{Made, World, freshWorld, came, onward}
 use Rattle.calls.specs.Starts.{Whole}
 
 -- "An item of a plain run is a reading and a weight, of a twisted run two field numbers", within their limits
-abbrev pub ItemFits : ℕ → Bool → Raw → Type 0
-ItemFits p plain (reading r w) = (plain ≡ true) × (natAbs r ≤ 32768) × (w ≤ maxWeight)
-ItemFits p plain (numbers a b) = (plain ≡ false) × (a < p) × (b < p)
+abbrev pub ItemFits : ℕ → Bool → Given → Type 0
+ItemFits p plain (Reading r w) = (plain ≡ true) × (natAbs r ≤ 32768) × (w ≤ maxWeight)
+ItemFits p plain (Numbers a b) = (plain ≡ false) × (a < p) × (b < p)
 
 -- a trip that a run takes whole
 pub record Valid (p : ℕ) (T : Trip) : Type 0 where
@@ -44,7 +45,7 @@ module _ (T : Trip) where
   -- "the L pairs from index L-1 down"
   unfoldable pub itemsBelow : ℕ → List Call
   itemsBelow zero = []
-  itemsBelow (suc i) = handsIn (itemOf T i) ∷ itemsBelow i
+  itemsBelow (suc i) = call.Give (itemOf T i) ∷ itemsBelow i
 
   -- opened, given the trip's items, closed
   abbrev pub wholePass : Call → List Call

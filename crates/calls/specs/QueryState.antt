@@ -6,28 +6,29 @@ use mathlib.Core.List.{List, [], _∷_}
 use mathlib.Core.Option.{Option, none, some}
 use lib.Dec.{eqb, leb, ltb}
 use lib.ListN.{length}
-use Rattle.refusal.specs.Limit.{maxWeight}
+use Rattle.refusal.specs.Outcome.{Outcome, answered, refused, refusedAt}
 use Rattle.field.specs.Total.{inLimits}
 use Rattle.wire.specs.Header.{marked, versionOf}
 use Rattle.wire.specs.Proof.{proofRounds, proofTotal, proofNumber, allBelow}
-use Rattle.vector.specs.Slice.{isNonzero, allReduced, fifteen}
+use Rattle.vector.specs.Slice.{isNonzero, allReduced}
 use Rattle.verifier.specs.declared.Verifier.{Verifier}
-use Rattle.verifier.specs.Starts.{freshVerifier}
-use Rattle.runs.specs.Trip.{Raw, reading, numbers, Start}
+use Rattle.verifier.specs.Reply as reply
+use Rattle.verifier.specs.Records.{yes, no}
+use Rattle.verifier.specs.Starts.{verifierOf}
+use Rattle.item.specs.declared.Start.{Start}
+use Rattle.item.specs.declared.Given.{Given}
 use Rattle.calls.specs.declared.query.Query.{Query}
 use Rattle.calls.specs.declared.query.Query.the-variants as query
-use Rattle.calls.specs.declared.query.Told.{Told}
-use Rattle.calls.specs.declared.query.Told.the-variants as told
-use Rattle.calls.specs.declared.query.Heard.{Heard}
-use Rattle.calls.specs.QueryStep.{Shown, isTold, ask}
-use Rattle.calls.specs.Table.{Refusal, row, rowAt}
+use Rattle.calls.specs.Step.{isAnswered}
+use Rattle.calls.specs.QueryStep.{Shown, Said, replies, finds, opens, Spoken, ask}
+use Rattle.calls.specs.Table.{Refusal, refusedWith, row, givenRows, fileSize}
 
 pub record VerifierState : Type 0 where
   pub start : Start
   -- "challenges known beforehand", n of them
   pub challenges : List ℕ
   -- the items answered, the newest first
-  pub items : List Raw
+  pub items : List Given
   pub closed : Bool
   -- how many messages passed; after a no, its round
   pub round : ℕ
@@ -37,7 +38,7 @@ pub record VerifierState : Type 0 where
 abbrev pub freshVerifierState : Start → List ℕ → VerifierState
 freshVerifierState s cs = record { start = s; challenges = cs; items = []; closed = false; round = 0; refuted = false }
 
-abbrev pub takesItem : VerifierState → Raw → VerifierState
+abbrev pub takesItem : VerifierState → Given → VerifierState
 takesItem a x =
     record { start = a .start; challenges = a .challenges; items = x ∷ a .items; closed = a .closed; round = a .round; refuted = a .refuted }
 
@@ -45,21 +46,19 @@ abbrev pub atRound : VerifierState → ℕ → Bool → VerifierState
 atRound a i over = record { start = a .start; challenges = a .challenges; items = a .items; closed = true; round = i; refuted = over }
 
 -- a message that passed, or a no with its round; a yes to a file heard every message
-abbrev pub hearing : VerifierState → Told → VerifierState
-hearing a told.Taken = a
-hearing a told.Closed = atRound a (a .round) (a .refuted)
-hearing a told.Passed = atRound a (suc (a .round)) false
-hearing a told.Yes = atRound a (a .start .rounds) false
-hearing a (told.No k) = atRound a k true
-hearing a (told.NoF j) = a
-hearing a (told.NoG j) = a
-hearing a (told.Refused k) = a
-hearing a (told.RefusedAt k i) = a
+abbrev pub hearing : VerifierState → Said → VerifierState
+hearing a (replies reply.started) = a
+hearing a (replies reply.taken) = a
+hearing a (replies reply.closed) = atRound a (a .round) (a .refuted)
+hearing a (replies reply.passed) = atRound a (suc (a .round)) false
+hearing a (replies (reply.no k)) = atRound a k true
+hearing a (finds yes) = atRound a (a .start .rounds) false
+hearing a (finds (no k)) = atRound a k true
+hearing a (opens x) = a
 
 -- the state after an answered call
-abbrev pub hears : VerifierState → Query → Told → VerifierState
-hears a (query.Item z w) t = takesItem a (reading z w)
-hears a (query.FieldItem x y) t = takesItem a (numbers x y)
+abbrev pub hears : VerifierState → Query → Said → VerifierState
+hears a (query.Give x) t = takesItem a x
 hears a (query.Close z) t = hearing a t
 hears a (query.CloseClaim c) t = hearing a t
 hears a (query.Message even cross odd) t = hearing a t
@@ -67,19 +66,21 @@ hears a query.Verdict t = hearing a t
 hears a query.Proof t = hearing a t
 hears a (query.CheckOpening b) t = a
 
-abbrev pub followHeard : VerifierState → Query → Heard → VerifierState
-followHeard a c o = cond (isTold (o .told)) (hears a c (o .told)) a
+abbrev pub followHeard : VerifierState → Query → Outcome Said → VerifierState
+followHeard a c (answered x) = hears a c x
+followHeard a c (refused k) = a
+followHeard a c (refusedAt k i) = a
 
 -- THE TABLE
--- "item or close with no pass open", here after the close; 8; the other kind of run
-abbrev pub passRows : VerifierState → Bool → Bool → Option Refusal → Option Refusal
-passRows a count kind rest = row (not (a .closed)) 10 (row count 8 (row kind 10 rest))
-
 abbrev pub isWanted : VerifierState → Bool
 isWanted a = ltb (length (a .items)) (a .start .items)
 
 abbrev pub isWhole : VerifierState → Bool
 isWhole a = eqb (length (a .items)) (a .start .items)
+
+-- "item or close with no pass open", here after the close; 8; the other kind of run
+abbrev pub closeRows : VerifierState → Bool → Option Refusal → Option Refusal
+closeRows a kind rest = row (not (a .closed)) 10 (row (isWhole a) 8 (row kind 10 rest))
 
 -- the rows of the proof file, for the verifier's n
 abbrev pub fileRows : ℕ → ℕ → List ℕ → Option Refusal
@@ -87,20 +88,19 @@ fileRows p n file =
     row (marked 80 10 file) 1
     (row (eqb (versionOf file) 1) 2
     (row (eqb (proofRounds file) n) 3
-    (row (eqb (length file) (18 + 12 * n)) 4
+    (row (eqb (length file) (fileSize n)) 4
     (row (inLimits p (proofTotal file)) 7 (row (allBelow p (proofNumber file) (3 * n + 2)) 11 none)))))
 
 unfoldable pub verifierTable : ℕ → VerifierState → Query → Shown → Option Refusal
-verifierTable p a (query.Item z w) l = passRows a (isWanted a) (a .start .plain) (rowAt (leb w maxWeight) 5 (length (a .items)) none)
-verifierTable p a (query.FieldItem x y) l = passRows a (isWanted a) (not (a .start .plain)) (row (ltb x p && ltb y p) 16 none)
-verifierTable p a (query.Close t) l = passRows a (isWhole a) (a .start .plain) (row (inLimits p t) 7 none)
-verifierTable p a (query.CloseClaim c) l = passRows a (isWhole a) (not (a .start .plain)) (row (ltb c p) 11 none)
+verifierTable p a (query.Give x) l = row (not (a .closed)) 10 (row (isWanted a) 8 (givenRows p (a .start) (length (a .items)) x none))
+verifierTable p a (query.Close t) l = closeRows a (a .start .plain) (row (inLimits p t) 7 none)
+verifierTable p a (query.CloseClaim c) l = closeRows a (not (a .start .plain)) (row (ltb c p) 11 none)
 -- "message or verdict before its pass is closed; message after the last or after a no; verdict before the last message without a no"
 verifierTable p a (query.Message even cross odd) l =
     row (a .closed && (not (a .refuted) && ltb (a .round) (a .start .rounds))) 12
     (row (ltb even p && (ltb cross p && ltb odd p)) 11 none)
 verifierTable p a query.Verdict l = row (a .closed && (a .refuted || eqb (a .round) (a .start .rounds))) 12 none
-verifierTable p a query.Proof l = passRows a (isWhole a) (a .start .plain) (fileRows p (a .start .rounds) (l .file))
+verifierTable p a query.Proof l = closeRows a (a .start .plain) (fileRows p (a .start .rounds) (l .file))
 verifierTable p a (query.CheckOpening b) l =
     row (ltb 0 (a .start .rounds)) 10
     (row (isNonzero p b) 6
@@ -119,24 +119,17 @@ pub record Hearing : Type 0 where
   pub verifier : Verifier
 
 -- what an answered start gives
-abbrev pub startVerifier : Start → List ℕ → Verifier
-startVerifier s cs = freshVerifier (s .items) (s .rounds) (s .plain) (s .twists) (fifteen (s .rounds) cs)
-
 abbrev pub freshHearing : Start → List ℕ → Hearing
-freshHearing s cs = record { state = freshVerifierState s cs; verifier = startVerifier s cs }
+freshHearing s cs = record { state = freshVerifierState s cs; verifier = verifierOf s cs }
 
 module _ (p : ℕ) where
-  abbrev pub heard : Hearing → Posed → Heard
+  abbrev pub heard : Hearing → Posed → Spoken
   heard h m = ask p (h .verifier) (m .query) (m .shown)
 
   abbrev pub hearsOn : Hearing → Posed → Hearing
-  hearsOn h m = record { state = followHeard (h .state) (m .query) (heard h m); verifier = heard h m .verifier }
-
-abbrev pub refusedTold : ℕ → Option ℕ → Told
-refusedTold k none = told.Refused k
-refusedTold k (some i) = told.RefusedAt k i
+  hearsOn h m = record { state = followHeard (h .state) (m .query) (heard h m .told); verifier = heard h m .verifier }
 
 -- refused exactly when, and with the number that, the table says; then nothing changes
-abbrev pub DecidesHeard : Verifier → Option Refusal → Heard → Type 0
-DecidesHeard v none o = isTold (o .told) ≡ true
-DecidesHeard v (some k) o = o ≡ record { verifier = v; told = refusedTold (k .0) (k .1) }
+abbrev pub DecidesHeard : Verifier → Option Refusal → Spoken → Type 0
+DecidesHeard v none o = isAnswered (o .told) ≡ true
+DecidesHeard v (some k) o = o ≡ record { verifier = v; told = refusedWith (k .0) (k .1) }

@@ -1,33 +1,22 @@
 -- The starts of a run and of a verifier: refused exactly by 3 and 6, and otherwise the fresh record that every list begins with.
-use Prim.Native.Nat.{ℕ, _^_, _≤_}
+use Prim.Native.Nat.{ℕ, _≤_}
 use mathlib.Core.Path.{_≡_}
 use mathlib.Core.Bool.{true, false, _&&_}
 use mathlib.Core.List.{List}
 use mathlib.Core.Option.{Option, none}
 use lib.Dec.{eqb, leb}
-use lib.ListN.{length, replicate}
+use lib.ListN.{length}
 use Rattle.refusal.specs.Outcome.{Outcome, answered}
 use Rattle.vector.specs.Rounds.{roundsOf}
-use Rattle.vector.specs.Slice.{isNonzero, allNonzero, fifteen}
-use Rattle.vector.specs.Twist.{twistsOf}
+use Rattle.vector.specs.Slice.{isNonzero, allNonzero}
+use Rattle.item.specs.declared.Start.{Start}
+use Rattle.item.specs.Start.{plainStart, twistedStart, ruleStart}
 use Rattle.prover.specs.Records.{Out}
 use Rattle.prover.specs.Start as prover
-use Rattle.verifier.specs.declared.Step.{Step}
+use Rattle.verifier.specs.Records.{Replied}
 use Rattle.verifier.specs.Starts as verifier
-use Rattle.runs.specs.Trip.{Start, Trip}
+use Rattle.runs.specs.Trip.{Trip}
 use Rattle.calls.specs.Table.{Refusal, row, decided}
-use Rattle.calls.specs.World.{startRun}
-use Rattle.calls.specs.QueryState.{startVerifier}
-
--- what the three starts fix
-abbrev pub plainStart : ℕ → Start
-plainStart items = record { items = items; rounds = roundsOf items; plain = true; twists = replicate 15 0 }
-
-abbrev pub twistedStart : ℕ → List ℕ → Start
-twistedStart items twists = record { items = items; rounds = roundsOf items; plain = false; twists = fifteen (roundsOf items) twists }
-
-abbrev pub ruleStart : ℕ → ℕ → ℕ → Start
-ruleStart p n v = record { items = 2 ^ n; rounds = n; plain = false; twists = twistsOf p v n }
 
 -- L from 1 to 32,768, and n of it
 pub record Startable (s : Start) : Type 0 where
@@ -52,11 +41,11 @@ ruleRows p n v rest = row (leb n 15) 3 (row (isNonzero p v) 6 rest)
 
 -- refused by these rows, and otherwise the run's fresh record, or the verifier's
 abbrev pub StartsRun : Option Refusal → Start → Outcome Out → Type 0
-StartsRun t s o = (o ≡ decided t (answered (prover.started (startRun s)))) × (t ≡ none → Startable s)
+StartsRun t s o = (o ≡ decided t (answered (prover.started (prover.freshRun s)))) × (t ≡ none → Startable s)
 
-abbrev pub StartsVerifier : Option Refusal → Start → List ℕ → Outcome Step → Type 0
+abbrev pub StartsVerifier : Option Refusal → Start → List ℕ → Outcome Replied → Type 0
 StartsVerifier t s cs o =
-    (o ≡ decided t (answered (verifier.startedWith (startVerifier s cs)))) × (t ≡ none → Startable s × (length cs ≡ s .rounds))
+    (o ≡ decided t (answered (verifier.startedWith (verifier.verifierOf s cs)))) × (t ≡ none → Startable s × (length cs ≡ s .rounds))
 
 pub record Starts (p : ℕ) : Type 0 where
   pub plain : (items : ℕ) → StartsRun (countRow items none) (plainStart items) (prover.startPlain items)

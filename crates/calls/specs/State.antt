@@ -12,7 +12,8 @@ use Rattle.prover.specs.declared.Next.the-variants as next
 use Rattle.prover.specs.declared.Kind.{Kind}
 use Rattle.prover.specs.declared.Kind.the-variants.{Shut, Asked, Change}
 use Rattle.prover.specs.Records.{isChange, isFull}
-use Rattle.runs.specs.Trip.{Raw, reading, numbers, Start}
+use Rattle.item.specs.declared.Start.{Start}
+use Rattle.item.specs.declared.Given.{Given}
 use Rattle.calls.specs.declared.Call.{Call}
 use Rattle.calls.specs.declared.Call.the-variants as call
 use Rattle.calls.specs.Step.{Lent, Result, isAnswered}
@@ -27,7 +28,7 @@ pub record Turn : Type 0 where
 pub record Taking : Type 0 where
   pub kind : Kind
   pub point : ℕ
-  pub items : List Raw
+  pub items : List Given
 
 -- as the last answered call that had them left them
 pub record Buffers : Type 0 where
@@ -49,7 +50,7 @@ fresh s f g =
     record { start = s; turn = record { mode = Small; next = next.Total; challenges = [] }; pass = noPass; buffers = record { f = f; g = g } }
 
 -- a pass opened anew: "opening a pass anew drops the unfinished one"
-abbrev pub inPass : State → Kind → ℕ → List Raw → State
+abbrev pub inPass : State → Kind → ℕ → List Given → State
 inPass a k b xs =
     record { start = a .start; turn = a .turn; pass = record { kind = k; point = b; items = xs }; buffers = a .buffers }
 
@@ -89,7 +90,7 @@ withBuffers a l = record { start = a .start; turn = a .turn; pass = a .pass; buf
 abbrev pub buffersIn : Bool → State → Lent → State
 buffersIn has a l = cond has (withBuffers a l) a
 
-abbrev pub withItem : State → Raw → Lent → State
+abbrev pub withItem : State → Given → Lent → State
 withItem a x l = buffersIn (isChange (a .pass .kind)) (inPass a (a .pass .kind) (a .pass .point) (x ∷ a .pass .items)) l
 
 -- the state after an answered call that left l
@@ -98,8 +99,7 @@ goesOn a call.OpenPass l = inPass a Asked 0 []
 goesOn a (call.OpenAt b) l = inPass a Asked b []
 goesOn a call.ToFull l = withBuffers (inPass a Change 0 []) l
 goesOn a call.ToSmall l = a
-goesOn a (call.Item r w) l = withItem a (reading r w) l
-goesOn a (call.FieldItem x y) l = withItem a (numbers x y) l
+goesOn a (call.Give x) l = withItem a x l
 goesOn a call.Close l = closed a (a .turn .next) (a .pass .kind)
 goesOn a call.Message l = withBuffers (goesTo a next.Challenge) l
 goesOn a (call.Challenge c) l = buffersIn (isFull (a .turn .mode)) (takesChallenge a c) l

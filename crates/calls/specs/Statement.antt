@@ -15,27 +15,22 @@ use Rattle.prover.specs.declared.Kind.the-variants.{Asked}
 use Rattle.prover.specs.declared.Next.the-variants as next
 use Rattle.prover.specs.declared.Run.{Run}
 use Rattle.prover.specs.declared.Pass.{Pass}
-use Rattle.prover.specs.declared.Answer.{Answer}
-use Rattle.prover.specs.declared.Answer.the-variants as answer
 use Rattle.prover.specs.Records.{kernelOf, noValues, isFull}
+use Rattle.item.specs.declared.Given.the-variants.{Reading}
 use Rattle.runs.specs.Trip.{Trip, vectorF, vectorG}
 use Rattle.runs.specs.Buffers.{Written}
 use Rattle.calls.specs.declared.Call.{Call}
 use Rattle.calls.specs.declared.Call.the-variants as call
 use Rattle.calls.specs.Step.{Lent, Result, isAnswered}
 use Rattle.calls.specs.State.{State, goesOn}
-use Rattle.calls.specs.Table.{Refusal, waits, passLevel, long, taken, completed}
+use Rattle.calls.specs.Table.{Refusal, refusedWith, waits, passLevel, long, taken, completed, fileSize}
 use Rattle.calls.specs.Meaning.{meaning, proofOfTrip, foldF, foldG, bindsItem, writes}
 
 -- "reading (signed 16-bit two's complement)": what the machine's type lets in
 abbrev pub Sized : Call → Type 0
-Sized c = (r : ℤ) (w : ℕ) → c ≡ call.Item r w → natAbs r ≤ 32768
+Sized c = (r : ℤ) (w : ℕ) → c ≡ call.Give (Reading r w) → natAbs r ≤ 32768
 
 -- REFUSED EXACTLY WHEN, AND WITH THE NUMBER THAT, THE TABLE SAYS: then "state and buffers are unchanged"
-abbrev pub refusedWith : ℕ → Option ℕ → Answer
-refusedWith k none = answer.Refused k
-refusedWith k (some i) = answer.RefusedAt k i
-
 abbrev pub Decides : Run → Pass → Lent → Option Refusal → Result → Type 0
 Decides r s l none o = isAnswered (o .answer) ≡ true
 Decides r s l (some k) o = o ≡ record { run = r; pass = s; answer = refusedWith (k .0) (k .1); values = noValues; lent = l }
@@ -80,5 +75,5 @@ pub record Right (p : ℕ) (T : Trip) (a : State) (c : Call) (l : Lent) (o : Res
   pub values : o .values ≡ meaning p T a c .values
   pub f : Written (foldF p T (goesOn a c (o .lent))) (writes a c .0) (writes a c .1) (l .f) (o .lent .f)
   pub g : Written (foldG p T (goesOn a c (o .lent))) (writes a c .0) (writes a c .1) (l .g) (o .lent .g)
-  pub proof : c ≡ call.WriteProof → o .lent .file ≡ proofOfTrip p T (a .turn .challenges) ++ drop (18 + 12 * T .start .rounds) (l .file)
+  pub proof : c ≡ call.WriteProof → o .lent .file ≡ proofOfTrip p T (a .turn .challenges) ++ drop (fileSize (T .start .rounds)) (l .file)
   pub file : (c ≡ call.WriteProof → ⊥) → o .lent .file ≡ l .file

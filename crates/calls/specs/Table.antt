@@ -9,6 +9,9 @@ use Rattle.refusal.specs.Outcome.{Outcome, refused, refusedAt}
 use Rattle.field.specs.Total.{inLimits}
 use Rattle.vector.specs.Rounds.{size}
 use Rattle.vector.specs.Slice.{allReduced, isNonzero}
+use Rattle.item.specs.declared.Start.{Start}
+use Rattle.item.specs.declared.Given.{Given}
+use Rattle.item.specs.declared.Given.the-variants.{Reading, Numbers}
 use Rattle.prover.specs.declared.Mode.{Mode}
 use Rattle.prover.specs.declared.Next.{Next}
 use Rattle.prover.specs.declared.Next.the-variants as next
@@ -31,10 +34,13 @@ abbrev pub rowAt : Bool → ℕ → ℕ → Option Refusal → Option Refusal
 rowAt ok k i rest = cond ok rest (some (k, some i))
 
 -- what such a number makes of an outcome
+abbrev pub refusedWith : {A : Type 0} → ℕ → Option ℕ → Outcome A
+refusedWith k none = refused k
+refusedWith k (some i) = refusedAt k i
+
 abbrev pub decided : {A : Type 0} → Option Refusal → Outcome A → Outcome A
 decided none o = o
-decided (some (k, none)) o = refused k
-decided (some (k, some i)) o = refusedAt k i
+decided (some k) o = refusedWith (k .0) (k .1)
 
 abbrev pub rank : Next → ℕ
 rank next.Total = 0
@@ -95,9 +101,10 @@ bothLong a l = leb (long a) (length (l .f)) && leb (long a) (length (l .g))
 abbrev pub readRows : ℕ → State → Lent → Option Refusal
 readRows p a l = row (bothLong a l) 9 (row (allReduced p (long a) (l .f) && allReduced p (long a) (l .g)) 16 none)
 
--- "item or close with no pass open"; "item beyond L"; an item of the other kind of run is not next
-abbrev pub itemRows : State → Bool → Option Refusal → Option Refusal
-itemRows a kind rest = row (isOpen (a .pass .kind)) 10 (row (ltb (length (a .pass .items)) (a .start .items)) 8 (row kind 10 rest))
+-- an item of the other kind of run is not next; "weight above 1,440", with the index i; a number "P or more"
+abbrev pub givenRows : ℕ → Start → ℕ → Given → Option Refusal → Option Refusal
+givenRows p s i (Reading r w) rest = row (s .plain) 10 (rowAt (leb w maxWeight) 5 i rest)
+givenRows p s i (Numbers x y) rest = row (not (s .plain)) 10 (row (ltb x p && ltb y p) 16 rest)
 
 -- only a change pass has the buffers
 abbrev pub placeRow : State → Lent → Option Refusal
@@ -107,15 +114,21 @@ placeRow a l = row (not (isChange (a .pass .kind)) || bothLong a l) 9 none
 abbrev pub totalFits : ℕ → State → Bool
 totalFits p a = not (waits next.Total (a .turn .next) && a .start .plain) || inLimits p (sumOf (a .pass .items))
 
+-- the proof file of n rounds, in bytes
+abbrev pub fileSize : ℕ → ℕ
+fileSize n = 18 + 12 * n
+
 -- THE TABLE: none where the call is answered
 unfoldable pub table : ℕ → State → Call → Lent → Option Refusal
 table p a call.OpenPass l = row (passNext (a .turn .mode) (a .turn .next)) 10 none
 table p a (call.OpenAt b) l = row (isSmall (a .turn .mode) && openingsNext (a .turn .next) (a .start .rounds)) 10 (row (isNonzero p b) 6 none)
 table p a call.ToFull l = row (changeNext (a .turn .mode) (a .turn .next) (a .start .rounds)) 10 (row (bothLong a l) 9 none)
 table p a call.ToSmall l = some (10, none)
-table p a (call.Item r w) l =
-    itemRows a (a .start .plain) (rowAt (leb w maxWeight) 5 (a .start .items - 1 - length (a .pass .items)) (placeRow a l))
-table p a (call.FieldItem x y) l = itemRows a (not (a .start .plain)) (row (ltb x p && ltb y p) 16 (placeRow a l))
+-- "item or close with no pass open"; "item beyond L"
+table p a (call.Give x) l =
+    row (isOpen (a .pass .kind)) 10
+    (row (ltb (length (a .pass .items)) (a .start .items)) 8
+    (givenRows p (a .start) (a .start .items - 1 - length (a .pass .items)) x (placeRow a l)))
 table p a call.Close l =
     row (isOpen (a .pass .kind)) 10 (row (eqb (length (a .pass .items)) (a .start .items)) 8 (row (totalFits p a) 7 none))
 table p a call.Message l = row (isFull (a .turn .mode) && waits next.Message (a .turn .next)) 10 (readRows p a l)
@@ -125,4 +138,4 @@ table p a call.Ends l = row (isFull (a .turn .mode) && waits next.Ends (a .turn 
 table p a (call.Opening b) l =
     row (isFull (a .turn .mode) && openingsNext (a .turn .next) (a .start .rounds)) 10 (row (isNonzero p b) 6 (readRows p a l))
 table p a call.WriteProof l =
-    row (a .start .plain && waits next.Openings (a .turn .next)) 10 (row (leb (18 + 12 * a .start .rounds) (length (l .file))) 9 none)
+    row (a .start .plain && waits next.Openings (a .turn .next)) 10 (row (leb (fileSize (a .start .rounds)) (length (l .file))) 9 none)

@@ -4,7 +4,7 @@ use mathlib.Core.List.{List}
 use Rattle.prover.specs.declared.Run.{Run}
 use Rattle.prover.specs.declared.Pass.{Pass}
 use Rattle.prover.specs.Start.{freshRun, zeroPass}
-use Rattle.runs.specs.Trip.{Start}
+use Rattle.item.specs.declared.Start.{Start}
 use Rattle.calls.specs.declared.Call.{Call}
 use Rattle.calls.specs.Step.{Lent, Result, step}
 use Rattle.calls.specs.State.{State, fresh, follow}
@@ -21,11 +21,8 @@ pub record World : Type 0 where
   pub pass : Pass
 
 -- "A fresh run is what an answered start gives"
-abbrev pub startRun : Start → Run
-startRun s = freshRun (s .items) (s .rounds) (s .plain) (s .twists)
-
 abbrev pub freshWorld : Start → List ℕ → List ℕ → World
-freshWorld s f g = record { state = fresh s f g; run = startRun s; pass = zeroPass }
+freshWorld s f g = record { state = fresh s f g; run = freshRun s; pass = zeroPass }
 
 module _ (p : ℕ) where
   abbrev pub came : World → Made → Result

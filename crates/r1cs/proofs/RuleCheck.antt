@@ -17,8 +17,7 @@ use Rattle.vector.specs.Vector.{Vector, at, sum}
 use Rattle.vector.specs.Slice.{isNonzero}
 use Rattle.vector.proofs.Horner.{evaluate-same}
 use Rattle.vector.proofs.Overwrite.{overwrite-length, overwrite-kept, overwrite-written}
-use Rattle.verifier.specs.declared.Step.{Step}
-use Rattle.verifier.specs.Records.{yes, no}
+use Rattle.verifier.specs.Records.{Replied, yes, no}
 use Rattle.verifier.specs.Starts.{startRule}
 use Rattle.verifier.proofs.Answered.{start-rule-says}
 use Rattle.r1cs.specs.Product.{matrixIn, productOf, productCall, productIn, productLeaves}
@@ -119,7 +118,7 @@ module _ (p : ℕ) (fileA fileB fileC z outA outB outC : List ℕ) (n v : ℕ)
         (sym (rule-claim p v n (product-rounds p fileA z outA n answers-a) az bz (productOf p n fileC z) rows-hold))
 
   -- a verifier started for the run, the products given to it, the claim in place of the total, and the run's messages
-  module _ (cs : List ℕ) (s : Step) (starts : startRule p n v cs ≡ answered s) (claim : ℕ) (claims : claimCall p cz n v ≡ answered claim) where
+  module _ (cs : List ℕ) (s : Replied) (starts : startRule p n v cs ≡ answered s) (claim : ℕ) (claims : claimCall p cz n v ≡ answered claim) where
     point : isNonzero p v ≡ true
     point = start-rule-says p n v cs starts .1
 

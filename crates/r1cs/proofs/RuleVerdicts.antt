@@ -16,8 +16,7 @@ use Rattle.vector.specs.Fold.{endValue}
 use Rattle.vector.specs.Message.{Message}
 use Rattle.vector.specs.Message as vector
 use Rattle.vector.proofs.Messages.{message-passes, first-claim, last-claim}
-use Rattle.verifier.specs.declared.Step.{Step}
-use Rattle.verifier.specs.Records.{yes, no}
+use Rattle.verifier.specs.Records.{Replied, yes, no}
 use Rattle.verifier.specs.Starts.{startRule}
 use Rattle.verifier.specs.Openings.{firstFault}
 use Rattle.verifier.specs.Trips.{claimAt, verdictOf}
@@ -43,7 +42,7 @@ module _ (p : ℕ) (c : ℕ → ℕ) (f g : Vector) (claim : ℕ) where
       message-passes p (suc n) c f g 0 (omega arith) ∙ first-claim p (suc n) c f g in
       rw (ne-eqb (vector.passes p (m 0)) claim (λ e. other (sym total ∙ e)), lt-ltb 0 (suc n) (omega arith))
 
-module _ (p n v : ℕ) (cs : List ℕ) (a b : Vector) (s : Step) (starts : startRule p n v cs ≡ answered s)
+module _ (p n v : ℕ) (cs : List ℕ) (a b : Vector) (s : Replied) (starts : startRule p n v cs ≡ answered s)
     (field-a : (i : ℕ) → i < 2 ^ n → a i < p) (field-b : (i : ℕ) → i < 2 ^ n → b i < p) where
   small : n ≤ 15
   small = leb-true n 15 (start-rule-says p n v cs starts .0)
@@ -65,7 +64,7 @@ module _ (p n v : ℕ) (cs : List ℕ) (a b : Vector) (s : Step) (starts : start
       ≡ answered (verdictOf p (at cs) n claim m (mulMod p (endValue p (at cs) n f) (endValue p (at cs) n g)))
   rule-finds claim m h reduced =
       let started = start-rule-says p n v cs starts in
-      ap (λ (t : Step). ruleVerdict p n (t .verifier) a b claim m) (started .3)
+      ap (λ (t : Replied). ruleVerdict p n (t .verifier) a b claim m) (started .3)
       ∙ rule-verdict p n v cs a b small (started .2) field-a field-b claim m h reduced
       ∙ ap (λ u. answered (verdictOf p (at cs) n claim m (mulMod p (endValue p (at cs) n u) (endValue p (at cs) n g))))
       (sym (rule-first p v n small a))

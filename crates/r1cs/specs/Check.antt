@@ -12,7 +12,7 @@ use Rattle.vector.specs.Twist.{twistsOf}
 use Rattle.verifier.specs.declared.Verifier.{Verifier}
 use Rattle.verifier.specs.Records.{leaves, Finding}
 use Rattle.verifier.specs.Calls.{closeClaim, verdict}
-use Rattle.verifier.specs.Trips.{afterCalls, fieldItems, messages}
+use Rattle.verifier.specs.Trips.{afterCalls, givenItems, numberItems, messages}
 use Rattle.r1cs.specs.Product.{productOf}
 
 -- "v_j = v^(2^j)", for j below n
@@ -47,7 +47,7 @@ RulesHold p n fileA fileB fileC z = NoRowFails p n (productOf p n fileA z) (prod
 
 -- a verifier given the items of a and b first to last, then a claim "in place of the total", then n messages; and its verdict
 abbrev pub afterItems : ℕ → ℕ → Verifier → Vector → Vector → Verifier
-afterItems p n w a b = afterCalls (fieldItems p a b) w (2 ^ n)
+afterItems p n w a b = afterCalls (givenItems p (numberItems a b)) w (2 ^ n)
 
 abbrev pub afterClaim : ℕ → Verifier → ℕ → Verifier
 afterClaim p w claim = leaves w (closeClaim p w claim) .verifier

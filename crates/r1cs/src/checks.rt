@@ -5,6 +5,7 @@ ghost use Rattle.refusal.specs.Limit.{maxRounds};
 ghost use Rattle.vector.specs.Slice.{isNonzero};
 ghost use Rattle.r1cs.specs.Product.{passed, ruleVector};
 use super::Check;
+use field::Checked;
 use field::Field;
 
 // 3: n at most 15.
@@ -21,10 +22,10 @@ pub fn rounds_fit(n: u32) -> Check
 pub fn nonzero(v: u32) -> Check
     ensures { λ r. ⌜ passed r ≡ isNonzero 2147483647 v ⌝ }
 {
-    if vector::slice::is_nonzero(Field::MODULUS, v) {
-        return Check::Passed;
+    match Field::nonzero_in(Field::MODULUS, v) {
+        Checked::Number(_) => Check::Passed,
+        Checked::Unreduced => Check::Failed,
     }
-    Check::Failed
 }
 
 // 16: 2^n field numbers.
