@@ -1,22 +1,25 @@
 -- DEMAND 3, proved: for any odd prime modulus above the largest weight that fits 32 bits, and so for 2,147,483,647.
-use mathlib.Core.Path.{_≡_, sym, ap, ap₂, _∙_}
+use mathlib.Core.Path.{_≡_, sym, ap, ap₂, subst, _∙_}
 use mathlib.Core.Bool.{Bool, true}
 use mathlib.Core.List.{List, [], _∷_, _++_}
 use Prim.Native.Nat.{ℕ, _*_, _%_, _^_, _<_, _≤_}
 use lib.ListN.{length, take}
 use Rattle.algebra.specs.Prime.{Prime}
 use Rattle.refusal.specs.Limit.{maxWeight}
+use Rattle.refusal.specs.Outcome.{answered}
+use Rattle.field.proofs.ModulusLaws.{modulus-odd, modulus-prime, modulus-word, modulus-weights}
 use Rattle.vector.specs.Vector.{at}
 use Rattle.vector.specs.Opening.{opening}
+use Rattle.item.specs.declared.Start.{Start}
+use Rattle.item.specs.Start.{modulusOf}
 use Rattle.runs.specs.Trip.{Trip, vectorF, vectorG}
 use Rattle.calls.specs.declared.query.Query.{Query}
 use Rattle.calls.specs.declared.query.Query.the-variants as query
-use Rattle.calls.specs.declared.query.Told.{Told}
 use Rattle.calls.specs.Lists.{after, along}
 use Rattle.calls.specs.Step.{isAnswered}
 use Rattle.calls.specs.World.{Made, World, freshWorld, came, onward}
-use Rattle.calls.specs.Meaning.{reply, meaning, messageAt, proofOfTrip}
-use Rattle.calls.specs.QueryStep.{Shown}
+use Rattle.calls.specs.Meaning.{meant, meaning, messageAt, proofOfTrip}
+use Rattle.calls.specs.QueryStep.{Shown, Said}
 use Rattle.calls.specs.QueryState.{VerifierState, Posed, Hearing, freshHearing, heard, hearsOn}
 use Rattle.calls.specs.Given.{replyOf, BringsRun, SaysRun}
 use Rattle.calls.specs.Starts.{Whole}
@@ -38,8 +41,7 @@ use Rattle.calls.proofs.StartRows.{all-starts}
 module _ (p : ℕ) (large : maxWeight < p) (through : Bool) (T : Trip) (whole : Whole T) (cs : List ℕ) (w : World) {past : Notes}
     (going : Going p large through T (whole .items) w past) (ms : List Made) (z : AllSized p w ms) (kept : AllKept p through T w ms) (takes : AllTake p cs w ms) where
   brings : (b : VerifierState) → b .challenges ≡ cs → (q : Query) (l : Shown) → BringsRun p T w ms b q l → BringsTrip p T b q l
-  brings b e (query.Item x v) l h = h
-  brings b e (query.FieldItem x y) l h = h
+  brings b e (query.Give x) l h = h
   brings b e (query.Close t) l h =
       let g = hit-somewhere p large through T (whole .items) cs _ _ w going ms z kept takes h in
       total-of p large through T (whole .items) cs t (g .0) (sym (g .1) ∙ hit-replies p large through T (whole .items) cs _ (g .0))
@@ -57,19 +59,19 @@ module _ (p : ℕ) (large : maxWeight < p) (through : Bool) (T : Trip) (whole : 
       (f .0 ∙ ap (proofOfTrip p T) (sym e), f .1)
   brings b e (query.CheckOpening x) l h = tt
 
-  says : (b : VerifierState) → b .start ≡ T .start → b .challenges ≡ cs → (q : Query) (l : Shown) (t : Told) → SaysTrip p T b q l t → SaysRun p T w ms b q l t
-  says b es ec (query.Item x v) l t h = h
-  says b es ec (query.FieldItem x y) l t h = h
-  says b es ec (query.Close x) l t h = h
-  says b es ec (query.CloseClaim c) l t h = h
-  says b es ec (query.Message even cross odd) l t h = h
-  says b es ec query.Verdict l t h = h
-  says b es ec query.Proof l t h = h
+  says : (b : VerifierState) → b .start ≡ T .start → b .challenges ≡ cs → (q : Query) (l : Shown) (t : Said) → SaysTrip p T b q l t → SaysRun p T w ms b q l (answered t)
+  says b es ec (query.Give x) l t h = ap (λ y. answered y) h
+  says b es ec (query.Close x) l t h = ap (λ y. answered y) h
+  says b es ec (query.CloseClaim c) l t h = ap (λ y. answered y) h
+  says b es ec (query.Message even cross odd) l t h = ap (λ y. answered y) h
+  says b es ec query.Verdict l t h = ap (λ y. answered y) h
+  says b es ec query.Proof l t h = ap (λ y. answered y) h
   says b es ec (query.CheckOpening x) l t h = λ values gave same.
       let g = hit-somewhere p large through T (whole .items) cs _ _ w going ms z kept takes gave in
-      h (same ∙ ap (λ st. take (6 * st .rounds) values) es
+      ap (λ y. answered y)
+      (h (same ∙ ap (λ st. take (6 * st .rounds) values) es
       ∙ opening-of p large through T (whole .items) cs x values (g .0) (sym (g .1) ∙ hit-replies p large through T (whole .items) cs _ (g .0))
-      ∙ ap (λ ds. opening p (T .start .rounds) (at ds) (vectorF p T) (vectorG p T) x) (sym ec))
+      ∙ ap (λ ds. opening p (T .start .rounds) (at ds) (vectorF p T) (vectorG p T) x) (sym ec)))
 
   -- A VERIFIER'S LIST that brings what the run gave
   module _ (prime : Prime p) (odd : p % 2 ≡ 1) (word : p ≤ 2 ^ 32) (listed : length cs ≡ T .start .rounds) where
@@ -79,7 +81,9 @@ module _ (p : ℕ) (large : maxWeight < p) (through : Bool) (T : Trip) (whole : 
     all-say h f (q ∷ qs) b =
         let brought : isAnswered (heard p h q .told) ≡ true → BringsTrip p T (h .state) (q .query) (q .shown)
         = λ y. brings (h .state) (f .challenges) (q .query) (q .shown) (b .0 y) in (
-          λ e. says (h .state) (f .start) (f .challenges) (q .query) (q .shown) (heard p h q .told) (says-trip p large prime odd word T whole cs listed h f q brought e),
+          λ e.
+              let s = says-trip p large prime odd word T whole cs listed h f q brought e in
+              subst (SaysRun p T w ms (h .state) (q .query) (q .shown)) (sym (s .0)) (says (h .state) (f .start) (f .challenges) (q .query) (q .shown) _ (s .1)),
           all-say (hearsOn p h q) (follows-next p large prime odd word T whole cs listed h f q brought) qs (b .1),
         )
 
@@ -105,7 +109,7 @@ module _ (p : ℕ) (large : maxWeight < p) (prime : Prime p) (odd : p % 2 ≡ 1)
         proper = λ T valid k cs bs l brought.
             (proper-answered p large T valid k cs bs l brought, proper-sized p large T valid k cs bs l brought, proper-kept p large T valid k cs bs l brought);
         alike = λ T whole th th′ f g f′ g′ ms ns m n z z′ kept kept′ challenges asked e e′.
-            replies th T whole f g ms m z kept e ∙ ap₂ (reply p T) challenges asked ∙ sym (replies th′ T whole f′ g′ ns n z′ kept′ e′);
+            replies th T whole f g ms m z kept e ∙ ap₂ (meant p T) challenges asked ∙ sym (replies th′ T whole f′ g′ ns n z′ kept′ e′);
         verifierRefusals = every-query p;
         verifierAnswers = λ through T whole f g ms z kept cs listed takes qs brought.
             all-say p large through T whole cs (freshWorld (T .start) f g) (fresh-going p large through T (whole .items) (whole .start) f g) ms z kept takes prime odd word listed
@@ -115,3 +119,8 @@ module _ (p : ℕ) (large : maxWeight < p) (prime : Prime p) (odd : p % 2 ≡ 1)
 -- of the customer's modulus
 pub demand3-31 : Demand3 2147483647
 demand3-31 = let m = modulus-31 in demand3 2147483647 (m .0) (m .1) (m .2) (m .3)
+
+-- at the modulus of a start's runs: what `make` and `ask` compute, whatever record they are handed
+pub demand3-of : (s : Start) → Demand3 (modulusOf s)
+unfolding modulusOf
+demand3-of s = demand3 _ modulus-weights modulus-prime modulus-odd modulus-word

@@ -56,8 +56,7 @@ module _ (p : ℕ) (through : Bool) (T : Trip) where
   keptTest a (call.OpenAt b) l = true
   keptTest a call.ToFull l = true
   keptTest a call.ToSmall l = true
-  keptTest a (call.Item z w) l = itemTest a (Reading z w) l
-  keptTest a (call.FieldItem x y) l = itemTest a (Numbers x y) l
+  keptTest a (call.Give x) l = itemTest a x l
   keptTest a call.Close l = true
   keptTest a call.Message l = leftTest a l
   keptTest a (call.Challenge c) l = cond (isFull (a .turn .mode)) (leftTest a l) true
@@ -126,8 +125,7 @@ module _ (p : ℕ) (through : Bool) (T : Trip) where
   kept a (call.OpenAt b) l e = tt
   kept a call.ToFull l e = tt
   kept a call.ToSmall l e = tt
-  kept a (call.Item z w) l e = item a (Reading z w) l e
-  kept a (call.FieldItem x y) l e = item a (Numbers x y) l e
+  kept a (call.Give x) l e = item a x l e
   kept a call.Close l e = tt
   kept a call.Message l e = left a l e
   kept a (call.Challenge c) l e = λ b. left a l (implied (isFull (a .turn .mode)) (leftTest p through T a l) e b)

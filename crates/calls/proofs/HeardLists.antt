@@ -11,15 +11,17 @@ use Rattle.algebra.specs.Prime.{Prime}
 use Rattle.algebra.proofs.Congruence.{residue-zero}
 use Rattle.algebra.proofs.Primes.{prime-31}
 use Rattle.refusal.specs.Limit.{maxWeight}
+use Rattle.refusal.specs.Outcome.{answered}
 use Rattle.vector.specs.Vector.{sum}
-use Rattle.verifier.specs.Starts.{freshVerifier}
+use Rattle.verifier.specs.Starts.{freshVerifier, verifierOf}
 use Rattle.runs.specs.Trip.{Trip}
-use Rattle.calls.specs.declared.query.Heard.{Heard}
+use Rattle.calls.specs.Step.{isAnswered}
+use Rattle.calls.specs.QueryStep.{Said, Spoken}
 use Rattle.calls.specs.QueryState.{VerifierState, freshVerifierState, hears, verifierTable, Posed, Hearing, heard, hearsOn}
 use Rattle.calls.specs.Starts.{Whole}
 use Rattle.calls.proofs.HeardMeaning.{BringsTrip, SaysTrip}
 use Rattle.calls.proofs.QueryStands.{fresh-stands}
-use Rattle.calls.proofs.QuerySteps.{answers, settledHeard, asks, answers-told}
+use Rattle.calls.proofs.QuerySteps.{saysSo, answers, settledHeard, asks}
 use Rattle.calls.proofs.QueryLists.{follows}
 use Rattle.calls.proofs.HeardFollows.{Follows}
 use Rattle.calls.proofs.HeardAnswers.{answers-right}
@@ -31,7 +33,7 @@ module _ (p : ℕ) (large : maxWeight < p) (prime : Prime p) (odd : p % 2 ≡ 1)
     abbrev a : VerifierState
     a = h .state
 
-    abbrev did : Heard
+    abbrev did : Spoken
     did = answers p (h .verifier) (q .query) (q .shown)
 
     same : heard p h q ≡ settledHeard (h .verifier) (verifierTable p a (q .query) (q .shown)) did
@@ -40,20 +42,22 @@ module _ (p : ℕ) (large : maxWeight < p) (prime : Prime p) (odd : p % 2 ≡ 1)
     let-through : verifierTable p a (q .query) (q .shown) ≡ none → heard p h q ≡ did
     let-through e = same ∙ ap (λ t. settledHeard (h .verifier) t did) e
 
+    abbrev said : Said
+    said = saysSo p (h .verifier) (q .query) (q .shown)
+
     -- an answered call brings the trip's
     right : verifierTable p a (q .query) (q .shown) ≡ none
-        → SaysTrip p T a (q .query) (q .shown) (did .told) × Follows p T cs (hears a (q .query) (did .told)) (did .verifier)
+        → SaysTrip p T a (q .query) (q .shown) said × Follows p T cs (hears a (q .query) said) (did .verifier)
     right e =
         answers-right p large prime odd word T (whole .start .most) (whole .start .rounds) (whole .items) cs listed a (h .verifier) f (q .query) (q .shown) e
-        (brings (ap (λ (o : Heard). isAnswered (o .told)) (let-through e) ∙ answers-told p (h .verifier) (q .query) (q .shown)))
+        (brings (ap (λ (o : Spoken). isAnswered (o .told)) (let-through e)))
 
-    pub says-trip : verifierTable p a (q .query) (q .shown) ≡ none → SaysTrip p T a (q .query) (q .shown) (heard p h q .told)
-    says-trip e = subst (λ (o : Heard). SaysTrip p T a (q .query) (q .shown) (o .told)) (sym (let-through e)) (right e .0)
+    pub says-trip : verifierTable p a (q .query) (q .shown) ≡ none → (heard p h q .told ≡ answered said) × SaysTrip p T a (q .query) (q .shown) said
+    says-trip e = (ap (λ (o : Spoken). o .told) (let-through e), right e .0)
 
     pub follows-next : Follows p T cs (hearsOn p h q .state) (hearsOn p h q .verifier)
     follows-next =
-        follows p a (h .verifier) (q .query) (Follows p T cs) (verifierTable p a (q .query) (q .shown)) did (heard p h q) same
-        (answers-told p (h .verifier) (q .query) (q .shown)) f (λ e. right e .1)
+        follows p a (h .verifier) (q .query) (q .shown) (Follows p T cs) (verifierTable p a (q .query) (q .shown)) (heard p h q) same f (λ e. right e .1)
 
   pub fresh-follows : Follows p T cs (freshVerifierState (T .start) cs) (verifierOf (T .start) cs)
   unfolding freshVerifier sum

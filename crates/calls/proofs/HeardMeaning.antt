@@ -6,20 +6,18 @@ use lib.ListN.{length}
 use Rattle.field.specs.Total.{inLimits}
 use Rattle.vector.specs.Vector.{at, dot}
 use Rattle.vector.specs.Opening.{opening}
-use Rattle.item.specs.declared.Given.the-variants.{Reading, Numbers}
+use Rattle.verifier.specs.Reply as reply
+use Rattle.verifier.specs.Records.{yes, holds}
 use Rattle.runs.specs.Trip.{Trip, itemOf, vectorF, vectorG, totalOf}
 use Rattle.calls.specs.declared.query.Query.{Query}
 use Rattle.calls.specs.declared.query.Query.the-variants as query
-use Rattle.calls.specs.declared.query.Told.{Told}
-use Rattle.calls.specs.declared.query.Told.the-variants as told
 use Rattle.calls.specs.Meaning.{messageAt, proofOfTrip}
-use Rattle.calls.specs.QueryStep.{Shown}
+use Rattle.calls.specs.QueryStep.{Shown, Said, replies, finds, opens}
 use Rattle.calls.specs.QueryState.{VerifierState}
 
 -- "the trip's items first to last, the run's total, and the run's messages in order or its proof file"
 abbrev pub BringsTrip : ℕ → Trip → VerifierState → Query → Shown → Type 0
-BringsTrip p T a (query.Item z w) l = Reading z w ≡ itemOf T (length (a .items))
-BringsTrip p T a (query.FieldItem x y) l = Numbers x y ≡ itemOf T (length (a .items))
+BringsTrip p T a (query.Give x) l = x ≡ itemOf T (length (a .items))
 BringsTrip p T a (query.Close t) l = t ≡ totalOf T
 BringsTrip p T a (query.CloseClaim c) l = c ≡ dot p (2 ^ T .start .rounds) (vectorF p T) (vectorG p T)
 BringsTrip p T a (query.Message even cross odd) l =
@@ -30,13 +28,12 @@ BringsTrip p T a query.Proof l = (l .file ≡ proofOfTrip p T (a .challenges)) �
 BringsTrip p T a (query.CheckOpening b) l = Unit {0}
 
 -- every message passes, every verdict is yes, and an opening of the trip at the point opens
-abbrev pub SaysTrip : ℕ → Trip → VerifierState → Query → Shown → Told → Type 0
-SaysTrip p T a (query.Item z w) l t = t ≡ told.Taken
-SaysTrip p T a (query.FieldItem x y) l t = t ≡ told.Taken
-SaysTrip p T a (query.Close z) l t = t ≡ told.Closed
-SaysTrip p T a (query.CloseClaim c) l t = t ≡ told.Closed
-SaysTrip p T a (query.Message even cross odd) l t = t ≡ told.Passed
-SaysTrip p T a query.Verdict l t = t ≡ told.Yes
-SaysTrip p T a query.Proof l t = t ≡ told.Yes
+abbrev pub SaysTrip : ℕ → Trip → VerifierState → Query → Shown → Said → Type 0
+SaysTrip p T a (query.Give x) l t = t ≡ replies reply.taken
+SaysTrip p T a (query.Close z) l t = t ≡ replies reply.closed
+SaysTrip p T a (query.CloseClaim c) l t = t ≡ replies reply.closed
+SaysTrip p T a (query.Message even cross odd) l t = t ≡ replies reply.passed
+SaysTrip p T a query.Verdict l t = t ≡ finds yes
+SaysTrip p T a query.Proof l t = t ≡ finds yes
 SaysTrip p T a (query.CheckOpening b) l t =
-    l .values ≡ opening p (T .start .rounds) (at (a .challenges)) (vectorF p T) (vectorG p T) b → t ≡ told.Yes
+    l .values ≡ opening p (T .start .rounds) (at (a .challenges)) (vectorF p T) (vectorG p T) b → t ≡ opens holds

@@ -1,5 +1,5 @@
 -- What the rows that an answered call passed say.
-use mathlib.Core.Path.{_≡_}
+use mathlib.Core.Path.{_≡_, sym, subst}
 use mathlib.Core.Bool.{Bool, true, false, not, _&&_, _||_}
 use mathlib.Core.Option.{Option, none}
 use Prim.Native.Nat.{ℕ}
@@ -20,7 +20,7 @@ use Rattle.calls.specs.QueryState.{VerifierState, closeRows, isWanted, i
 use Rattle.calls.specs.Table.{Refusal, row, givenRows}
 use Rattle.calls.proofs.Steps.{row-passed}
 use Rattle.calls.proofs.Turns.{row-at-passed}
-use Rattle.calls.proofs.ItemRows.{Limits}
+use Rattle.calls.proofs.HeardTrip.{Fine}
 
 -- a close while the pass is open, of all items and of the run's kind
 pub record InPass (a : VerifierState) (kind : Bool) (rows : Option Refusal) : Type 0 where
@@ -40,22 +40,24 @@ in-pass a kind rest e =
 pub record Taken (p : ℕ) (a : VerifierState) (x : Given) : Type 0 where
   pub unclosed : a .closed ≡ false
   pub counted : isWanted a ≡ true
-  pub limits : Limits p x
+  pub fine : Fine p (a .start .plain) x
 
 module _ (p : ℕ) (a : VerifierState) (l : Shown) where
-  own-rows : (x : Given) → givenRows p (a .start) (length (a .items)) x none ≡ none → Limits p x
+  own-rows : (x : Given) → givenRows p (a .start) (length (a .items)) x none ≡ none → Fine p (a .start .plain) x
   own-rows (Reading z w) e =
-      leb-true w maxWeight (row-at-passed (leb w maxWeight) 5 (length (a .items)) none (row-passed (a .start .plain) 10 _ e .1) .0)
+      let k = row-passed (a .start .plain) 10 _ e in
+      subst (λ b. Fine p b (Reading z w)) (sym (k .0)) (leb-true w maxWeight (row-at-passed (leb w maxWeight) 5 (length (a .items)) none (k .1) .0))
   own-rows (Numbers x y) e =
-      let q = both (ltb x p) (ltb y p) (row-passed (ltb x p && ltb y p) 16 none (row-passed (not (a .start .plain)) 10 _ e .1) .0) in
-      (ltb-true x p (q .0), ltb-true y p (q .1))
+      let k = row-passed (not (a .start .plain)) 10 _ e in
+      let q = both (ltb x p) (ltb y p) (row-passed (ltb x p && ltb y p) 16 none (k .1) .0) in
+      subst (λ b. Fine p b (Numbers x y)) (sym (not-true (a .start .plain) (k .0))) (ltb-true x p (q .0), ltb-true y p (q .1))
 
   pub item-rows : (x : Given) → verifierTable p a (query.Give x) l ≡ none → Taken p a x
   unfolding verifierTable
   item-rows x e =
       let y = row-passed (not (a .closed)) 10 _ e in
       let z = row-passed (isWanted a) 8 _ (y .1) in
-      record { unclosed = not-true (a .closed) (y .0); counted = z .0; limits = own-rows x (z .1) }
+      record { unclosed = not-true (a .closed) (y .0); counted = z .0; fine = own-rows x (z .1) }
 
   pub close-rows : (t : ℤ) → verifierTable p a (query.Close t) l ≡ none → InPass a (a .start .plain) (row (inLimits p t) 7 none)
   unfolding verifierTable

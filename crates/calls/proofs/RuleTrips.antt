@@ -11,13 +11,13 @@ use Rattle.vector.specs.Vector.{Vector, at, dot}
 use Rattle.vector.specs.Message.{message}
 use Rattle.vector.proofs.Rounds.{rounds-power}
 use Rattle.vector.proofs.TwistPowers.{twists-weight}
-use Rattle.prover.specs.declared.Answer.the-variants as answer
+use Rattle.prover.specs.Reply as reply
 use Rattle.item.specs.declared.Given.the-variants.{Numbers}
 use Rattle.item.specs.Item.{contributes}
 use Rattle.runs.specs.Trip.{Trip, itemOf, vectorF, vectorG}
 use Rattle.r1cs.specs.Check.{ruleFirst, ruleSecond, ruleTotal, ruleMessage}
 use Rattle.r1cs.proofs.RuleTotals.{padded-same, rule-first}
-use Rattle.calls.specs.Meaning.{reply, says, total, messageAt}
+use Rattle.calls.specs.Meaning.{meant, says, total, messageAt}
 use Rattle.calls.specs.Starts.{Whole}
 use Rattle.calls.specs.RuleTrip.{pairsFrom, ruleTrip}
 
@@ -48,15 +48,15 @@ module _ (p v n : ℕ) (few : n ≤ 15) (a b : Vector) where
   pub rule-vector-f : vectorF p T ≡ ruleFirst p v n a
   rule-vector-f =
       padded-same (2 ^ n) _ (λ i. mulMod p (a i) (powMod p v i))
-      (λ i less. ap₂ (λ x w. mulMod p (partsIn p x .f) w) (item-at i less) (twists-weight p v n i few less))
+      (λ i less. ap₂ (λ x w. mulMod p (contributes p (T .start) x .f) w) (item-at i less) (twists-weight p v n i few less))
       ∙ sym (rule-first p v n few a)
 
   pub rule-vector-g : vectorG p T ≡ ruleSecond n b
-  rule-vector-g = padded-same (2 ^ n) _ b (λ i less. ap (λ x. partsIn p x .g) (item-at i less))
+  rule-vector-g = padded-same (2 ^ n) _ b (λ i less. ap (λ x. contributes p (T .start) x .g) (item-at i less))
 
   -- the run's total is the check's, and so the claim where no row fails (r1cs: check-claim-total)
-  pub rule-run-total : (cs : List ℕ) → reply p T cs total ≡ says (answer.FieldTotal (ruleTotal p v n a b))
-  rule-run-total cs = ap₂ (λ f g. says (answer.FieldTotal (dot p (2 ^ n) f g))) rule-vector-f rule-vector-g
+  pub rule-run-total : (cs : List ℕ) → meant p T cs total ≡ says (reply.fieldTotal (ruleTotal p v n a b))
+  rule-run-total cs = ap₂ (λ f g. says (reply.fieldTotal (dot p (2 ^ n) f g))) rule-vector-f rule-vector-g
 
   -- and so are its messages
   pub rule-run-message : (cs : List ℕ) (i : ℕ) → messageAt p T cs i ≡ ruleMessage p v n (at cs) a b i
