@@ -37,38 +37,10 @@ use Rattle.calls.proofs.Live.{proper-answered, proper-sized, proper-kep
 use Rattle.calls.proofs.Alike.{last-replies}
 use Rattle.calls.proofs.Hits.{Going, gave-hit, wrote-hit}
 use Rattle.calls.proofs.Links.{total-of, claim-of, message-of, opening-of, file-of}
-use Rattle.calls.proofs.QueryLists.{every-query}
+use Rattle.calls.proofs.QueryLists.{follow-kept, every-query}
 use Rattle.calls.proofs.HeardLists.{every-query-right, modulus-31}
+use Rattle.calls.proofs.VerdictLists.{every-verdict}
 use Rattle.calls.proofs.StartRows.{all-starts}
-
--- a verifier keeps its start and its challenges
-heard-kept : (b : VerifierState) (t : Told) → (hearing b t .start ≡ b .start) × (hearing b t .challenges ≡ b .challenges)
-heard-kept b told.Taken = (refl, refl)
-heard-kept b told.Closed = (refl, refl)
-heard-kept b told.Passed = (refl, refl)
-heard-kept b told.Yes = (refl, refl)
-heard-kept b (told.No k) = (refl, refl)
-heard-kept b (told.NoF j) = (refl, refl)
-heard-kept b (told.NoG j) = (refl, refl)
-heard-kept b (told.Refused k) = (refl, refl)
-heard-kept b (told.RefusedAt k i) = (refl, refl)
-
-hears-kept : (b : VerifierState) (q : Query) (t : Told) → (hears b q t .start ≡ b .start) × (hears b q t .challenges ≡ b .challenges)
-hears-kept b (query.Item z w) t = (refl, refl)
-hears-kept b (query.FieldItem x y) t = (refl, refl)
-hears-kept b (query.Close z) t = heard-kept b t
-hears-kept b (query.CloseClaim c) t = heard-kept b t
-hears-kept b (query.Message even cross odd) t = heard-kept b t
-hears-kept b query.Verdict t = heard-kept b t
-hears-kept b query.Proof t = heard-kept b t
-hears-kept b (query.CheckOpening x) t = (refl, refl)
-
-follow-kept : (b : VerifierState) (q : Query) (o : Heard) → (followHeard b q o .start ≡ b .start) × (followHeard b q o .challenges ≡ b .challenges)
-follow-kept b q o = by (isTold (o .told))
-  where
-    by : (t : Bool) → (cond t (hears b q (o .told)) b .start ≡ b .start) × (cond t (hears b q (o .told)) b .challenges ≡ b .challenges)
-    by true = hears-kept b q (o .told)
-    by false = (refl, refl)
 
 -- WHAT THE RUN GAVE IS THE TRIP'S
 module _ (p : ℕ) (large : maxWeight < p) (through : Bool) (T : Trip) (whole : length (T .items) ≡ T .start .items) (cs : List ℕ) (a : State) (r : Run) (s : Pass)
@@ -154,6 +126,7 @@ module _ (p : ℕ) (large : maxWeight < p) (prime : Prime p) (odd : p % 2 ≡ 1)
             all-say-run p large through T (w .items) cs a (startRun (T .start)) zeroPass going ms z kept takes (freshVerifierState (T .start) cs) (startVerifier (T .start) cs) refl refl qs
             (every-query-right p large prime odd word T (w .start .least) (w .start .most) (w .start .rounds) (w .items) cs long qs
             (all-bring p large through T (w .items) cs a (startRun (T .start)) zeroPass going ms z kept takes (freshVerifierState (T .start) cs) (startVerifier (T .start) cs) refl qs brought));
+        verdicts = λ s h cs listed. every-verdict p s cs large h listed;
       }
 
 -- of the customer's modulus

@@ -26,6 +26,9 @@ pub mod HeardFollows
 pub mod HeardFile
 pub mod HeardAnswers
 pub mod HeardLists
+pub mod VerdictFacts
+pub mod VerdictFollows
+pub mod VerdictLists
 pub mod StartRows
 pub mod QueryArms
 pub mod Alike

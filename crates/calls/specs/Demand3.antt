@@ -1,5 +1,6 @@
 -- DEMAND 3: "a single theorem whose subject is the whole list". To be read top to bottom with Starts, State, Table, Meaning, Statement
--- (a run's list), Proper (a run's own list), QueryState, QueryStatement (a verifier's list) and Given (a verifier's beside a run's).
+-- (a run's list), Proper (a run's own list), QueryState, QueryStatement (a verifier's list), Given (a verifier's beside a run's) and
+-- Verdict (a verifier's verdicts).
 use Prim.Native.Nat.{ℕ}
 use mathlib.Core.Path.{_≡_}
 use mathlib.Core.Bool.{Bool, true}
@@ -18,6 +19,7 @@ use Rattle.calls.specs.QueryStatement.{Asked, AllDecidedHeard, startVeri
 use Rattle.calls.specs.Proper.{Valid, Brings, properRun, AllAnswered}
 use Rattle.calls.specs.Given.{replyOf, AllTake, AllBringRun, AllSayRun}
 use Rattle.calls.specs.Starts.{Startable, Starts}
+use Rattle.calls.specs.Verdict.{Verdicts}
 
 -- a trip of L items
 pub record Whole (T : Trip) : Type 0 where
@@ -69,3 +71,6 @@ pub record Demand3 (p : ℕ) : Type 0 where
       → (cs : List ℕ) → length cs ≡ T .start .rounds → AllTake p cs (fresh (T .start) f g) (startRun (T .start)) zeroPass ms → (qs : List Asked)
       → AllBringRun p T (fresh (T .start) f g) (startRun (T .start)) zeroPass ms (freshVerifierState (T .start) cs) (startVerifier (T .start) cs) qs
       → AllSayRun p T (fresh (T .start) f g) (startRun (T .start)) zeroPass ms (freshVerifierState (T .start) cs) (startVerifier (T .start) cs) qs
+  -- A VERIFIER'S VERDICTS, whatever its list: yes for exactly the messages that meet its equations, else no with the first round that
+  -- failed, or n
+  pub verdicts : (s : Start) → Startable s → (cs : List ℕ) → length cs ≡ s .rounds → Verdicts p s cs

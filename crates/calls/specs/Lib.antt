@@ -7,6 +7,7 @@ pub mod Statement
 pub mod QueryStep
 pub mod QueryState
 pub mod QueryStatement
+pub mod Verdict
 pub mod Given
 pub mod Starts
 pub mod QueryExample

@@ -1,0 +1,171 @@
+-- The verdict of any list of a verifier's calls, refused ones among them: yes for exactly the messages that meet its equations.
+use Prim.Native.Nat.{ℕ, zero, suc, _+_, _*_, _<_}
+use mathlib.Core.Path.{_≡_}
+use mathlib.Core.Bool.{true, cond}
+use mathlib.Core.List.{List, [], _∷_, _++_}
+use mathlib.Core.Logic.{_↔_, _⊎_}
+use mathlib.Core.Option.{Option, none, some}
+use lib.ListN.{length, getD}
+use Rattle.algebra.specs.Mod.{mulMod}
+use Rattle.field.specs.Integer.{image}
+use Rattle.wire.specs.Proof.{proofTotal, proofNumber}
+use Rattle.vector.specs.Vector.{at}
+use Rattle.vector.specs.Fold.{endValue}
+use Rattle.vector.specs.Message.{Message, passes}
+use Rattle.verifier.specs.declared.Verifier.{Verifier}
+use Rattle.verifier.specs.Claims.{messageOf3}
+use Rattle.verifier.specs.ProofFile.{fileMessage}
+use Rattle.verifier.specs.Trips.{claimAt}
+use Rattle.runs.specs.Trip.{Raw, reading, numbers, Start, Trip, vectorF, vectorG}
+use Rattle.calls.specs.declared.query.Query.{Query}
+use Rattle.calls.specs.declared.query.Query.the-variants as query
+use Rattle.calls.specs.declared.query.Told.{Told}
+use Rattle.calls.specs.declared.query.Told.the-variants as told
+use Rattle.calls.specs.QueryStep.{Shown, ask, isTold}
+use Rattle.calls.specs.QueryStatement.{Asked, afterAsked, startVerifier}
+
+-- WHAT THE ANSWERED CALLS BROUGHT, in order
+pub record Brought : Type 0 where
+  -- first to last
+  pub items : List Raw
+  -- "Its claim starts as the total"
+  pub claim : ℕ
+  pub messages : List Message
+  -- of a proof file
+  pub ends : Option (ℕ × ℕ)
+
+abbrev pub nothing : Brought
+nothing = record { items = []; claim = 0; messages = []; ends = none }
+
+abbrev pub withItem : Brought → Raw → Brought
+withItem b x = record { items = b .items ++ x ∷ []; claim = b .claim; messages = b .messages; ends = b .ends }
+
+abbrev pub claiming : Brought → ℕ → Brought
+claiming b claim = record { items = b .items; claim = claim; messages = b .messages; ends = b .ends }
+
+abbrev pub withMessage : Brought → Message → Brought
+withMessage b m = record { items = b .items; claim = b .claim; messages = b .messages ++ m ∷ []; ends = b .ends }
+
+-- a proof file "brings every message in one call"
+unfoldable pub fileMessages : List ℕ → ℕ → List Message
+fileMessages file zero = []
+fileMessages file (suc i) = fileMessages file i ++ fileMessage file i ∷ []
+
+abbrev pub withFile : ℕ → ℕ → Brought → List ℕ → Brought
+withFile p n b file =
+    record {
+      items = b .items;
+      claim = image p (proofTotal file);
+      messages = fileMessages file n;
+      ends = some (proofNumber file (3 * n), proofNumber file (3 * n + 1));
+    }
+
+-- with one answered call more, for n rounds
+abbrev pub brings : ℕ → ℕ → Brought → Query → Shown → Brought
+brings p n b (query.Item z w) l = withItem b (reading z w)
+brings p n b (query.FieldItem x y) l = withItem b (numbers x y)
+brings p n b (query.Close t) l = claiming b (image p t)
+brings p n b (query.CloseClaim c) l = claiming b c
+brings p n b (query.Message even cross odd) l = withMessage b (messageOf3 even cross odd)
+brings p n b query.Verdict l = b
+brings p n b query.Proof l = withFile p n b (l .file)
+brings p n b (query.CheckOpening x) l = b
+
+-- a refused call brings nothing
+abbrev pub bringsAs : ℕ → ℕ → Brought → Query → Shown → Told → Brought
+bringsAs p n b c l t = cond (isTold t) (brings p n b c l) b
+
+unfoldable pub broughtFrom : ℕ → ℕ → Verifier → Brought → List Asked → Brought
+broughtFrom p n v b [] = b
+broughtFrom p n v b (m ∷ ms) =
+    broughtFrom p n (ask p v (m .query) (m .shown) .verifier) (bringsAs p n b (m .query) (m .shown) (ask p v (m .query) (m .shown) .told)) ms
+
+-- THE EQUATIONS, for a start and the challenges
+module _ (p : ℕ) (s : Start) (cs : List ℕ) (b : Brought) where
+  -- the trip of the items brought, and its end values
+  abbrev pub tripOf : Trip
+  tripOf = record { start = s; items = b .items }
+
+  abbrev pub endF : ℕ
+  endF = endValue p (at cs) (s .rounds) (vectorF p tripOf)
+
+  abbrev pub endG : ℕ
+  endG = endValue p (at cs) (s .rounds) (vectorG p tripOf)
+
+  abbrev pub messageIn : ℕ → Message
+  messageIn i = getD (b .messages) i (messageOf3 0 0 0)
+
+  -- "the claim becomes even + cross·c + odd·c²": the claim that message i meets, and after the last
+  abbrev pub claimIn : ℕ → ℕ
+  claimIn i = claimAt p (at cs) (b .claim) messageIn i
+
+  -- "A message passes if even + odd = claim"
+  abbrev pub Passes : ℕ → Type 0
+  Passes i = passes p (messageIn i) ≡ claimIn i
+
+  -- the first k pass
+  abbrev pub AllPass : ℕ → Type 0
+  AllPass k = (i : ℕ) → i < k → Passes i
+
+  -- "End values in the proof file must equal its own"
+  abbrev pub EndsOwn : Option (ℕ × ℕ) → Type 0
+  EndsOwn none = Unit {0}
+  EndsOwn (some e) = (e .0 ≡ endF) × (e .1 ≡ endG)
+
+  -- "After n messages the verdict is yes if the claim equals the product of its own end values"
+  pub record Meets : Type 0 where
+    pub count : length (b .messages) ≡ s .rounds
+    pub all : AllPass (s .rounds)
+    pub product : claimIn (s .rounds) ≡ mulMod p endF endG
+    pub ends : EndsOwn (b .ends)
+
+  -- "Otherwise no, with the first round that failed"
+  pub record FailsFirst (k : ℕ) : Type 0 where
+    pub round : k < s .rounds
+    pub given : k < length (b .messages)
+    pub before : AllPass k
+    pub fails : Passes k → ⊥
+
+  -- "or n"
+  pub record FailsLast (k : ℕ) : Type 0 where
+    pub last : k ≡ s .rounds
+    pub count : length (b .messages) ≡ s .rounds
+    pub all : AllPass (s .rounds)
+    pub fails : claimIn (s .rounds) ≡ mulMod p endF endG → EndsOwn (b .ends) → ⊥
+
+  -- A VERDICT, both ways
+  pub record Judged (t : Told) : Type 0 where
+    pub yes : (t ≡ told.Yes) ↔ Meets
+    pub no : (k : ℕ) → (t ≡ told.No k) ↔ (FailsFirst k ⊎ FailsLast k)
+    pub either : (t ≡ told.Yes) ⊎ ((k : ℕ) × (t ≡ told.No k))
+
+  -- A MESSAGE, the last brought, both ways
+  pub record Answered (t : Told) : Type 0 where
+    pub passed : (t ≡ told.Passed) ↔ AllPass (length (b .messages))
+    pub no : (k : ℕ) → (t ≡ told.No k) ↔ FailsFirst k
+    pub either : (t ≡ told.Passed) ⊎ ((k : ℕ) × (t ≡ told.No k))
+
+-- what is said of an answered call by what was brought up to and with it
+abbrev pub Judges : ℕ → Start → List ℕ → Brought → Query → Told → Type 0
+Judges p s cs b (query.Item z w) t = t ≡ told.Taken
+Judges p s cs b (query.FieldItem x y) t = t ≡ told.Taken
+Judges p s cs b (query.Close z) t = t ≡ told.Closed
+Judges p s cs b (query.CloseClaim c) t = t ≡ told.Closed
+Judges p s cs b (query.Message even cross odd) t = Answered p s cs b t
+Judges p s cs b query.Verdict t = Judged p s cs b t
+Judges p s cs b query.Proof t = Judged p s cs b t
+Judges p s cs b (query.CheckOpening x) t = Unit {0}
+
+-- A LIST from a fresh verifier for a start and the challenges, and one call more
+module _ (p : ℕ) (s : Start) (cs : List ℕ) where
+  abbrev pub broughtBy : List Asked → Brought
+  broughtBy qs = broughtFrom p (s .rounds) (startVerifier s cs) nothing qs
+
+  abbrev pub toldNext : List Asked → Asked → Told
+  toldNext qs m = ask p (afterAsked p (startVerifier s cs) qs) (m .query) (m .shown) .told
+
+  -- every place of every list: the calls before it, and the call there
+  abbrev pub Verdicts : Type 0
+  Verdicts =
+      (qs : List Asked) (m : Asked) → isTold (toldNext qs m) ≡ true
+      → Judges p s cs (brings p (s .rounds) (broughtBy qs) (m .query) (m .shown)) (m .query) (toldNext qs m)
