@@ -1,6 +1,6 @@
 -- DEMAND 3, proved: for any odd prime modulus above the largest weight that fits 32 bits, and so for 2,147,483,647.
 use mathlib.Core.Path.{_≡_, refl, sym, ap, ap₂, _∙_}
-use mathlib.Core.Bool.{Bool, true, false, cond}
+use mathlib.Core.Bool.{Bool, true}
 use mathlib.Core.List.{List, [], _∷_, _++_}
 use mathlib.Core.Option.{Option, none, some}
 use Prim.Native.Nat.{ℕ, _*_, _%_, _^_, _<_, _≤_}
@@ -18,15 +18,13 @@ use Rattle.runs.specs.Trip.{Start, Trip, vectorF, vectorG}
 use Rattle.calls.specs.declared.query.Query.{Query}
 use Rattle.calls.specs.declared.query.Query.the-variants as query
 use Rattle.calls.specs.declared.query.Told.{Told}
-use Rattle.calls.specs.declared.query.Told.the-variants as told
-use Rattle.calls.specs.declared.query.Heard.{Heard}
 use Rattle.calls.specs.Step.{isAnswered}
 use Rattle.calls.specs.State.{State, fresh}
 use Rattle.calls.specs.Table.{Refusal}
 use Rattle.calls.specs.Meaning.{reply, question, messageAt, proofOfTrip}
 use Rattle.calls.specs.Statement.{Made, AllSized, AllKept, AllRight, startRun}
-use Rattle.calls.specs.QueryStep.{Shown, ask, isTold}
-use Rattle.calls.specs.QueryState.{VerifierState, freshVerifierState, hearing, hears, followHeard, verifierTable, Brings, Says}
+use Rattle.calls.specs.QueryStep.{Shown, ask}
+use Rattle.calls.specs.QueryState.{VerifierState, freshVerifierState, verifierTable, Brings, Says}
 use Rattle.calls.specs.QueryStatement.{Asked, SaysWhere, AllBring, AllSay, startVerifier}
 use Rattle.calls.specs.Given.{replyOf, AllTake, BringsRun, SaysRun, SaysRunWhere, AllBringRun, AllSayRun}
 use Rattle.calls.specs.Starts.{Startable}

@@ -27,6 +27,7 @@ pub mod HeardFile
 pub mod HeardAnswers
 pub mod HeardLists
 pub mod VerdictFacts
+pub mod VerdictPhases
 pub mod VerdictFollows
 pub mod VerdictLists
 pub mod StartRows

@@ -17,10 +17,9 @@ use Rattle.verifier.specs.Records.{Finding, yes, no}
 use Rattle.verifier.specs.Claims.{messageOf3}
 use Rattle.verifier.specs.ProofFile.{fileMessage}
 use Rattle.verifier.specs.Trips.{claimAt}
-use Rattle.verifier.proofs.Verdicts.{FirstNo, claim-of-same}
-use Rattle.verifier.proofs.FileVerdicts.{FileSays, WrongEnd, fileClaim}
+use Rattle.verifier.proofs.Verdicts.{claim-of-same}
+use Rattle.verifier.proofs.FileVerdicts.{FileSays, fileClaim}
 use Rattle.runs.specs.Trip.{Start}
-use Rattle.calls.specs.declared.query.Told.{Told}
 use Rattle.calls.specs.declared.query.Told.the-variants as told
 use Rattle.calls.specs.QueryStep.{toldVerdict}
 use Rattle.calls.specs.Verdict.{Brought, withMessage, fileMessages, withFile, endF, endG, messageIn, claimIn, Passes, AllPass, Meets, FailsFirst, FailsLast, Judged, Answered}

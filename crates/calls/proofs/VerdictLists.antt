@@ -23,7 +23,8 @@ use Rattle.calls.specs.Verdict.{Brought, nothing, brings, bringsAs, brou
 use Rattle.calls.proofs.QueryStands.{fresh-stands}
 use Rattle.calls.proofs.QuerySteps.{answers, settledHeard, asks, answers-told}
 use Rattle.calls.proofs.QueryLists.{refused-told}
-use Rattle.calls.proofs.VerdictFollows.{Sums, Unclosed, unclosed, Bears, answers-judged}
+use Rattle.calls.proofs.VerdictPhases.{unclosed, Bears}
+use Rattle.calls.proofs.VerdictFollows.{answers-judged}
 
 module _ (p : ℕ) (s : Start) (cs : List ℕ) (large : maxWeight < p) (fits : Startable s) (listed : length cs ≡ s .rounds) where
   abbrev n : ℕ

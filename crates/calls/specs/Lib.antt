@@ -11,6 +11,7 @@ pub mod Verdict
 pub mod Given
 pub mod Starts
 pub mod QueryExample
+pub mod VerdictExample
 pub mod Proper
 pub mod ExampleKept
 pub mod Example
