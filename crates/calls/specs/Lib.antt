@@ -11,6 +11,7 @@ pub mod Given
 pub mod Starts
 pub mod QueryExample
 pub mod Proper
+pub mod Carried
 pub mod ExampleKept
 pub mod Example
 pub mod ExampleSmall
