@@ -27,7 +27,8 @@ use Rattle.calls.specs.QueryState.{VerifierState, freshVerifierState}
 use Rattle.calls.specs.QueryStatement.{Asked, startVerifier}
 use Rattle.calls.specs.Given.{replyOf, AllTake, Wrote}
 use Rattle.calls.specs.Proper.{Valid, Brings, properRun}
-use Rattle.calls.specs.Carried.{itemsOf, claims, checks, gathered, byMessages, byFile, wroteAfter, AllAgreed}
+use Rattle.calls.specs.Carried.{itemsOf, claims, checks, gathered, byMessages, byFile, writes, AllAgreed}
+use Rattle.calls.specs.Demand3.{resultAfter}
 use Rattle.calls.proofs.Turns.{both}
 use Rattle.calls.proofs.Refusals.{fresh-inv}
 use Rattle.calls.proofs.Answers.{fresh-agrees}
@@ -210,21 +211,20 @@ module _ (p : ℕ) (large : maxWeight < p) (prime : Prime p) (odd : p % 2 ≡ 1)
       last : G (w .0) (w .1) (w .2)
       last = going-after _ _ _ going ms z kept takes
 
-      pub write-answered : isAnswered (wroteAfter p T f g ms l .answer) ≡ true
+      pub write-answered : isAnswered (resultAfter p T f g ms (writes l) .answer) ≡ true
       write-answered =
           free-answered p large (w .0) (w .1) (w .2) (last .inv) call.WriteProof tt l
           (write-free p (w .0) l (ap (λ s. s .plain) (last .start) ∙ plain) turn-so (omega (arith, room, ap (λ s. s .rounds) (last .start))))
 
-      written : take (18 + 12 * n) (wroteAfter p T f g ms l .lent .file) ≡ proofOfTrip p T cs
+      written : take (18 + 12 * n) (resultAfter p T f g ms (writes l) .lent .file) ≡ proofOfTrip p T cs
       unfolding AllSized AllKept AllTake Wrote
       written =
-          let m : Made = record { call = call.WriteProof; lent = l } in
-          let file : List ℕ = take (18 + 12 * n) (wroteAfter p T f g ms l .lent .file) in
-          let h = wrote-hit p large through T (valid .whole) cs (w .0) (w .1) (w .2) last (m ∷ []) (tt, tt) ((λ y. tt), tt) ((λ y. tt), tt) file
-          (inl (write-answered, refl, ap (λ s. take (18 + 12 * s .rounds) (wroteAfter p T f g ms l .lent .file)) (last .start))) in
+          let file : List ℕ = take (18 + 12 * n) (resultAfter p T f g ms (writes l) .lent .file) in
+          let h = wrote-hit p large through T (valid .whole) cs (w .0) (w .1) (w .2) last (writes l ∷ []) (tt, tt) ((λ y. tt), tt) ((λ y. tt), tt) file
+          (inl (write-answered, refl, ap (λ s. take (18 + 12 * s .rounds) (resultAfter p T f g ms (writes l) .lent .file)) (last .start))) in
           file-of p large through T (valid .whole) cs file (h .0) (h .1) .0
 
-      pub file-agreed : AllAgreed p (startVerifier (T .start) cs) (byFile p T f g ms (take (18 + 12 * n) (wroteAfter p T f g ms l .lent .file)))
+      pub file-agreed : AllAgreed p (startVerifier (T .start) cs) (byFile p T f g ms (take (18 + 12 * n) (resultAfter p T f g ms (writes l) .lent .file)))
       file-agreed =
           items-first _
           (λ b v s unclosed whole. proof-agreed p large prime odd word T valid cs listed b v s plain unclosed whole _ written _
@@ -244,8 +244,8 @@ module _ (p : ℕ) (large : maxWeight < p) (prime : Prime p) (odd : p % 2 ≡ 1)
       messages-agreed p large prime odd word true T valid cs (brings .count) (l .f) (l .g) ms (proper-sized p large T valid k cs bs l brings) (proper-kept p large T valid k cs bs l brings true) takes
 
   pub proper-file : T .start .plain ≡ true → (m : Lent) → 18 + 12 * T .start .rounds ≤ length (m .file)
-      → (isAnswered (wroteAfter p T (l .f) (l .g) ms m .answer) ≡ true)
-      × AllAgreed p (startVerifier (T .start) cs) (byFile p T (l .f) (l .g) ms (take (18 + 12 * T .start .rounds) (wroteAfter p T (l .f) (l .g) ms m .lent .file)))
+      → (isAnswered (resultAfter p T (l .f) (l .g) ms (writes m) .answer) ≡ true)
+      × AllAgreed p (startVerifier (T .start) cs) (byFile p T (l .f) (l .g) ms (take (18 + 12 * T .start .rounds) (resultAfter p T (l .f) (l .g) ms (writes m) .lent .file)))
   proper-file plain m room =
       let z = proper-sized p large T valid k cs bs l brings in
       let kept = proper-kept p large T valid k cs bs l brings true in

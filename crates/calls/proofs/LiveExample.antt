@@ -15,7 +15,8 @@ use Rattle.calls.specs.Step.{Lent}
 use Rattle.calls.specs.Statement.{Made, startRun}
 use Rattle.calls.specs.Proper.{ItemFits, Valid, AllNonzero, Brings, properRun, AllAnswered}
 use Rattle.calls.specs.QueryStatement.{startVerifier}
-use Rattle.calls.specs.Carried.{byMessages, byFile, wroteAfter, AllAgreed}
+use Rattle.calls.specs.Carried.{byMessages, byFile, writes, AllAgreed}
+use Rattle.calls.specs.Demand3.{resultAfter}
 use Rattle.calls.proofs.HeardLists.{modulus-31}
 use Rattle.calls.proofs.Live.{proper-answered}
 use Rattle.calls.proofs.Carried.{proper-messages, proper-file}
@@ -70,7 +71,7 @@ module _ (k x : ℕ) where
   file = record { f = []; g = []; file = replicate 42 0 }
 
   pub trip-file-agreed : AllAgreed P (startVerifier (trip .start) (2 ∷ 3 ∷ []))
-      (byFile P trip (replicate 4 x) (replicate 4 x) run (take 42 (wroteAfter P trip (replicate 4 x) (replicate 4 x) run file .lent .file)))
+      (byFile P trip (replicate 4 x) (replicate 4 x) run (take 42 (resultAfter P trip (replicate 4 x) (replicate 4 x) run (writes file) .lent .file)))
   trip-file-agreed =
       let m = modulus-31 in
       proper-file P (m .0) (m .1) (m .2) (m .3) trip valid k (2 ∷ 3 ∷ []) (2 ∷ []) (lent x) (brings k x) refl file (omega arith) .1

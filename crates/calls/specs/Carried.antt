@@ -20,7 +20,7 @@ use Rattle.calls.specs.declared.query.Heard.{Heard}
 use Rattle.calls.specs.Step.{Lent, Result, isAnswered, step}
 use Rattle.calls.specs.State.{State, fresh, follow}
 use Rattle.calls.specs.Meaning.{Question, total, roundMessage, ends, openingAt, proof, done, question, Reply}
-use Rattle.calls.specs.Statement.{Made, after, startRun}
+use Rattle.calls.specs.Statement.{Made, startRun}
 use Rattle.calls.specs.QueryStep.{ask}
 use Rattle.calls.specs.QueryStatement.{Asked}
 use Rattle.calls.specs.Given.{replyOf}
@@ -85,9 +85,9 @@ module _ (p : ℕ) (T : Trip) (f g : List ℕ) (ms : List Made) where
       itemsOf (T .items)
       ++ record { query = query.Proof; shown = record { file = file; values = [] } } ∷ gathers (λ q x. checks (T .start .rounds) q (x .values))
 
-  -- a call to write the file after the list
-  abbrev pub wroteAfter : Lent → Result
-  wroteAfter l = let w : State × Run × Pass = after p (fresh (T .start) f g) (startRun (T .start)) zeroPass ms in step p (w .1) (w .2) call.WriteProof l
+-- the run's call that writes it
+abbrev pub writes : Lent → Made
+writes l = record { call = call.WriteProof; lent = l }
 
 -- an item taken, the pass closed, a message passed; a verdict, a file and an opening: yes
 abbrev pub agreed : Query → Told

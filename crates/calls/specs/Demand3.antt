@@ -18,7 +18,7 @@ use Rattle.calls.specs.QueryState.{freshVerifierState}
 use Rattle.calls.specs.QueryStatement.{Asked, AllDecidedHeard, AllSay, afterAsked, startVerifier}
 use Rattle.calls.specs.Proper.{Valid, Brings, properRun, AllAnswered}
 use Rattle.calls.specs.Given.{replyOf, AllTake, AllBringRun, OpeningsChecked}
-use Rattle.calls.specs.Carried.{byMessages, byFile, wroteAfter, AllAgreed}
+use Rattle.calls.specs.Carried.{byMessages, byFile, writes, AllAgreed}
 use Rattle.calls.specs.Starts.{Startable, Starts}
 
 -- a trip of L items
@@ -81,6 +81,6 @@ pub record Demand3 (p : ℕ) : Type 0 where
       → (let ms : List Made = properRun p T k cs bs l in
       AllAgreed p (startVerifier (T .start) cs) (byMessages p T (l .f) (l .g) ms)
       × (T .start .plain ≡ true → (m : Lent) → 18 + 12 * T .start .rounds ≤ length (m .file)
-      → (let o : Result = wroteAfter p T (l .f) (l .g) ms m in
+      → (let o : Result = resultAfter p T (l .f) (l .g) ms (writes m) in
       (isAnswered (o .answer) ≡ true)
       × AllAgreed p (startVerifier (T .start) cs) (byFile p T (l .f) (l .g) ms (take (18 + 12 * T .start .rounds) (o .lent .file))))))
