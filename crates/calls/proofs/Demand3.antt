@@ -2,31 +2,26 @@
 use mathlib.Core.Path.{_≡_, refl, sym, ap, ap₂, _∙_}
 use mathlib.Core.Bool.{Bool, true}
 use mathlib.Core.List.{List, [], _∷_, _++_}
-use mathlib.Core.Option.{Option, none, some}
-use Prim.Native.Nat.{ℕ, _*_, _%_, _^_, _<_, _≤_}
+use Prim.Native.Nat.{ℕ, _%_, _^_, _<_, _≤_}
 use native.Mathlib.Omega.{arith}
-use lib.ListN.{length, take}
+use lib.ListN.{length}
 use Rattle.algebra.specs.Prime.{Prime}
 use Rattle.refusal.specs.Limit.{maxWeight}
-use Rattle.vector.specs.Vector.{at}
-use Rattle.vector.specs.Opening.{opening}
 use Rattle.prover.specs.declared.Run.{Run}
 use Rattle.prover.specs.declared.Pass.{Pass}
 use Rattle.prover.specs.Start.{zeroPass}
 use Rattle.verifier.specs.declared.Verifier.{Verifier}
-use Rattle.runs.specs.Trip.{Start, Trip, vectorF, vectorG}
+use Rattle.runs.specs.Trip.{Start, Trip}
 use Rattle.calls.specs.declared.query.Query.{Query}
 use Rattle.calls.specs.declared.query.Query.the-variants as query
-use Rattle.calls.specs.declared.query.Told.{Told}
 use Rattle.calls.specs.Step.{isAnswered}
 use Rattle.calls.specs.State.{State, fresh}
-use Rattle.calls.specs.Table.{Refusal}
 use Rattle.calls.specs.Meaning.{reply, question, messageAt, proofOfTrip}
 use Rattle.calls.specs.Statement.{Made, AllSized, AllKept, AllRight, startRun}
 use Rattle.calls.specs.QueryStep.{Shown, ask}
-use Rattle.calls.specs.QueryState.{VerifierState, freshVerifierState, verifierTable, Brings, Says}
-use Rattle.calls.specs.QueryStatement.{Asked, SaysWhere, AllBring, AllSay, startVerifier}
-use Rattle.calls.specs.Given.{replyOf, AllTake, BringsRun, SaysRun, SaysRunWhere, AllBringRun, AllSayRun}
+use Rattle.calls.specs.QueryState.{VerifierState, freshVerifierState, Brings}
+use Rattle.calls.specs.QueryStatement.{Asked, AllBring, startVerifier}
+use Rattle.calls.specs.Given.{replyOf, AllTake, BringsRun, AllBringRun}
 use Rattle.calls.specs.Starts.{Startable}
 use Rattle.calls.specs.Demand3.{Whole, KeptFrom, stateAfter, resultAfter, Demand3}
 use Rattle.calls.proofs.Refusals.{Inv, fresh-inv, all-decided}
@@ -34,8 +29,11 @@ use Rattle.calls.proofs.Answers.{all-right, fresh-agrees}
 use Rattle.calls.proofs.Live.{proper-answered, proper-sized, proper-kept}
 use Rattle.calls.proofs.Alike.{last-replies}
 use Rattle.calls.proofs.Hits.{Going, gave-hit, wrote-hit}
-use Rattle.calls.proofs.Links.{total-of, claim-of, message-of, opening-of, file-of}
-use Rattle.calls.proofs.QueryLists.{follow-kept, every-query}
+use Rattle.calls.proofs.Links.{total-of, claim-of, message-of, file-of}
+use Rattle.calls.proofs.OpeningChecks.{openings-checked}
+use Rattle.calls.proofs.Carried.{proper-messages, proper-file}
+use Rattle.calls.proofs.QueryKept.{follow-kept}
+use Rattle.calls.proofs.QueryLists.{every-query}
 use Rattle.calls.proofs.HeardLists.{every-query-right, modulus-31}
 use Rattle.calls.proofs.VerdictLists.{every-verdict}
 use Rattle.calls.proofs.StartRows.{all-starts}
@@ -58,35 +56,11 @@ module _ (p : ℕ) (large : maxWeight < p) (through : Bool) (T : Trip) (whole : 
       (f .0 ∙ ap (proofOfTrip p T) (sym e), f .1)
   brings b e (query.CheckOpening x) l h = tt
 
-  says : (b : VerifierState) → b .start ≡ T .start → b .challenges ≡ cs → (q : Query) (l : Shown) (t : Told) → Says p T b q l t → SaysRun p T a r s ms b q l t
-  says b es ec (query.Item x w) l t h = h
-  says b es ec (query.FieldItem x y) l t h = h
-  says b es ec (query.Close x) l t h = h
-  says b es ec (query.CloseClaim c) l t h = h
-  says b es ec (query.Message even cross odd) l t h = h
-  says b es ec query.Verdict l t h = h
-  says b es ec query.Proof l t h = h
-  says b es ec (query.CheckOpening x) l t h = λ values gave same.
-      let g = gave-hit p large through T whole cs a r s going ms z kept takes _ _ gave in
-      h (same ∙ ap (λ st. take (6 * st .rounds) values) es ∙ opening-of p large through T whole cs x values (g .0) (g .1)
-      ∙ ap (λ ds. opening p (T .start .rounds) (at ds) (vectorF p T) (vectorG p T) x) (sym ec))
-
   all-bring : (b : VerifierState) (v : Verifier) → b .challenges ≡ cs → (qs : List Asked) → AllBringRun p T a r s ms b v qs → AllBring p T b v qs
   unfolding AllBringRun AllBring
   all-bring b v e [] h = tt
   all-bring b v e (m ∷ qs) h =
       (λ y. brings b e (m .query) (m .shown) (h .0 y), all-bring _ _ (follow-kept b (m .query) (ask p v (m .query) (m .shown)) .1 ∙ e) qs (h .1))
-
-  says-where : (b : VerifierState) → b .start ≡ T .start → b .challenges ≡ cs → (m : Asked) (k : Option Refusal) (t : Told) → SaysWhere p T b m k t → SaysRunWhere p T a r s ms b m k t
-  says-where b es ec m none t h = says b es ec (m .query) (m .shown) t h
-  says-where b es ec m (some k) t h = tt
-
-  all-say-run : (b : VerifierState) (v : Verifier) → b .start ≡ T .start → b .challenges ≡ cs → (qs : List Asked) → AllSay p T b v qs → AllSayRun p T a r s ms b v qs
-  unfolding AllSay AllSayRun
-  all-say-run b v es ec [] h = tt
-  all-say-run b v es ec (m ∷ qs) h =
-      let k = follow-kept b (m .query) (ask p v (m .query) (m .shown)) in
-      (says-where b es ec m (verifierTable p b (m .query) (m .shown)) (ask p v (m .query) (m .shown) .told) (h .0), all-say-run _ _ (k .0 ∙ es) (k .1 ∙ ec) qs (h .1))
 
 module _ (p : ℕ) (large : maxWeight < p) (prime : Prime p) (odd : p % 2 ≡ 1) (word : p ≤ 2 ^ 32) where
   begins : (s : Start) → Startable s → (f g : List ℕ) → Inv p large (fresh s f g) (startRun s) zeroPass
@@ -121,9 +95,11 @@ module _ (p : ℕ) (large : maxWeight < p) (prime : Prime p) (odd : p % 2 ≡ 1)
             let a : State = fresh (T .start) f g in
             let going : Going p large through T (w .items) cs a (startRun (T .start)) zeroPass =
             record { inv = begins (T .start) (w .start) f g; start = refl; agrees = fresh-agrees p large through T (w .items) f g; prefix = λ j less. absurd (omega arith) } in
-            all-say-run p large through T (w .items) cs a (startRun (T .start)) zeroPass going ms z kept takes (freshVerifierState (T .start) cs) (startVerifier (T .start) cs) refl refl qs
-            (every-query-right p large prime odd word T (w .start .least) (w .start .most) (w .start .rounds) (w .items) cs long qs
-            (all-bring p large through T (w .items) cs a (startRun (T .start)) zeroPass going ms z kept takes (freshVerifierState (T .start) cs) (startVerifier (T .start) cs) refl qs brought));
+            every-query-right p large prime odd word T (w .start .least) (w .start .most) (w .start .rounds) (w .items) cs long qs
+            (all-bring p large through T (w .items) cs a (startRun (T .start)) zeroPass going ms z kept takes (freshVerifierState (T .start) cs) (startVerifier (T .start) cs) refl qs brought);
+        openingsChecked = λ through T w f g ms z kept cs long takes. openings-checked p large prime odd word T w cs long through f g ms z kept takes;
+        verifierProper = λ T valid k cs bs l brought.
+            (proper-messages p large prime odd word T valid k cs bs l brought, proper-file p large prime odd word T valid k cs bs l brought);
         verdicts = λ s h cs listed. every-verdict p s cs large h listed;
       }
 

@@ -66,7 +66,7 @@ module _ (p : ℕ) (large : maxWeight < p) (prime : Prime p) (odd : p % 2 ≡ 1)
     all-say ms _ _ (follows-next a v f m (h .0)) (h .1),
   )
 
-  fresh-follows : Follows p T cs (freshVerifierState (T .start) cs) (startVerifier (T .start) cs)
+  pub fresh-follows : Follows p T cs (freshVerifierState (T .start) cs) (startVerifier (T .start) cs)
   unfolding freshVerifier sum
   fresh-follows =
       record {

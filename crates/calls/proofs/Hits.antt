@@ -55,7 +55,7 @@ buffers-challenges : (b : Bool) (a : State) (l : Lent) → buffersIn b a l .chal
 buffers-challenges true a l = refl
 buffers-challenges false a l = refl
 
-closed-challenges : (a : State) (t : Next) (k : Kind) → closed a t k .challenges ≡ a .challenges
+pub closed-challenges : (a : State) (t : Next) (k : Kind) → closed a t k .challenges ≡ a .challenges
 closed-challenges a t Shut = refl
 closed-challenges a next.Total Asked = refl
 closed-challenges a next.Message Asked = refl
@@ -134,7 +134,7 @@ module _ (p : ℕ) (large : maxWeight < p) (through : Bool) (T : Trip) (whole : 
     same : tripAt (T .items) a ≡ T
     same = ap (λ s. record { start = s; items = T .items }) (g .start)
 
-    right-here : Answers p T a (m .call) (m .lent) (table p a (m .call) (m .lent)) o
+    pub right-here : Answers p T a (m .call) (m .lent) (table p a (m .call) (m .lent)) o
     unfolding AllSized AllKept
     right-here =
         subst (λ U. Answers p U a (m .call) (m .lent) (table p a (m .call) (m .lent)) o) same
@@ -150,7 +150,7 @@ module _ (p : ℕ) (large : maxWeight < p) (through : Bool) (T : Trip) (whole : 
           prefix = follow-prefix cs a (m .call) o (g .prefix) (takes .0);
         }
 
-    pub hit-here : (q : Question) → isAnswered (o .answer) ≡ true → question a (m .call) ≡ q → Hit q
+    unfoldable pub hit-here : (q : Question) → isAnswered (o .answer) ≡ true → question a (m .call) ≡ q → Hit q
     unfolding AllSized
     hit-here q y e =
         let d = decide-step p large a r s (g .inv) (m .call) (z .0) (m .lent) in

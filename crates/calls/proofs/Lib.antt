@@ -20,6 +20,7 @@ pub mod QueryTurns
 pub mod QuerySteps
 pub mod QueryKeeps
 pub mod QueryLists
+pub mod QueryKept
 pub mod QueryVerdicts
 pub mod HeardTrip
 pub mod HeardFollows
@@ -36,12 +37,18 @@ pub mod Alike
 pub mod Hits
 pub mod Links
 pub mod LiveStep
+pub mod Pointed
+pub mod OpeningChecks
 pub mod LiveTable
 pub mod LiveVectors
 pub mod LiveWorld
 pub mod LivePass
 pub mod LiveFull
 pub mod Live
+pub mod LiveTakes
+pub mod CarriedTurns
+pub mod CarriedSteps
+pub mod Carried
 pub mod LiveExample
 pub mod Dispatch
 pub mod Demand3

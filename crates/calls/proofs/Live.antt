@@ -22,12 +22,12 @@ use Rattle.calls.specs.declared.Call.{Call}
 use Rattle.calls.specs.declared.Call.the-variants as call
 use Rattle.calls.specs.Step.{Lent}
 use Rattle.calls.specs.State.{fresh, roundOrEnds, isFull}
-use Rattle.calls.specs.Table.{changeNext}
-use Rattle.calls.specs.Statement.{AllSized, AllKept, AllRight, startRun}
+use Rattle.calls.specs.Table.{waits, changeNext}
+use Rattle.calls.specs.Statement.{AllSized, AllKept, AllRight, after, startRun}
 use Rattle.calls.specs.Proper.{Valid, AllNonzero, wholePass, answerBy, changeBefore, roundsFrom, openingsAt, endCalls, openingCalls, wholeRun, Brings, properRun, AllAnswered}
 use Rattle.calls.proofs.Refusals.{fresh-inv}
 use Rattle.calls.proofs.Answers.{all-right, fresh-agrees}
-use Rattle.calls.proofs.LiveWorld.{World, Lives, lives-answered, lives-sized, lives-kept, Standing}
+use Rattle.calls.proofs.LiveWorld.{World, Lives, lives-answered, lives-sized, lives-kept, lives-ended, Standing}
 use Rattle.calls.proofs.LivePass.{total-lives, message-lives, ends-lives, opening-lives, change-lives}
 use Rattle.calls.proofs.LiveFull.{challenge-lives, full-message-lives, full-ends-lives, full-opening-lives}
 
@@ -121,7 +121,7 @@ module _ (p : ℕ) (large : maxWeight < p) (through : Bool) (T : Trip) (valid : 
   -- THE OPENINGS
   openings-live : ltb 0 n ≡ true → (bs : List ℕ) → AllNonzero p bs → (w : World) → Before (leb k (suc n)) next.Openings n w → Lives p T through w (openingsAt T k bs)
   unfolding openingsAt Lives
-  openings-live some [] ok w st = tt
+  openings-live some [] ok w st = ap (waits next.Openings) (st .next)
   openings-live some (b ∷ bs) ok w st =
       opening-live (openingsAt T k bs) (leb k (suc n)) (due-by (suc n) (omega arith)) b (ok 0 (omega arith)) some n w st
       (λ w st. openings-live some bs (λ j l. ok (suc j) (omega arith)) w st)
@@ -134,7 +134,7 @@ module _ (p : ℕ) (large : maxWeight < p) (through : Bool) (T : Trip) (valid : 
       by true some =
           change-live (openingsAt T k bs) (suc n) (omega arith) next.Openings some n w (subst (λ b. Before b next.Openings n w) (sym (leb·suc-suc k n)) st)
           (openings-live some bs ok)
-      by false none = tt
+      by false none = ap (waits next.Openings) (st .next)
 
   run-lives : (cs bs : List ℕ) → length cs ≡ n → AllNonzero p cs → AllNonzero p bs → (w : World) → Standing p large through T Due Small next.Total 0 Shut 0 w
       → Lives p T through w (wholeRun T k cs bs)
@@ -178,6 +178,10 @@ module _ (p : ℕ) (large : maxWeight < p) (T : Trip) (valid : Valid p T) (k : �
 
   pub proper-kept : (through : Bool) → AllKept p through T (fresh (T .start) (l .f) (l .g)) (startRun (T .start)) zeroPass (properRun p T k cs bs l)
   proper-kept through = lives-kept p T through begin (wholeRun T k cs bs) (lives through)
+
+  -- and it ends after the ends
+  pub proper-ended : waits next.Openings (after p (fresh (T .start) (l .f) (l .g)) (startRun (T .start)) zeroPass (properRun p T k cs bs l) .0 .next) ≡ true
+  proper-ended = lives-ended p T true begin (wholeRun T k cs bs) (lives true)
 
   -- so each of its answers is the meaning
   pub proper-right : (through : Bool) → AllRight p through T (fresh (T .start) (l .f) (l .g)) (startRun (T .start)) zeroPass (properRun p T k cs bs l)

@@ -45,7 +45,7 @@ bare a =
     }
 
 -- noting an answer leaves it, and so do the buffers
-noted-so : (a : State) (x : Answer) → (bare (noted a x) ≡ bare a) × (noted a x .f ≡ a .f) × (noted a x .g ≡ a .g)
+pub noted-so : (a : State) (x : Answer) → (bare (noted a x) ≡ bare a) × (noted a x .f ≡ a .f) × (noted a x .g ≡ a .g)
 noted-so a answer.Started = (refl, refl, refl)
 noted-so a answer.Opened = (refl, refl, refl)
 noted-so a answer.Taken = (refl, refl, refl)

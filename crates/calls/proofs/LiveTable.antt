@@ -21,10 +21,10 @@ use Rattle.calls.specs.Table.{Refusal, row, rowAt, isOpen, isSmall, wait
 use Rattle.calls.specs.Statement.{Sized, Decides}
 use Rattle.calls.proofs.Refusals.{Inv, decide-step}
 
-row-free : (b : Bool) (k : ℕ) (t : Option Refusal) → b ≡ true → t ≡ none → row b k t ≡ none
+pub row-free : (b : Bool) (k : ℕ) (t : Option Refusal) → b ≡ true → t ≡ none → row b k t ≡ none
 row-free b k t e f = rw e f
 
-row-at-free : (b : Bool) (k i : ℕ) (t : Option Refusal) → b ≡ true → t ≡ none → rowAt b k i t ≡ none
+pub row-at-free : (b : Bool) (k i : ℕ) (t : Option Refusal) → b ≡ true → t ≡ none → rowAt b k i t ≡ none
 row-at-free b k i t e f = rw e f
 
 module _ (p : ℕ) (a : State) (l : Lent) where

@@ -27,7 +27,7 @@ use Rattle.calls.specs.Step.{Lent, Result, isAnswered, step}
 use Rattle.calls.specs.State.{State, goesOn, follow, isFull}
 use Rattle.calls.specs.Table.{waits, level, long, bothLong, readRows, table}
 use Rattle.calls.specs.Meaning.{foldF, foldG, Kept}
-use Rattle.calls.specs.Statement.{Made, Sized, AllSized, taken, knownIn, known, AllKept}
+use Rattle.calls.specs.Statement.{Made, Sized, AllSized, taken, knownIn, known, AllKept, after}
 use Rattle.calls.specs.Proper.{Valid, lends, hosted, AllAnswered}
 use Rattle.calls.proofs.Follows.{positive}
 use Rattle.calls.proofs.Refusals.{Inv}
@@ -50,9 +50,9 @@ module _ (p : ℕ) (T : Trip) where
   abbrev pub goesBy : World → Call → World
   goesBy w c = let o : Result = made w c in record { state = follow (w .state) c o; run = o .run; pass = o .pass; lent = o .lent }
 
-  -- all that is shown of a list, along it
+  -- all that is shown of a list, along it; it ends after the ends
   unfoldable pub Lives : Bool → World → List Call → Type 0
-  Lives through w [] = Unit {0}
+  Lives through w [] = waits next.Openings (w .state .next) ≡ true
   Lives through w (c ∷ cs) =
       (isAnswered (made w c .answer) ≡ true) × Sized c × Kept p T through (w .state) c (lends p T c (w .lent)) × Lives through (goesBy w c) cs
 
@@ -73,6 +73,11 @@ module _ (p : ℕ) (T : Trip) where
   unfolding Lives AllKept hosted
   lives-kept through w [] h = tt
   lives-kept through w (c ∷ cs) h = ((λ y. h .2), lives-kept through (goesBy w c) cs (h .3))
+
+  pub lives-ended : (through : Bool) (w : World) (cs : List Call) → Lives through w cs → waits next.Openings (after p (w .state) (w .run) (w .pass) (played w cs) .0 .next) ≡ true
+  unfolding Lives after hosted
+  lives-ended through w [] h = h
+  lives-ended through w (c ∷ cs) h = lives-ended through (goesBy w c) cs (h .3)
 
   -- fold 0 is lent in buffers of the same length
   lends-length : (c : Call) (l : Lent) → (length (lends p T c l .f) ≡ length (l .f)) × (length (lends p T c l .g) ≡ length (l .g))

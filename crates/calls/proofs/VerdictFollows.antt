@@ -43,7 +43,7 @@ use Rattle.calls.proofs.QueryGuards.{proof-decided}
 use Rattle.calls.proofs.QueryTurns.{item-rows, item-weight, field-rows, field-numbers, close-rows, claim-rows, file-rows, message-rows, verdict-row}
 use Rattle.calls.proofs.QuerySteps.{heardAs, answers}
 use Rattle.calls.proofs.QueryKeeps.{stands-after}
-use Rattle.calls.proofs.QueryLists.{hears-kept}
+use Rattle.calls.proofs.QueryKept.{hears-kept}
 use Rattle.calls.proofs.HeardTrip.{Fine}
 use Rattle.calls.proofs.VerdictFacts.{Found, judged, answered-passed, answered-no, more-count, newest, more-pass, more-fails, found-file}
 use Rattle.calls.proofs.VerdictPhases.{held, Sums, Passing, Phase, unclosed, passing, settled, Bears, few, ends-own, carries, unclosed-of, item-phase, close-phase}

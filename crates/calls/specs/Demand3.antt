@@ -1,11 +1,11 @@
 -- DEMAND 3: "a single theorem whose subject is the whole list". To be read top to bottom with Starts, State, Table, Meaning, Statement
--- (a run's list), Proper (a run's own list), QueryState, QueryStatement (a verifier's list), Given (a verifier's beside a run's) and
--- Verdict (a verifier's verdicts).
-use Prim.Native.Nat.{ℕ}
+-- (a run's list), Proper (a run's own list), QueryState, QueryStatement (a verifier's list), Given (a verifier's beside a run's), Carried
+-- (the verifier's own list) and Verdict (a verifier's verdicts).
+use Prim.Native.Nat.{ℕ, _+_, _*_, _≤_}
 use mathlib.Core.Path.{_≡_}
 use mathlib.Core.Bool.{Bool, true}
 use mathlib.Core.List.{List, [], _∷_, _++_}
-use lib.ListN.{length}
+use lib.ListN.{length, take}
 use Rattle.prover.specs.declared.Run.{Run}
 use Rattle.prover.specs.declared.Pass.{Pass}
 use Rattle.prover.specs.Start.{zeroPass}
@@ -15,9 +15,10 @@ use Rattle.calls.specs.State.{State, fresh}
 use Rattle.calls.specs.Meaning.{question}
 use Rattle.calls.specs.Statement.{Made, AllSized, AllDecided, AllKept, AllRight, after, startRun}
 use Rattle.calls.specs.QueryState.{freshVerifierState}
-use Rattle.calls.specs.QueryStatement.{Asked, AllDecidedHeard, startVerifier}
+use Rattle.calls.specs.QueryStatement.{Asked, AllDecidedHeard, AllSay, afterAsked, startVerifier}
 use Rattle.calls.specs.Proper.{Valid, Brings, properRun, AllAnswered}
-use Rattle.calls.specs.Given.{replyOf, AllTake, AllBringRun, AllSayRun}
+use Rattle.calls.specs.Given.{replyOf, AllTake, AllBringRun, OpeningsChecked}
+use Rattle.calls.specs.Carried.{byMessages, byFile, writes, AllAgreed}
 use Rattle.calls.specs.Starts.{Startable, Starts}
 use Rattle.calls.specs.Verdict.{Verdicts}
 
@@ -66,11 +67,24 @@ pub record Demand3 (p : ℕ) : Type 0 where
   pub verifierRefusals : (s : Start) → Startable s → (cs : List ℕ) (qs : List Asked)
       → AllDecidedHeard p (freshVerifierState s cs) (startVerifier s cs) qs
   -- BESIDE A RUN'S LIST that took the verifier's challenges: where the answered calls bring the trip's items first to last and what the run
-  -- gave, every message passes, every verdict is yes, and every opening that the run gave opens
+  -- gave, every message passes and every verdict is yes
   pub verifierAnswers : (through : Bool) (T : Trip) → Whole T → (f g : List ℕ) (ms : List Made) → AllSized ms → KeptFrom p T f g through ms
       → (cs : List ℕ) → length cs ≡ T .start .rounds → AllTake p cs (fresh (T .start) f g) (startRun (T .start)) zeroPass ms → (qs : List Asked)
       → AllBringRun p T (fresh (T .start) f g) (startRun (T .start)) zeroPass ms (freshVerifierState (T .start) cs) (startVerifier (T .start) cs) qs
-      → AllSayRun p T (fresh (T .start) f g) (startRun (T .start)) zeroPass ms (freshVerifierState (T .start) cs) (startVerifier (T .start) cs) qs
+      → AllSay p T (freshVerifierState (T .start) cs) (startVerifier (T .start) cs) qs
+  -- and "at any time", whatever the verifier was asked before, every check of the run's openings is yes
+  pub openingsChecked : (through : Bool) (T : Trip) → Whole T → (f g : List ℕ) (ms : List Made) → AllSized ms → KeptFrom p T f g through ms
+      → (cs : List ℕ) → length cs ≡ T .start .rounds → AllTake p cs (fresh (T .start) f g) (startRun (T .start)) zeroPass ms → (qs : List Asked)
+      → OpeningsChecked p T (fresh (T .start) f g) (startRun (T .start)) zeroPass ms (afterAsked p (startVerifier (T .start) cs) qs)
+  -- A PROPER RUN'S VERIFIER answers its own list throughout and agrees: every message passes, the verdict and every check of an opening are
+  -- yes; and so with the proof file of a plain run, which the run writes into any file that has room for it
+  pub verifierProper : (T : Trip) → Valid p T → (k : ℕ) (cs bs : List ℕ) (l : Lent) → Brings p T k cs bs l
+      → (let ms : List Made = properRun p T k cs bs l in
+      AllAgreed p (startVerifier (T .start) cs) (byMessages p T (l .f) (l .g) ms)
+      × (T .start .plain ≡ true → (m : Lent) → 18 + 12 * T .start .rounds ≤ length (m .file)
+      → (let o : Result = resultAfter p T (l .f) (l .g) ms (writes m) in
+      (isAnswered (o .answer) ≡ true)
+      × AllAgreed p (startVerifier (T .start) cs) (byFile p T (l .f) (l .g) ms (take (18 + 12 * T .start .rounds) (o .lent .file))))))
   -- A VERIFIER'S VERDICTS, whatever its list: yes for exactly the messages that meet its equations, else no with the first round that
   -- failed, or n
   pub verdicts : (s : Start) → Startable s → (cs : List ℕ) → length cs ≡ s .rounds → Verdicts p s cs

@@ -5,7 +5,6 @@ use mathlib.Core.Path.{_≡_}
 use mathlib.Core.Bool.{true}
 use mathlib.Core.List.{List, [], _∷_}
 use mathlib.Core.Logic.{_⊎_}
-use mathlib.Core.Option.{Option, none, some}
 use lib.ListN.{length, take}
 use Rattle.vector.specs.Vector.{at}
 use Rattle.prover.specs.declared.Run.{Run}
@@ -17,16 +16,14 @@ use Rattle.calls.specs.declared.Call.{Call}
 use Rattle.calls.specs.declared.Call.the-variants as call
 use Rattle.calls.specs.declared.query.Query.{Query}
 use Rattle.calls.specs.declared.query.Query.the-variants as query
-use Rattle.calls.specs.declared.query.Told.{Told}
 use Rattle.calls.specs.declared.query.Told.the-variants as told
 use Rattle.calls.specs.declared.query.Heard.{Heard}
 use Rattle.calls.specs.Step.{Result, isAnswered, step}
 use Rattle.calls.specs.State.{State, follow}
-use Rattle.calls.specs.Table.{Refusal}
 use Rattle.calls.specs.Meaning.{Question, total, roundMessage, openingAt, proof, question, Reply, says}
 use Rattle.calls.specs.Statement.{Made}
 use Rattle.calls.specs.QueryStep.{Shown, ask, isTold}
-use Rattle.calls.specs.QueryState.{VerifierState, followHeard, verifierTable}
+use Rattle.calls.specs.QueryState.{VerifierState, followHeard}
 use Rattle.calls.specs.QueryStatement.{Asked}
 
 abbrev pub replyOf : Result → Reply
@@ -84,19 +81,6 @@ module _ (p : ℕ) where
     BringsRun b query.Proof l = Wrote a r s ms (l .file)
     BringsRun b (query.CheckOpening x) l = Unit {0}
 
-    -- every message passes, every verdict is yes; "every opening check .. is yes if point and values are an opening that the run gave"
-    abbrev pub SaysRun : VerifierState → Query → Shown → Told → Type 0
-    SaysRun b (query.Item z w) l t = t ≡ told.Taken
-    SaysRun b (query.FieldItem x y) l t = t ≡ told.Taken
-    SaysRun b (query.Close z) l t = t ≡ told.Closed
-    SaysRun b (query.CloseClaim c) l t = t ≡ told.Closed
-    SaysRun b (query.Message even cross odd) l t = t ≡ told.Passed
-    SaysRun b query.Verdict l t = t ≡ told.Yes
-    SaysRun b query.Proof l t = t ≡ told.Yes
-    SaysRun b (query.CheckOpening x) l t =
-        (values : List ℕ) → Gave a r s ms (openingAt x) (record { answer = answer.Opening; values = values })
-        → l .values ≡ take (6 * b .start .rounds) values → t ≡ told.Yes
-
     abbrev heardBy : Verifier → Asked → Heard
     heardBy v m = ask p v (m .query) (m .shown)
 
@@ -106,12 +90,8 @@ module _ (p : ℕ) where
         (isTold (heardBy v m .told) ≡ true → BringsRun b (m .query) (m .shown))
         × AllBringRun (followHeard b (m .query) (heardBy v m)) (heardBy v m .verifier) qs
 
-    abbrev pub SaysRunWhere : VerifierState → Asked → Option Refusal → Told → Type 0
-    SaysRunWhere b m none t = SaysRun b (m .query) (m .shown) t
-    SaysRunWhere b m (some k) t = Unit {0}
-
-    unfoldable pub AllSayRun : VerifierState → Verifier → List Asked → Type 0
-    AllSayRun b v [] = Unit {0}
-    AllSayRun b v (m ∷ qs) =
-        SaysRunWhere b m (verifierTable p b (m .query) (m .shown)) (heardBy v m .told)
-        × AllSayRun (followHeard b (m .query) (heardBy v m)) (heardBy v m .verifier) qs
+    -- a check at the point and with the values of an opening that the run gave is answered, and yes
+    abbrev pub OpeningsChecked : Verifier → Type 0
+    OpeningsChecked v =
+        (b : ℕ) (values : List ℕ) → Gave a r s ms (openingAt b) (record { answer = answer.Opening; values = values })
+        → (file : List ℕ) → ask p v (query.CheckOpening b) (record { file = file; values = take (6 * T .start .rounds) values }) .told ≡ told.Yes

@@ -13,6 +13,7 @@ pub mod Starts
 pub mod QueryExample
 pub mod VerdictExample
 pub mod Proper
+pub mod Carried
 pub mod ExampleKept
 pub mod Example
 pub mod ExampleSmall
