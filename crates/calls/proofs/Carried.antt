@@ -216,7 +216,7 @@ module _ (p : ℕ) (large : maxWeight < p) (prime : Prime p) (odd : p % 2 ≡ 1)
           free-answered p large (w .0) (w .1) (w .2) (last .inv) call.WriteProof tt l
           (write-free p (w .0) l (ap (λ s. s .plain) (last .start) ∙ plain) turn-so (omega (arith, room, ap (λ s. s .rounds) (last .start))))
 
-      written : take (18 + 12 * n) (resultAfter p T f g ms (writes l) .lent .file) ≡ proofOfTrip p T cs
+      pub written : take (18 + 12 * n) (resultAfter p T f g ms (writes l) .lent .file) ≡ proofOfTrip p T cs
       unfolding AllSized AllKept AllTake Wrote
       written =
           let file : List ℕ = take (18 + 12 * n) (resultAfter p T f g ms (writes l) .lent .file) in
@@ -253,3 +253,9 @@ module _ (p : ℕ) (large : maxWeight < p) (prime : Prime p) (odd : p % 2 ≡ 1)
         write-answered p large prime odd word true T valid cs (brings .count) (l .f) (l .g) ms z kept takes plain ended m room,
         file-agreed p large prime odd word true T valid cs (brings .count) (l .f) (l .g) ms z kept takes plain ended m room,
       )
+
+  pub proper-written : T .start .plain ≡ true → (m : Lent) → 18 + 12 * T .start .rounds ≤ length (m .file)
+      → take (18 + 12 * T .start .rounds) (resultAfter p T (l .f) (l .g) ms (writes m) .lent .file) ≡ proofOfTrip p T cs
+  proper-written plain m room =
+      written p large prime odd word true T valid cs (brings .count) (l .f) (l .g) ms (proper-sized p large T valid k cs bs l brings) (proper-kept p large T valid k cs bs l brings true) takes plain
+      (proper-ended p large T valid k cs bs l brings) m room

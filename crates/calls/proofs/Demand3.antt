@@ -31,7 +31,8 @@ use Rattle.calls.proofs.Alike.{last-replies}
 use Rattle.calls.proofs.Hits.{Going, gave-hit, wrote-hit}
 use Rattle.calls.proofs.Links.{total-of, claim-of, message-of, file-of}
 use Rattle.calls.proofs.OpeningChecks.{openings-checked}
-use Rattle.calls.proofs.Carried.{proper-messages, proper-file}
+use Rattle.calls.proofs.Carried.{proper-messages, proper-file, proper-written}
+use Rattle.calls.proofs.CarriedWhole.{messages-list, file-list}
 use Rattle.calls.proofs.QueryKept.{follow-kept}
 use Rattle.calls.proofs.QueryLists.{every-query}
 use Rattle.calls.proofs.HeardLists.{every-query-right, modulus-31}
@@ -98,8 +99,13 @@ module _ (p : ℕ) (large : maxWeight < p) (prime : Prime p) (odd : p % 2 ≡ 1)
             every-query-right p large prime odd word T (w .start .least) (w .start .most) (w .start .rounds) (w .items) cs long qs
             (all-bring p large through T (w .items) cs a (startRun (T .start)) zeroPass going ms z kept takes (freshVerifierState (T .start) cs) (startVerifier (T .start) cs) refl qs brought);
         openingsChecked = λ through T w f g ms z kept cs long takes. openings-checked p large prime odd word T w cs long through f g ms z kept takes;
-        verifierProper = λ T valid k cs bs l brought.
-            (proper-messages p large prime odd word T valid k cs bs l brought, proper-file p large prime odd word T valid k cs bs l brought);
+        verifierProper = λ T valid k cs bs l brought. (
+          messages-list p large T valid k cs bs l brought,
+          proper-messages p large prime odd word T valid k cs bs l brought,
+          λ plain m room.
+              let file = proper-file p large prime odd word T valid k cs bs l brought plain m room in
+              (file .0, file-list p large T valid k cs bs l brought _ (proper-written p large prime odd word T valid k cs bs l brought plain m room), file .1),
+        );
         verdicts = λ s h cs listed. every-verdict p s cs large h listed;
       }
 

@@ -49,6 +49,8 @@ pub mod LiveTakes
 pub mod CarriedTurns
 pub mod CarriedSteps
 pub mod Carried
+pub mod CarriedWalk
+pub mod CarriedWhole
 pub mod LiveExample
 pub mod Dispatch
 pub mod Demand3

@@ -1,6 +1,6 @@
 -- DEMAND 3: "a single theorem whose subject is the whole list". To be read top to bottom with Starts, State, Table, Meaning, Statement
 -- (a run's list), Proper (a run's own list), QueryState, QueryStatement (a verifier's list), Given (a verifier's beside a run's), Carried
--- (the verifier's own list) and Verdict (a verifier's verdicts).
+-- and WholeList (the verifier's own list) and Verdict (a verifier's verdicts).
 use Prim.Native.Nat.{ℕ, _+_, _*_, _≤_}
 use mathlib.Core.Path.{_≡_}
 use mathlib.Core.Bool.{Bool, true}
@@ -19,6 +19,7 @@ use Rattle.calls.specs.QueryStatement.{Asked, AllDecidedHeard, AllSay, a
 use Rattle.calls.specs.Proper.{Valid, Brings, properRun, AllAnswered}
 use Rattle.calls.specs.Given.{replyOf, AllTake, AllBringRun, OpeningsChecked}
 use Rattle.calls.specs.Carried.{byMessages, byFile, writes, AllAgreed}
+use Rattle.calls.specs.WholeList.{wholeByMessages, wholeByFile}
 use Rattle.calls.specs.Starts.{Startable, Starts}
 use Rattle.calls.specs.Verdict.{Verdicts}
 
@@ -76,15 +77,19 @@ pub record Demand3 (p : ℕ) : Type 0 where
   pub openingsChecked : (through : Bool) (T : Trip) → Whole T → (f g : List ℕ) (ms : List Made) → AllSized ms → KeptFrom p T f g through ms
       → (cs : List ℕ) → length cs ≡ T .start .rounds → AllTake p cs (fresh (T .start) f g) (startRun (T .start)) zeroPass ms → (qs : List Asked)
       → OpeningsChecked p T (fresh (T .start) f g) (startRun (T .start)) zeroPass ms (afterAsked p (startVerifier (T .start) cs) qs)
-  -- A PROPER RUN'S VERIFIER answers its own list throughout and agrees: every message passes, the verdict and every check of an opening are
-  -- yes; and so with the proof file of a plain run, which the run writes into any file that has room for it
+  -- A PROPER RUN'S VERIFIER has for its own list the L items, the close, n messages, the verdict and a check of each opening, answers it
+  -- throughout and agrees: every message passes, the verdict and every check are yes; and so with the proof file of a plain run, which the run
+  -- writes into any file that has room for it: the L items, the file, the checks
   pub verifierProper : (T : Trip) → Valid p T → (k : ℕ) (cs bs : List ℕ) (l : Lent) → Brings p T k cs bs l
       → (let ms : List Made = properRun p T k cs bs l in
-      AllAgreed p (startVerifier (T .start) cs) (byMessages p T (l .f) (l .g) ms)
+      (byMessages p T (l .f) (l .g) ms ≡ wholeByMessages p T cs bs)
+      × AllAgreed p (startVerifier (T .start) cs) (byMessages p T (l .f) (l .g) ms)
       × (T .start .plain ≡ true → (m : Lent) → 18 + 12 * T .start .rounds ≤ length (m .file)
       → (let o : Result = resultAfter p T (l .f) (l .g) ms (writes m) in
+      let file : List ℕ = take (18 + 12 * T .start .rounds) (o .lent .file) in
       (isAnswered (o .answer) ≡ true)
-      × AllAgreed p (startVerifier (T .start) cs) (byFile p T (l .f) (l .g) ms (take (18 + 12 * T .start .rounds) (o .lent .file))))))
+      × (byFile p T (l .f) (l .g) ms file ≡ wholeByFile p T cs bs)
+      × AllAgreed p (startVerifier (T .start) cs) (byFile p T (l .f) (l .g) ms file))))
   -- A VERIFIER'S VERDICTS, whatever its list: yes for exactly the messages that meet its equations, else no with the first round that
   -- failed, or n
   pub verdicts : (s : Start) → Startable s → (cs : List ℕ) → length cs ≡ s .rounds → Verdicts p s cs

@@ -14,6 +14,7 @@ pub mod QueryExample
 pub mod VerdictExample
 pub mod Proper
 pub mod Carried
+pub mod WholeList
 pub mod ExampleKept
 pub mod Example
 pub mod ExampleSmall
