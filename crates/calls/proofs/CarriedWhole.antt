@@ -53,7 +53,7 @@ module _ (p : ℕ) (T : Trip) (cs : List ℕ) where
   -- BY MESSAGES
   abbrev byMessage : Question → List Asked
   byMessage total = asks (closing p T) ∷ []
-  byMessage (roundMessage i) = asks (bringsMessage p T cs (messageAt p T cs i)) ∷ []
+  byMessage (roundMessage i) = asks (bringsMessage (messageAt p T cs i)) ∷ []
   byMessage ends = asks query.Verdict ∷ []
   byMessage (openingAt b) = checkAt p T cs b ∷ []
   byMessage proof = []
@@ -72,7 +72,7 @@ module _ (p : ℕ) (T : Trip) (cs : List ℕ) where
   messages-so : (m i : ℕ) → carriedAs byMessage (roundsAsked i m) ≡ messagesFrom p T cs i m
   unfolding carriedAs roundsAsked messagesFrom
   messages-so zero i = refl
-  messages-so (suc m) i = ap (λ xs. asks (bringsMessage p T cs (messageAt p T cs i)) ∷ xs) (messages-so m (suc i))
+  messages-so (suc m) i = ap (λ xs. asks (bringsMessage (messageAt p T cs i)) ∷ xs) (messages-so m (suc i))
 
   no-messages : (m i : ℕ) → carriedAs byCheck (roundsAsked i m) ≡ []
   unfolding carriedAs roundsAsked
@@ -156,7 +156,7 @@ module _ (p : ℕ) (large : maxWeight < p) (through : Bool) (T : Trip) (whole : 
   each-message total h = ap (λ (x : Reply). claims (x .answer) ++ []) (h .replies) ∙ claim-so (T .start .plain) _ _
   each-message (roundMessage i) h =
       ap (λ (x : Reply). claims (x .answer) ++ []) (h .replies)
-      ∙ ap (λ (m : Message). asks (bringsMessage p T cs m) ∷ []) (message-of p large through T whole cs i _ _ _ h refl)
+      ∙ ap (λ (m : Message). asks (bringsMessage m) ∷ []) (message-of p large through T whole cs i _ _ _ h refl)
   each-message ends h = ap (λ (x : Reply). claims (x .answer) ++ []) (h .replies)
   each-message (openingAt b) h = ap₂ _++_ (ap (λ (x : Reply). claims (x .answer)) (h .replies)) (check-so b h)
   each-message proof h = ap (λ (x : Reply). claims (x .answer) ++ []) (h .replies)

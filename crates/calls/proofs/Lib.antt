@@ -54,4 +54,6 @@ pub mod CarriedWhole
 pub mod LiveExample
 pub mod Dispatch
 pub mod Demand3
+pub mod InstanceTwisted
+pub mod InstanceSingle
 pub mod RuleTrips

@@ -13,6 +13,9 @@ use Rattle.calls.specs.Meaning.{messageAt, proofOfTrip}
 use Rattle.calls.specs.QueryStatement.{Asked}
 use Rattle.calls.specs.Carried.{asks, itemsOf}
 
+abbrev pub bringsMessage : Message → Query
+bringsMessage m = query.Message (m .even) (m .cross) (m .odd)
+
 module _ (p : ℕ) (T : Trip) where
   -- "the run's total"; "A twisted run's total is a field number"
   abbrev pub closing : Query
@@ -20,9 +23,6 @@ module _ (p : ℕ) (T : Trip) where
       cond (T .start .plain) (query.Close (totalOf T)) (query.CloseClaim (dot p (2 ^ T .start .rounds) (vectorF p T) (vectorG p T)))
 
   module _ (cs : List ℕ) where
-    abbrev pub bringsMessage : Message → Query
-    bringsMessage m = query.Message (m .even) (m .cross) (m .odd)
-
     -- "the run's messages in order": so many from message i on
     unfoldable pub messagesFrom : ℕ → ℕ → List Asked
     messagesFrom i zero = []
