@@ -21,7 +21,7 @@ use Rattle.prover.specs.declared.Run.{Run}
 use Rattle.prover.specs.declared.Pass.{Pass}
 use Rattle.prover.specs.declared.Answer.{Answer}
 use Rattle.prover.specs.declared.Answer.the-variants as answer
-use Rattle.prover.specs.Records.{Out, kernelOf, isChange, isFull, isOpen, isSmall}
+use Rattle.prover.specs.Records.{Out, kernelOf}
 use Rattle.prover.specs.Order.{isTotal, levelOf}
 use Rattle.prover.specs.Take.{takes}
 use Rattle.prover.specs.Full.{messageGiven}
@@ -35,7 +35,7 @@ use Rattle.runs.proofs.PassRecord.{takes-answer}
 use Rattle.calls.specs.declared.Call.{Call}
 use Rattle.calls.specs.declared.Call.the-variants as call
 use Rattle.calls.specs.Step.{Lent, Result, isAnswered, leaving, step}
-use Rattle.calls.specs.State.{State, fresh, withItem, takesChallenge, buffersIn, goesOn, closed, follow}
+use Rattle.calls.specs.State.{isChange, isFull, isOpen, isSmall, State, fresh, withItem, takesChallenge, buffersIn, goesOn, closed, follow}
 use Rattle.calls.specs.Table.{Refusal, waits, passNext, openingsNext, passLevel, taken, table}
 use Rattle.calls.specs.Meaning.{reply, closeAsks, foldF, foldG, messagesTo, AsLeft, challengeWrites, Kept}
 use Rattle.calls.specs.Statement.{Sized, HasStacks, Stacks, Holds, Right}

@@ -56,13 +56,13 @@ pub record Follows (p : ℕ) (T : Trip) (cs : List ℕ) (a : VerifierState) (v :
   pub claim : a .closed ≡ true → v .claim ≡ claimOf p T cs (a .round)
 
 -- the sums with one item more, field by field
-more-f : (p : ℕ) (s : Start) (cs : List ℕ) (k x sum now : ℕ) (plain : Bool) (twists challenges : List ℕ) (rounds taken : ℕ)
+pub more-f : (p : ℕ) (s : Start) (cs : List ℕ) (k x sum now : ℕ) (plain : Bool) (twists challenges : List ℕ) (rounds taken : ℕ)
     → sum ≡ now → plain ≡ s .plain → twists ≡ s .twists → challenges ≡ fifteen (s .rounds) cs → rounds ≡ s .rounds → taken ≡ k
     → addMod p sum (mulMod p (cond plain x (mulMod p x (weight p (at twists) rounds taken))) (weight p (at challenges) rounds taken))
     ≡ addMod p now (mulMod p (entersAs p s k x) (weight p (at (fifteen (s .rounds) cs)) (s .rounds) k))
 more-f p s cs k x sum now plain twists challenges rounds taken a b c d e f = rw (a, b, c, d, e, f)
 
-more-g : (p : ℕ) (s : Start) (cs : List ℕ) (k x sum now : ℕ) (challenges : List ℕ) (rounds taken : ℕ)
+pub more-g : (p : ℕ) (s : Start) (cs : List ℕ) (k x sum now : ℕ) (challenges : List ℕ) (rounds taken : ℕ)
     → sum ≡ now → challenges ≡ fifteen (s .rounds) cs → rounds ≡ s .rounds → taken ≡ k
     → addMod p sum (mulMod p x (weight p (at challenges) rounds taken))
     ≡ addMod p now (mulMod p x (weight p (at (fifteen (s .rounds) cs)) (s .rounds) k))

@@ -28,13 +28,12 @@ use Rattle.prover.specs.declared.Answer.{Answer}
 use Rattle.prover.specs.declared.Answer.the-variants as answer
 use Rattle.prover.specs.Order.{roundOrEnds}
 use Rattle.prover.specs.WellFormed.{roundFits, kindFits}
-use Rattle.prover.specs.Records.{isChange, isFull, isOpen, isSmall}
 use Rattle.runs.specs.Trip.{Raw, Trip, itemOf, vectorF, vectorG, totalOf}
 use Rattle.runs.specs.Passes.{passAfter, Gives}
 use Rattle.runs.specs.Buffers.{Written}
 use Rattle.calls.specs.declared.Call.the-variants as call
 use Rattle.calls.specs.Step.{Lent, Result}
-use Rattle.calls.specs.State.{State, inPass, goesTo, withBuffers, inFullMode, takesChallenge, buffersIn, closed}
+use Rattle.calls.specs.State.{isChange, isFull, isOpen, isSmall, State, inPass, goesTo, withBuffers, inFullMode, takesChallenge, buffersIn, closed}
 use Rattle.calls.specs.Table.{waits, changeNext, levelNow, level, long, taken, completed, table}
 use Rattle.calls.specs.Meaning.{reply, roundMessage, ends, closeAsks, messagesTo, foldF, foldG, AsLeft, itemWrites}
 use Rattle.calls.specs.Statement.{known}

@@ -22,6 +22,7 @@ pub mod QueryTurns
 pub mod QuerySteps
 pub mod QueryKeeps
 pub mod QueryLists
+pub mod QueryKept
 pub mod QueryVerdicts
 pub mod HeardMeaning
 pub mod HeardTrip
@@ -29,6 +30,10 @@ pub mod HeardFollows
 pub mod HeardFile
 pub mod HeardAnswers
 pub mod HeardLists
+pub mod VerdictFacts
+pub mod VerdictPhases
+pub mod VerdictFollows
+pub mod VerdictLists
 pub mod StartRows
 pub mod QueryArms
 pub mod Alike
@@ -38,9 +43,14 @@ pub mod LiveTable
 pub mod LiveStep
 pub mod LiveVectors
 pub mod LiveWorld
+pub mod Pointed
+pub mod OpeningChecks
 pub mod LivePass
 pub mod LiveFull
 pub mod Live
+pub mod LiveTakes
+pub mod CarriedTurns
+pub mod CarriedWalk
 pub mod LiveExample
 pub mod Dispatch
 pub mod Demand3

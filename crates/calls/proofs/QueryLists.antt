@@ -1,6 +1,6 @@
 -- Whatever the list of a verifier's calls: each is refused exactly when the table says, and then nothing changes.
 use mathlib.Core.Path.{_≡_, refl, sym, ap, subst, _∙_}
-use mathlib.Core.Bool.{true, false, cond}
+use mathlib.Core.Bool.{Bool, true, false, cond}
 use mathlib.Core.List.{List, [], _∷_}
 use mathlib.Core.Option.{Option, none, some}
 use Prim.Native.Nat.{ℕ}
@@ -18,7 +18,7 @@ use Rattle.calls.proofs.QueryStands.{Stands, fresh-stands}
 use Rattle.calls.proofs.QuerySteps.{answers, settledHeard, asks, answers-told}
 use Rattle.calls.proofs.QueryKeeps.{stands-after}
 
-refused-told : (k : ℕ) (i : Option ℕ) → isTold (refusedTold k i) ≡ false
+pub refused-told : (k : ℕ) (i : Option ℕ) → isTold (refusedTold k i) ≡ false
 refused-told k none = refl
 refused-told k (some i) = refl
 

@@ -21,7 +21,7 @@ use Rattle.prover.specs.declared.Run.{Run}
 use Rattle.prover.specs.declared.Pass.{Pass}
 use Rattle.prover.specs.declared.Step.{Step}
 use Rattle.prover.specs.declared.Answer.the-variants as answer
-use Rattle.prover.specs.Records.{Out, leaves, noValues, isOpen}
+use Rattle.prover.specs.Records.{Out, leaves, noValues}
 use Rattle.prover.specs.Order.{isTotal, isOpenings}
 use Rattle.prover.specs.WellFormed.{kindFits, wellFormed}
 use Rattle.prover.specs.Open.{opened, noPoints, pointsOf, openKernel, paddedKernel, toSmallCall}
@@ -35,7 +35,7 @@ use Rattle.runs.specs.Trip.{reading, numbers, partsIn, sumOf}
 use Rattle.calls.specs.declared.Call.{Call}
 use Rattle.calls.specs.declared.Call.the-variants as call
 use Rattle.calls.specs.Step.{Lent, Result, keeping, leaving, keepingStep, step}
-use Rattle.calls.specs.State.{State}
+use Rattle.calls.specs.State.{isOpen, State}
 use Rattle.calls.specs.Table.{Refusal, decided, row, waits, table}
 use Rattle.calls.specs.Statement.{refusedWith}
 use Rattle.calls.proofs.Records.{Notes, runOf}

@@ -6,7 +6,9 @@ use mathlib.Core.Bool.{true}
 use mathlib.Core.List.{List}
 use lib.ListN.{length, take}
 use Rattle.prover.specs.declared.Answer.the-variants as answer
-use Rattle.runs.specs.Trip.{reading, numbers, Trip, itemOf}
+use Rattle.vector.specs.Vector.{at}
+use Rattle.vector.specs.Opening.{opening}
+use Rattle.runs.specs.Trip.{reading, numbers, Trip, itemOf, vectorF, vectorG}
 use Rattle.calls.specs.declared.query.Query.{Query}
 use Rattle.calls.specs.declared.query.Query.the-variants as query
 use Rattle.calls.specs.declared.query.Told.{Told}
@@ -16,7 +18,7 @@ use Rattle.calls.specs.Step.{Result, isAnswered}
 use Rattle.calls.specs.World.{Made, World, came, onward}
 use Rattle.calls.specs.Meaning.{Question, total, roundMessage, openingAt, proof, question, Reply, says}
 use Rattle.calls.specs.QueryStep.{Shown}
-use Rattle.calls.specs.QueryState.{VerifierState}
+use Rattle.calls.specs.QueryState.{VerifierState, Hearing, heard}
 
 abbrev pub replyOf : Result → Reply
 replyOf o = record { answer = o .answer; values = o .values }
@@ -47,15 +49,20 @@ module _ (p : ℕ) where
     BringsRun b query.Proof l = Wrote w ms (l .file)
     BringsRun b (query.CheckOpening x) l = Unit {0}
 
-    -- every message passes, every verdict is yes; "every opening check .. is yes if point and values are an opening that the run gave"
-    abbrev pub SaysRun : VerifierState → Query → Shown → Told → Type 0
-    SaysRun b (query.Item z v) l t = t ≡ told.Taken
-    SaysRun b (query.FieldItem x y) l t = t ≡ told.Taken
-    SaysRun b (query.Close z) l t = t ≡ told.Closed
-    SaysRun b (query.CloseClaim c) l t = t ≡ told.Closed
-    SaysRun b (query.Message even cross odd) l t = t ≡ told.Passed
-    SaysRun b query.Verdict l t = t ≡ told.Yes
-    SaysRun b query.Proof l t = t ≡ told.Yes
-    SaysRun b (query.CheckOpening x) l t =
-        (values : List ℕ) → Gave w ms (openingAt x) (record { answer = answer.Opening; values = values })
-        → l .values ≡ take (6 * b .start .rounds) values → t ≡ told.Yes
+    -- "every opening check .. is yes if point and values are an opening that the run gave": answered, and yes
+    abbrev pub OpeningsChecked : Hearing → Type 0
+    OpeningsChecked h =
+        (b : ℕ) (values : List ℕ) → Gave w ms (openingAt b) (record { answer = answer.Opening; values = values }) → (file : List ℕ)
+        → heard p h (record { query = query.CheckOpening b; shown = record { file = file; values = take (6 * T .start .rounds) values } }) .told ≡ told.Yes
+
+-- WHAT AN ANSWERED CALL SAYS: every message passes, every verdict is yes, and an opening of the trip at the point opens
+abbrev pub SaysTrip : ℕ → Trip → VerifierState → Query → Shown → Told → Type 0
+SaysTrip p T b (query.Item z w) l t = t ≡ told.Taken
+SaysTrip p T b (query.FieldItem x y) l t = t ≡ told.Taken
+SaysTrip p T b (query.Close z) l t = t ≡ told.Closed
+SaysTrip p T b (query.CloseClaim c) l t = t ≡ told.Closed
+SaysTrip p T b (query.Message even cross odd) l t = t ≡ told.Passed
+SaysTrip p T b query.Verdict l t = t ≡ told.Yes
+SaysTrip p T b query.Proof l t = t ≡ told.Yes
+SaysTrip p T b (query.CheckOpening x) l t =
+    l .values ≡ opening p (T .start .rounds) (at (b .challenges)) (vectorF p T) (vectorG p T) x → t ≡ told.Yes

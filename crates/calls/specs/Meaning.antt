@@ -17,13 +17,13 @@ use Rattle.prover.specs.declared.Kind.{Kind}
 use Rattle.prover.specs.declared.Kind.the-variants.{Shut, Asked, Change}
 use Rattle.prover.specs.declared.Answer.{Answer}
 use Rattle.prover.specs.declared.Answer.the-variants as answer
-use Rattle.prover.specs.Records.{noValues, isChange, isFull}
+use Rattle.prover.specs.Records.{noValues}
 use Rattle.prover.specs.Values.{inNinety}
 use Rattle.runs.specs.Trip.{Raw, reading, numbers, Trip, itemOf, vectorF, vectorG, totalOf}
 use Rattle.calls.specs.declared.Call.{Call}
 use Rattle.calls.specs.declared.Call.the-variants as call
 use Rattle.calls.specs.Step.{Lent}
-use Rattle.calls.specs.State.{State}
+use Rattle.calls.specs.State.{isFull, isChange, State}
 use Rattle.calls.specs.Table.{waits, level, long, taken, completed}
 
 -- an answer, with the values beside it
