@@ -50,10 +50,15 @@ pub mod LiveFull
 pub mod Live
 pub mod LiveTakes
 pub mod CarriedTurns
+pub mod CarriedSteps
+pub mod Carried
 pub mod CarriedWalk
+pub mod CarriedWhole
 pub mod LiveExample
 pub mod Dispatch
 pub mod Demand3
+pub mod InstanceTwisted
+pub mod InstanceSingle
 pub mod RuleTrips
 pub mod ExampleKept
 pub mod Examples

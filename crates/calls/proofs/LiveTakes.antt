@@ -6,12 +6,16 @@ use Prim.Native.Nat.{ℕ, zero, suc}
 use lib.Dec.{eqb, leb, ltb}
 use lib.ListN.{List·getD-append}
 use Rattle.vector.specs.Vector.{at}
+use Rattle.prover.specs.declared.Next.{Next}
+use Rattle.prover.specs.declared.Next.the-variants as next
+use Rattle.prover.specs.declared.Kind.{Kind}
+use Rattle.prover.specs.declared.Kind.the-variants.{Shut, Asked, Change}
 use Rattle.runs.specs.Trip.{Raw, reading, numbers, Trip, itemOf}
 use Rattle.calls.specs.declared.Call.{Call}
 use Rattle.calls.specs.declared.Call.the-variants as call
 use Rattle.calls.specs.Lists.{along, always, each}
 use Rattle.calls.specs.Step.{Lent, Result, isAnswered}
-use Rattle.calls.specs.State.{State, takesChallenge, goesOn, follow, isChange, isFull}
+use Rattle.calls.specs.State.{State, takesChallenge, closed, goesOn, follow, isChange, isFull}
 use Rattle.calls.specs.World.{World, freshWorld, came}
 use Rattle.calls.specs.Meaning.{handsIn}
 use Rattle.calls.specs.Proper.{itemsBelow, wholePass, answerBy, changeBefore, roundsFrom, openingsAt, endCalls, openingCalls, wholeRun, Host, makes, hostOn, properRun}
@@ -117,6 +121,15 @@ module _ (T : Trip) where
         (last-quiet bs)
 
 -- an answered call adds its challenge
+close-takes : (a : State) (t : Next) (k : Kind) → closed a t k .turn .challenges ≡ a .turn .challenges
+close-takes a t Shut = refl
+close-takes a next.Total Asked = refl
+close-takes a next.Message Asked = refl
+close-takes a next.Challenge Asked = refl
+close-takes a next.Ends Asked = refl
+close-takes a next.Openings Asked = refl
+close-takes a t Change = refl
+
 goes-takes : (a : State) (c : Call) (l : Lent) → goesOn a c l .turn .challenges ≡ a .turn .challenges ++ own c
 goes-takes a call.OpenPass l = sym (append-nil (a .turn .challenges))
 goes-takes a (call.OpenAt b) l = sym (append-nil (a .turn .challenges))
@@ -124,7 +137,7 @@ goes-takes a call.ToFull l = sym (append-nil (a .turn .challenges))
 goes-takes a call.ToSmall l = sym (append-nil (a .turn .challenges))
 goes-takes a (call.Item r w) l = buffers-same (λ d. d .turn .challenges) (λ a l. refl) (isChange (a .pass .kind)) _ l ∙ sym (append-nil (a .turn .challenges))
 goes-takes a (call.FieldItem x y) l = buffers-same (λ d. d .turn .challenges) (λ a l. refl) (isChange (a .pass .kind)) _ l ∙ sym (append-nil (a .turn .challenges))
-goes-takes a call.Close l = closed-challenges a (a .turn .next) (a .pass .kind) ∙ sym (append-nil (a .turn .challenges))
+goes-takes a call.Close l = close-takes a (a .turn .next) (a .pass .kind) ∙ sym (append-nil (a .turn .challenges))
 goes-takes a call.Message l = sym (append-nil (a .turn .challenges))
 goes-takes a (call.Challenge c) l = buffers-same (λ d. d .turn .challenges) (λ a l. refl) (isFull (a .turn .mode)) (takesChallenge a c) l
 goes-takes a call.Ends l = sym (append-nil (a .turn .challenges))
