@@ -36,11 +36,11 @@ use Rattle.calls.specs.Meaning.{messageAt, proofOfTrip}
 use Rattle.calls.specs.QueryStep.{Shown, ask}
 use Rattle.calls.specs.Lists.{along}
 use Rattle.calls.specs.QueryState.{VerifierState, hears, passRows, isWhole, fileRows, verifierTable, Posed, plainly, Hearing, hearsOn}
-use Rattle.calls.specs.Given.{SaysTrip}
+use Rattle.calls.specs.Given.{agreed}
 use Rattle.calls.specs.Proper.{ItemFits, Valid}
-use Rattle.calls.specs.Carried.{bringsItem, itemsOf, claims, agreed}
+use Rattle.calls.specs.Carried.{bringsItem, itemsOf, claims}
 use Rattle.calls.specs.Demand3.{AllAgreed}
-use Rattle.calls.proofs.HeardMeaning.{BringsTrip}
+use Rattle.calls.proofs.HeardMeaning.{BringsTrip, SaysTrip}
 use Rattle.calls.proofs.QuerySteps.{answers, settledHeard, asks}
 use Rattle.calls.proofs.HeardFollows.{Follows, no-message}
 use Rattle.calls.proofs.HeardFile.{file-good}

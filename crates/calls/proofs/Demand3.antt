@@ -29,7 +29,7 @@ use Rattle.calls.proofs.OpeningChecks.{openings-checked}
 use Rattle.calls.proofs.Carried.{proper-messages, proper-file, proper-written}
 use Rattle.calls.proofs.CarriedWhole.{messages-list, file-list}
 use Rattle.calls.proofs.QueryLists.{every-query}
-use Rattle.calls.proofs.HeardMeaning.{BringsTrip}
+use Rattle.calls.proofs.HeardMeaning.{BringsTrip, says-agreed}
 use Rattle.calls.proofs.HeardFollows.{Follows}
 use Rattle.calls.proofs.HeardLists.{says-trip, follows-next, fresh-follows, modulus-31}
 use Rattle.calls.proofs.VerdictLists.{every-verdict}
@@ -66,7 +66,7 @@ module _ (p : ℕ) (large : maxWeight < p) (through : Bool) (T : Trip) (whole : 
     all-say h f (q ∷ qs) b =
         let brought : isTold (heard p h q .told) ≡ true → BringsTrip p T (h .state) (q .query) (q .shown)
         = λ y. brings (h .state) (f .challenges) (q .query) (q .shown) (b .0 y) in (
-          says-trip p large prime odd word T whole cs listed h f q brought,
+          λ e o. says-agreed p T (h .state) (q .query) (q .shown) (heard p h q .told) (says-trip p large prime odd word T whole cs listed h f q brought e) o,
           all-say (hearsOn p h q) (follows-next p large prime odd word T whole cs listed h f q brought) qs (b .1),
         )
 

@@ -37,8 +37,7 @@ use Rattle.calls.specs.declared.query.Query.the-variants as query
 use Rattle.calls.specs.QueryStep.{Shown, toldOf, toldVerdict, toldOpening}
 use Rattle.calls.specs.QueryState.{VerifierState, atRound, hearing, hears as goesOn, isWhole, verifierTable}
 use Rattle.calls.specs.Meaning.{messageAt, proofOfTrip}
-use Rattle.calls.specs.Given.{SaysTrip}
-use Rattle.calls.proofs.HeardMeaning.{BringsTrip}
+use Rattle.calls.proofs.HeardMeaning.{BringsTrip, SaysTrip}
 use Rattle.calls.proofs.QueryStands.{Carries, verdict-turn}
 use Rattle.calls.proofs.QueryTurns.{item-rows, item-weight, field-rows, field-numbers, close-rows, claim-rows, file-rows, message-rows, verdict-row, opening-point}
 use Rattle.calls.proofs.QuerySteps.{heardAs, answers}

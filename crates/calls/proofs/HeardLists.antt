@@ -18,8 +18,7 @@ use Rattle.calls.specs.declared.query.Heard.{Heard}
 use Rattle.calls.specs.QueryStep.{isTold}
 use Rattle.calls.specs.QueryState.{VerifierState, freshVerifierState, hears, verifierTable, Posed, Hearing, startVerifier, heard, hearsOn}
 use Rattle.calls.specs.Starts.{Whole}
-use Rattle.calls.specs.Given.{SaysTrip}
-use Rattle.calls.proofs.HeardMeaning.{BringsTrip}
+use Rattle.calls.proofs.HeardMeaning.{BringsTrip, SaysTrip}
 use Rattle.calls.proofs.QueryStands.{fresh-stands}
 use Rattle.calls.proofs.QuerySteps.{answers, settledHeard, asks, answers-told}
 use Rattle.calls.proofs.QueryLists.{follows}

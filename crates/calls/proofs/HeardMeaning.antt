@@ -1,16 +1,20 @@
--- What an answered call of a verifier brings, of the trip alone.
+-- What an answered call of a verifier brings and says, of the trip alone.
 use Prim.Native.Nat.{ℕ, _^_}
-use mathlib.Core.Path.{_≡_}
+use mathlib.Core.Path.{_≡_, refl}
 use mathlib.Core.Bool.{true}
 use lib.ListN.{length}
 use Rattle.field.specs.Total.{inLimits}
-use Rattle.vector.specs.Vector.{dot}
+use Rattle.vector.specs.Vector.{at, dot}
+use Rattle.vector.specs.Opening.{opening}
 use Rattle.runs.specs.Trip.{reading, numbers, Trip, itemOf, vectorF, vectorG, totalOf}
 use Rattle.calls.specs.declared.query.Query.{Query}
 use Rattle.calls.specs.declared.query.Query.the-variants as query
+use Rattle.calls.specs.declared.query.Told.{Told}
+use Rattle.calls.specs.declared.query.Told.the-variants as told
 use Rattle.calls.specs.Meaning.{messageAt, proofOfTrip}
 use Rattle.calls.specs.QueryStep.{Shown}
 use Rattle.calls.specs.QueryState.{VerifierState}
+use Rattle.calls.specs.Given.{agreed, OpensTrip}
 
 -- "the trip's items first to last, the run's total, and the run's messages in order or its proof file"
 abbrev pub BringsTrip : ℕ → Trip → VerifierState → Query → Shown → Type 0
@@ -24,3 +28,25 @@ BringsTrip p T a query.Verdict l = Unit {0}
 -- there is a proof file where the run's total is within its limits
 BringsTrip p T a query.Proof l = (l .file ≡ proofOfTrip p T (a .challenges)) × (inLimits p (totalOf T) ≡ true)
 BringsTrip p T a (query.CheckOpening b) l = Unit {0}
+
+-- every message passes, every verdict is yes, and an opening of the trip at the point opens
+abbrev pub SaysTrip : ℕ → Trip → VerifierState → Query → Shown → Told → Type 0
+SaysTrip p T a (query.Item z w) l t = t ≡ told.Taken
+SaysTrip p T a (query.FieldItem x y) l t = t ≡ told.Taken
+SaysTrip p T a (query.Close z) l t = t ≡ told.Closed
+SaysTrip p T a (query.CloseClaim c) l t = t ≡ told.Closed
+SaysTrip p T a (query.Message even cross odd) l t = t ≡ told.Passed
+SaysTrip p T a query.Verdict l t = t ≡ told.Yes
+SaysTrip p T a query.Proof l t = t ≡ told.Yes
+SaysTrip p T a (query.CheckOpening b) l t =
+    l .values ≡ opening p (T .start .rounds) (at (a .challenges)) (vectorF p T) (vectorG p T) b → t ≡ told.Yes
+
+pub says-agreed : (p : ℕ) (T : Trip) (a : VerifierState) (q : Query) (l : Shown) (t : Told) → SaysTrip p T a q l t → OpensTrip p T a (record { query = q; shown = l }) → t ≡ agreed q
+says-agreed p T a (query.Item z w) l t h o = h
+says-agreed p T a (query.FieldItem x y) l t h o = h
+says-agreed p T a (query.Close z) l t h o = h
+says-agreed p T a (query.CloseClaim c) l t h o = h
+says-agreed p T a (query.Message even cross odd) l t h o = h
+says-agreed p T a query.Verdict l t h o = h
+says-agreed p T a query.Proof l t h o = h
+says-agreed p T a (query.CheckOpening b) l t h o = h (o b refl)

@@ -19,7 +19,8 @@ use Rattle.calls.specs.Lists.{along}
 use Rattle.calls.specs.QueryState.{VerifierState, freshVerifierState, hears, followHeard, verifierTable, Posed, startVerifier, refusedTold}
 use Rattle.calls.specs.Starts.{Startable}
 use Rattle.calls.specs.Table.{Refusal}
-use Rattle.calls.specs.Verdict.{Brought, nothing, broughtWith, broughtAs, Judges, Account, freshAccount, accountOn, JudgedAt}
+use Rattle.calls.specs.Verdict.{Brought, nothing, broughtWith, broughtAs, Judges, Account, freshAccount, accountOn}
+use Rattle.calls.specs.Demand3.{AllJudged}
 use Rattle.calls.proofs.QueryStands.{fresh-stands}
 use Rattle.calls.proofs.QuerySteps.{answers, settledHeard, asks, answers-told}
 use Rattle.calls.proofs.QueryLists.{refused-told}
@@ -73,10 +74,10 @@ module _ (p : ℕ) (s : Start) (cs : List ℕ) (large : maxWeight < p) (fits : S
       }
 
   -- ALONG A LIST
-  all-judged : (qs : List Posed) (w : Account) → Bears p s cs (w .brought) (w .hearing .state) (w .hearing .verifier) → along (accountOn p s cs) (JudgedAt p s cs) w qs
+  all-judged : (qs : List Posed) (w : Account) → Bears p s cs (w .brought) (w .now .state) (w .now .verifier) → AllJudged p s cs w qs
   unfolding along
   all-judged [] w h = tt
-  all-judged (m ∷ qs) w h = let g = goes (w .brought) (w .hearing .state) (w .hearing .verifier) h (m .query) (m .shown) in (g .0, all-judged qs (accountOn p s cs w m) (g .1))
+  all-judged (m ∷ qs) w h = let g = goes (w .brought) (w .now .state) (w .now .verifier) h (m .query) (m .shown) in (g .0, all-judged qs (accountOn p n w m) (g .1))
 
-  pub every-verdict : (qs : List Posed) → along (accountOn p s cs) (JudgedAt p s cs) (freshAccount s cs) qs
+  pub every-verdict : (qs : List Posed) → AllJudged p s cs (freshAccount s cs) qs
   every-verdict qs = all-judged qs (freshAccount s cs) fresh-bears

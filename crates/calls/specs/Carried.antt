@@ -9,8 +9,6 @@ use Rattle.runs.specs.Trip.{Raw, reading, numbers, Trip}
 use Rattle.calls.specs.declared.Call.the-variants as call
 use Rattle.calls.specs.declared.query.Query.{Query}
 use Rattle.calls.specs.declared.query.Query.the-variants as query
-use Rattle.calls.specs.declared.query.Told.{Told}
-use Rattle.calls.specs.declared.query.Told.the-variants as told
 use Rattle.calls.specs.Lists.{gathered}
 use Rattle.calls.specs.Step.{Lent, isAnswered}
 use Rattle.calls.specs.World.{Made, World, came, onward}
@@ -70,14 +68,3 @@ module _ (p : ℕ) (T : Trip) (w : World) (ms : List Made) where
 -- the run's call that writes it
 abbrev pub writesProof : Lent → Made
 writesProof l = record { call = call.WriteProof; lent = l }
-
--- what a verifier that agrees says: an item taken, the pass closed, a message passed; a verdict, a file and an opening: yes
-abbrev pub agreed : Query → Told
-agreed (query.Item z w) = told.Taken
-agreed (query.FieldItem x y) = told.Taken
-agreed (query.Close z) = told.Closed
-agreed (query.CloseClaim c) = told.Closed
-agreed (query.Message even cross odd) = told.Passed
-agreed query.Verdict = told.Yes
-agreed query.Proof = told.Yes
-agreed (query.CheckOpening b) = told.Yes

@@ -18,10 +18,10 @@ use Rattle.calls.specs.Statement.{Sized, Decides, CountsHold, Holds, Rig
 use Rattle.calls.specs.QueryState.{verifierTable, Posed, Hearing, freshHearing, heard, hearsOn, DecidesHeard}
 use Rattle.calls.specs.QueryStep.{isTold}
 use Rattle.calls.specs.Proper.{Valid, Brings, properRun}
-use Rattle.calls.specs.Given.{replyOf, BringsRun, SaysTrip, OpeningsChecked}
-use Rattle.calls.specs.Carried.{byMessages, byFile, writesProof, agreed}
+use Rattle.calls.specs.Given.{replyOf, BringsRun, OpeningsChecked, agreed, OpensTrip}
+use Rattle.calls.specs.Carried.{byMessages, byFile, writesProof}
 use Rattle.calls.specs.WholeList.{wholeByMessages, wholeByFile}
-use Rattle.calls.specs.Verdict.{freshAccount, accountOn, JudgedAt}
+use Rattle.calls.specs.Verdict.{broughtWith, Judges, Account, freshAccount, accountOn}
 use Rattle.calls.specs.Starts.{Startable, Whole, Starts}
 
 -- ALONG A RUN'S LIST
@@ -63,11 +63,17 @@ module _ (p : ℕ) where
 
   abbrev pub AllSay : Trip → Hearing → List Posed → Type 0
   AllSay T =
-      along (hearsOn p) (λ h q. verifierTable p (h .state) (q .query) (q .shown) ≡ none → SaysTrip p T (h .state) (q .query) (q .shown) (heard p h q .told))
+      along (hearsOn p) (λ h q. verifierTable p (h .state) (q .query) (q .shown) ≡ none → OpensTrip p T (h .state) q → heard p h q .told ≡ agreed (q .query))
 
-  -- every call of the list is answered, and the verifier agrees
+  -- every call is answered, and the verifier agrees
   abbrev pub AllAgreed : Hearing → List Posed → Type 0
   AllAgreed = along (hearsOn p) (λ h q. heard p h q .told ≡ agreed (q .query))
+
+  -- every answered call answers to the equations of what was brought up to and with it
+  abbrev pub AllJudged : Start → List ℕ → Account → List Posed → Type 0
+  AllJudged s cs =
+      along (accountOn p (s .rounds))
+      (λ w q. isTold (heard p (w .now) q .told) ≡ true → Judges p s cs (broughtWith p (s .rounds) (w .brought) (q .query) (q .shown)) (q .query) (heard p (w .now) q .told))
 
 pub record Demand3 (p : ℕ) : Type 0 where
   -- each start is refused exactly by 3 and 6, and otherwise gives the records that the lists below begin with
@@ -121,5 +127,4 @@ pub record Demand3 (p : ℕ) : Type 0 where
       (isAnswered (o .answer) ≡ true) × (byFile p T w ms file ≡ wholeByFile p T cs bs) × AllAgreed p h (byFile p T w ms file))))
   -- A VERIFIER'S VERDICTS, whatever its list: yes for exactly the messages that meet its equations, else no with the first round that
   -- failed, or n
-  pub verdicts : (s : Start) → Startable s → (cs : List ℕ) → length cs ≡ s .rounds → (qs : List Posed)
-      → along (accountOn p s cs) (JudgedAt p s cs) (freshAccount s cs) qs
+  pub verdicts : (s : Start) → Startable s → (cs : List ℕ) → length cs ≡ s .rounds → (qs : List Posed) → AllJudged p s cs (freshAccount s cs) qs

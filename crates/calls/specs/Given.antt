@@ -18,7 +18,7 @@ use Rattle.calls.specs.Step.{Result, isAnswered}
 use Rattle.calls.specs.World.{Made, World, came, onward}
 use Rattle.calls.specs.Meaning.{Question, total, roundMessage, openingAt, proof, question, Reply, says}
 use Rattle.calls.specs.QueryStep.{Shown}
-use Rattle.calls.specs.QueryState.{VerifierState, Hearing, heard}
+use Rattle.calls.specs.QueryState.{VerifierState, Posed, Hearing, heard}
 
 abbrev pub replyOf : Result → Reply
 replyOf o = record { answer = o .answer; values = o .values }
@@ -55,14 +55,19 @@ module _ (p : ℕ) where
         (b : ℕ) (values : List ℕ) → Gave w ms (openingAt b) (record { answer = answer.Opening; values = values }) → (file : List ℕ)
         → heard p h (record { query = query.CheckOpening b; shown = record { file = file; values = take (6 * T .start .rounds) values } }) .told ≡ told.Yes
 
--- WHAT AN ANSWERED CALL SAYS: every message passes, every verdict is yes, and an opening of the trip at the point opens
-abbrev pub SaysTrip : ℕ → Trip → VerifierState → Query → Shown → Told → Type 0
-SaysTrip p T b (query.Item z w) l t = t ≡ told.Taken
-SaysTrip p T b (query.FieldItem x y) l t = t ≡ told.Taken
-SaysTrip p T b (query.Close z) l t = t ≡ told.Closed
-SaysTrip p T b (query.CloseClaim c) l t = t ≡ told.Closed
-SaysTrip p T b (query.Message even cross odd) l t = t ≡ told.Passed
-SaysTrip p T b query.Verdict l t = t ≡ told.Yes
-SaysTrip p T b query.Proof l t = t ≡ told.Yes
-SaysTrip p T b (query.CheckOpening x) l t =
-    l .values ≡ opening p (T .start .rounds) (at (b .challenges)) (vectorF p T) (vectorG p T) x → t ≡ told.Yes
+-- WHAT A VERIFIER THAT AGREES SAYS: an item taken, the pass closed, a message passed; a verdict, a file and an opening: yes
+abbrev pub agreed : Query → Told
+agreed (query.Item z w) = told.Taken
+agreed (query.FieldItem x y) = told.Taken
+agreed (query.Close z) = told.Closed
+agreed (query.CloseClaim c) = told.Closed
+agreed (query.Message even cross odd) = told.Passed
+agreed query.Verdict = told.Yes
+agreed query.Proof = told.Yes
+agreed (query.CheckOpening b) = told.Yes
+
+-- what is checked is an opening of the trip at the point
+abbrev pub OpensTrip : ℕ → Trip → VerifierState → Posed → Type 0
+OpensTrip p T b q =
+    (x : ℕ) → q .query ≡ query.CheckOpening x
+    → q .shown .values ≡ opening p (T .start .rounds) (at (b .challenges)) (vectorF p T) (vectorG p T) x

@@ -152,22 +152,12 @@ Judges p s cs b (query.CheckOpening x) t = Unit {0}
 
 -- A LIST, with what its answered calls brought
 pub record Account : Type 0 where
-  pub hearing : Hearing
+  pub now : Hearing
   pub brought : Brought
 
 abbrev pub freshAccount : Start → List ℕ → Account
-freshAccount s cs = record { hearing = freshHearing s cs; brought = nothing }
+freshAccount s cs = record { now = freshHearing s cs; brought = nothing }
 
-module _ (p : ℕ) (s : Start) (cs : List ℕ) where
-  abbrev pub accountOn : Account → Posed → Account
-  accountOn w m =
-      record {
-        hearing = hearsOn p (w .hearing) m;
-        brought = broughtAs p (s .rounds) (w .brought) (m .query) (m .shown) (heard p (w .hearing) m .told);
-      }
-
-  -- an answered call answers to the equations of what was brought up to and with it
-  abbrev pub JudgedAt : Account → Posed → Type 0
-  JudgedAt w m =
-      isTold (heard p (w .hearing) m .told) ≡ true
-      → Judges p s cs (broughtWith p (s .rounds) (w .brought) (m .query) (m .shown)) (m .query) (heard p (w .hearing) m .told)
+abbrev pub accountOn : ℕ → ℕ → Account → Posed → Account
+accountOn p n w q =
+    record { now = hearsOn p (w .now) q; brought = broughtAs p n (w .brought) (q .query) (q .shown) (heard p (w .now) q .told) }

@@ -36,7 +36,7 @@ P = 2147483647
 
 -- what a list brought, and what one call more is told
 abbrev broughtBy : Start → List ℕ → List Posed → Brought
-broughtBy s cs qs = after (accountOn P s cs) (freshAccount s cs) qs .brought
+broughtBy s cs qs = after (accountOn P (s .rounds)) (freshAccount s cs) qs .brought
 
 abbrev toldNext : Start → List ℕ → List Posed → Posed → Told
 toldNext s cs qs m = heard P (after (hearsOn P) (freshHearing s cs) qs) m .told
