@@ -65,7 +65,7 @@ modes : (m : Mode) → records.isSmall m ≡ isSmall m
 modes Small = refl
 modes Full = refl
 
-pub fulls : (m : Mode) → records.isFull m ≡ isFull m
+fulls : (m : Mode) → records.isFull m ≡ isFull m
 fulls Small = refl
 fulls Full = refl
 

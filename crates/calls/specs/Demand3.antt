@@ -61,6 +61,7 @@ module _ (p : ℕ) where
   AllBringRun T w ms =
       along (hearsOn p) (λ h q. isTold (heard p h q .told) ≡ true → BringsRun p T w ms (h .state) (q .query) (q .shown))
 
+  -- the verifier agrees with what the table lets through, with a check where it is of an opening of the trip
   abbrev pub AllSay : Trip → Hearing → List Posed → Type 0
   AllSay T =
       along (hearsOn p) (λ h q. verifierTable p (h .state) (q .query) (q .shown) ≡ none → OpensTrip p T (h .state) q → heard p h q .told ≡ agreed (q .query))
