@@ -21,14 +21,14 @@ use Rattle.prover.specs.declared.Next.the-variants as next
 use Rattle.prover.specs.declared.Kind.{Kind}
 use Rattle.prover.specs.declared.Kind.the-variants.{Shut, Asked, Change}
 use Rattle.prover.specs.declared.Pass.{Pass}
-use Rattle.prover.specs.Records.{kernelOf, isChange, isFull, isOpen}
+use Rattle.prover.specs.Records.{kernelOf}
 use Rattle.prover.specs.Order.{isTotal, levelAt, levelOf}
 use Rattle.prover.specs.WellFormed.{roundFits}
 use Rattle.item.specs.declared.Given.{Given}
 use Rattle.runs.specs.Trip.{Trip, vectorF, vectorG, totalOf}
 use Rattle.runs.specs.Passes.{passAfter, Gives}
 use Rattle.runs.proofs.PassTrip.{after-given}
-use Rattle.calls.specs.State.{State}
+use Rattle.calls.specs.State.{isChange, isFull, isOpen, State}
 use Rattle.calls.specs.Table.{waits, long}
 use Rattle.calls.specs.Meaning.{messageAt, messagesTo, foldF, foldG}
 use Rattle.calls.specs.Statement.{known}

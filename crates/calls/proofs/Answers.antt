@@ -22,7 +22,7 @@ use Rattle.prover.specs.declared.Pass.{Pass}
 use Rattle.refusal.specs.Outcome.{Outcome, answered}
 use Rattle.prover.specs.Reply.{Reply, answerIn}
 use Rattle.prover.specs.Reply as reply
-use Rattle.prover.specs.Records.{Out, kernelOf, isChange, isFull, isOpen, isSmall}
+use Rattle.prover.specs.Records.{Out, kernelOf}
 use Rattle.prover.specs.Order.{isTotal, levelOf}
 use Rattle.prover.specs.Take.{takes}
 use Rattle.prover.specs.Full.{messageGiven}
@@ -38,7 +38,7 @@ use Rattle.runs.proofs.PassRecord.{takes-answer}
 use Rattle.calls.specs.declared.Call.{Call}
 use Rattle.calls.specs.declared.Call.the-variants as call
 use Rattle.calls.specs.Step.{Lent, Result, isAnswered, leaving, step}
-use Rattle.calls.specs.State.{State, fresh, withItem, takesChallenge, buffersIn, goesOn, closed, follow}
+use Rattle.calls.specs.State.{isChange, isFull, isOpen, isSmall, State, fresh, withItem, takesChallenge, buffersIn, goesOn, closed, follow}
 use Rattle.calls.specs.Table.{Refusal, waits, passNext, openingsNext, passLevel, taken, table}
 use Rattle.calls.specs.Meaning.{meant, closeAsks, foldF, foldG, messagesTo, AsLeft, challengeWrites, Kept}
 use Rattle.calls.specs.Statement.{Sized, HasStacks, Stacks, Holds, Right}

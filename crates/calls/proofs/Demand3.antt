@@ -1,40 +1,42 @@
 -- DEMAND 3, proved: for any odd prime modulus above the largest weight that fits 32 bits, and so for 2,147,483,647.
-use mathlib.Core.Path.{_≡_, sym, ap, ap₂, subst, _∙_}
+use mathlib.Core.Path.{_≡_, sym, ap, ap₂, _∙_}
 use mathlib.Core.Bool.{Bool, true}
 use mathlib.Core.List.{List, [], _∷_, _++_}
-use Prim.Native.Nat.{ℕ, _*_, _%_, _^_, _<_, _≤_}
-use lib.ListN.{length, take}
+use Prim.Native.Nat.{ℕ, _%_, _^_, _<_, _≤_}
+use lib.ListN.{length}
 use Rattle.algebra.specs.Prime.{Prime}
 use Rattle.refusal.specs.Limit.{maxWeight}
 use Rattle.refusal.specs.Outcome.{answered}
 use Rattle.field.proofs.ModulusLaws.{modulus-odd, modulus-prime, modulus-word, modulus-weights}
-use Rattle.vector.specs.Vector.{at}
-use Rattle.vector.specs.Opening.{opening}
 use Rattle.item.specs.declared.Start.{Start}
 use Rattle.item.specs.Start.{modulusOf}
-use Rattle.runs.specs.Trip.{Trip, vectorF, vectorG}
+use Rattle.runs.specs.Trip.{Trip}
 use Rattle.calls.specs.declared.query.Query.{Query}
 use Rattle.calls.specs.declared.query.Query.the-variants as query
 use Rattle.calls.specs.Lists.{after, along}
 use Rattle.calls.specs.Step.{isAnswered}
 use Rattle.calls.specs.World.{Made, World, freshWorld, came, onward}
 use Rattle.calls.specs.Meaning.{meant, meaning, messageAt, proofOfTrip}
-use Rattle.calls.specs.QueryStep.{Shown, Said}
+use Rattle.calls.specs.QueryStep.{Shown}
 use Rattle.calls.specs.QueryState.{VerifierState, Posed, Hearing, freshHearing, heard, hearsOn}
-use Rattle.calls.specs.Given.{replyOf, BringsRun, SaysRun}
+use Rattle.calls.specs.Given.{replyOf, BringsRun}
 use Rattle.calls.specs.Starts.{Whole}
-use Rattle.calls.specs.Demand3.{AllSized, AllKept, AllTake, AllBringRun, AllSayRun, Demand3}
+use Rattle.calls.specs.Demand3.{AllSized, AllKept, AllTake, AllBringRun, AllSay, Demand3}
 use Rattle.calls.proofs.Records.{Notes}
 use Rattle.calls.proofs.Refusals.{all-decided, fresh-faithful}
 use Rattle.calls.proofs.Answers.{Going, all-right, fresh-going}
 use Rattle.calls.proofs.Live.{proper-answered, proper-sized, proper-kept}
 use Rattle.calls.proofs.Alike.{last-replies}
 use Rattle.calls.proofs.Hits.{hit-replies, hit-somewhere}
-use Rattle.calls.proofs.Links.{total-of, claim-of, message-of, opening-of, file-of}
+use Rattle.calls.proofs.Links.{total-of, claim-of, message-of, file-of}
+use Rattle.calls.proofs.OpeningChecks.{openings-checked}
+use Rattle.calls.proofs.Carried.{proper-messages, proper-file, proper-written}
+use Rattle.calls.proofs.CarriedWhole.{messages-list, file-list}
 use Rattle.calls.proofs.QueryLists.{every-query}
-use Rattle.calls.proofs.HeardMeaning.{BringsTrip, SaysTrip}
+use Rattle.calls.proofs.HeardMeaning.{BringsTrip, says-agreed}
 use Rattle.calls.proofs.HeardFollows.{Follows}
 use Rattle.calls.proofs.HeardLists.{says-trip, follows-next, fresh-follows, modulus-31}
+use Rattle.calls.proofs.VerdictLists.{every-verdict}
 use Rattle.calls.proofs.StartRows.{all-starts}
 
 -- WHAT THE RUN GAVE IS THE TRIP'S
@@ -59,31 +61,17 @@ module _ (p : ℕ) (large : maxWeight < p) (through : Bool) (T : Trip) (whole : 
       (f .0 ∙ ap (proofOfTrip p T) (sym e), f .1)
   brings b e (query.CheckOpening x) l h = tt
 
-  says : (b : VerifierState) → b .start ≡ T .start → b .challenges ≡ cs → (q : Query) (l : Shown) (t : Said) → SaysTrip p T b q l t → SaysRun p T w ms b q l (answered t)
-  says b es ec (query.Give x) l t h = ap (λ y. answered y) h
-  says b es ec (query.Close x) l t h = ap (λ y. answered y) h
-  says b es ec (query.CloseClaim c) l t h = ap (λ y. answered y) h
-  says b es ec (query.Message even cross odd) l t h = ap (λ y. answered y) h
-  says b es ec query.Verdict l t h = ap (λ y. answered y) h
-  says b es ec query.Proof l t h = ap (λ y. answered y) h
-  says b es ec (query.CheckOpening x) l t h = λ values gave same.
-      let g = hit-somewhere p large through T (whole .items) cs _ _ w going ms z kept takes gave in
-      ap (λ y. answered y)
-      (h (same ∙ ap (λ st. take (6 * st .rounds) values) es
-      ∙ opening-of p large through T (whole .items) cs x values (g .0) (sym (g .1) ∙ hit-replies p large through T (whole .items) cs _ (g .0))
-      ∙ ap (λ ds. opening p (T .start .rounds) (at ds) (vectorF p T) (vectorG p T) x) (sym ec)))
-
   -- A VERIFIER'S LIST that brings what the run gave
   module _ (prime : Prime p) (odd : p % 2 ≡ 1) (word : p ≤ 2 ^ 32) (listed : length cs ≡ T .start .rounds) where
-    all-say : (h : Hearing) → Follows p T cs (h .state) (h .verifier) → (qs : List Posed) → AllBringRun p T w ms h qs → AllSayRun p T w ms h qs
+    all-say : (h : Hearing) → Follows p T cs (h .state) (h .verifier) → (qs : List Posed) → AllBringRun p T w ms h qs → AllSay p T h qs
     unfolding along
     all-say h f [] b = tt
     all-say h f (q ∷ qs) b =
         let brought : isAnswered (heard p h q .told) ≡ true → BringsTrip p T (h .state) (q .query) (q .shown)
         = λ y. brings (h .state) (f .challenges) (q .query) (q .shown) (b .0 y) in (
-          λ e.
+          λ e o.
               let s = says-trip p large prime odd word T whole cs listed h f q brought e in
-              subst (SaysRun p T w ms (h .state) (q .query) (q .shown)) (sym (s .0)) (says (h .state) (f .start) (f .challenges) (q .query) (q .shown) _ (s .1)),
+              s .0 ∙ ap (λ t. answered t) (says-agreed p T (h .state) (q .query) (q .shown) _ (s .1) o),
           all-say (hearsOn p h q) (follows-next p large prime odd word T whole cs listed h f q brought) qs (b .1),
         )
 
@@ -114,6 +102,16 @@ module _ (p : ℕ) (large : maxWeight < p) (prime : Prime p) (odd : p % 2 ≡ 1)
         verifierAnswers = λ through T whole f g ms z kept cs listed takes qs brought.
             all-say p large through T whole cs (freshWorld (T .start) f g) (fresh-going p large through T (whole .items) (whole .start) f g) ms z kept takes prime odd word listed
             (freshHearing (T .start) cs) (fresh-follows p large prime odd word T whole cs listed) qs brought;
+        openingsChecked = λ through T whole f g ms z kept cs listed takes.
+            openings-checked p large prime odd word T whole cs listed through f g ms z kept takes;
+        verifierProper = λ T valid k cs bs l brought. (
+          messages-list p large T valid k cs bs l brought,
+          proper-messages p large prime odd word T valid k cs bs l brought,
+          λ plain m room.
+              let file = proper-file p large prime odd word T valid k cs bs l brought plain m room in
+              (file .0, file-list p large T valid k cs bs l brought _ (proper-written p large prime odd word T valid k cs bs l brought plain m room), file .1),
+        );
+        verdicts = λ s h cs listed. every-verdict p s cs large h listed;
       }
 
 -- of the customer's modulus

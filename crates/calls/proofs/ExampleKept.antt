@@ -10,7 +10,6 @@ use borrow.Author.Tests.{eqb-true, leb-true}
 use Rattle.vector.specs.Vector.{Vector, at}
 use Rattle.vector.specs.Slice.{every}
 use Rattle.vector.proofs.Every.{every-at}
-use Rattle.prover.specs.Records.{isFull}
 use Rattle.prover.proofs.Facts.{holds}
 use Rattle.item.specs.declared.Given.{Given}
 use Rattle.item.specs.declared.Given.the-variants.{Reading, Numbers}
@@ -19,7 +18,7 @@ use Rattle.calls.specs.declared.Call.{Call}
 use Rattle.calls.specs.declared.Call.the-variants as call
 use Rattle.calls.specs.Lists.{along, each}
 use Rattle.calls.specs.Step.{Lent, isAnswered}
-use Rattle.calls.specs.State.{State}
+use Rattle.calls.specs.State.{isFull, State}
 use Rattle.calls.specs.World.{Made, World, came, onward}
 use Rattle.calls.specs.Table.{long}
 use Rattle.calls.specs.Meaning.{bindsItem, AsLeft}

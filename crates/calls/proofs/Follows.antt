@@ -32,7 +32,7 @@ use Rattle.prover.specs.declared.Pass.{Pass}
 use Rattle.prover.specs.declared.Answer.the-variants as answer
 use Rattle.prover.specs.Reply as reply
 use Rattle.prover.specs.Reply.{answerIn}
-use Rattle.prover.specs.Records.{answeredStep, isChange, isFull, isOpen}
+use Rattle.prover.specs.Records.{answeredStep}
 use Rattle.prover.specs.Order.{isTotal, levelAt, foldSize, roundOrEnds}
 use Rattle.prover.specs.Close.{goneTo, withTotal, keptMessage, withMessage, shutPass}
 use Rattle.prover.specs.declared.Step.{Step}
@@ -50,7 +50,7 @@ use Rattle.runs.proofs.PassTotal.{after-total}
 use Rattle.runs.proofs.PassRecord.{takes-run, after-item}
 use Rattle.calls.specs.declared.Call.the-variants as call
 use Rattle.calls.specs.Step.{Lent, Result, leaving}
-use Rattle.calls.specs.State.{State, inPass, goesTo, withBuffers, takesChallenge, buffersIn, goesOn, closed}
+use Rattle.calls.specs.State.{isChange, isFull, isOpen, State, inPass, goesTo, withBuffers, takesChallenge, buffersIn, goesOn, closed}
 use Rattle.calls.specs.Table.{waits, levelNow, long, bothLong, totalFits, table}
 use Rattle.calls.proofs.Records.{Notes, noted, inArray, runOf, passOf}
 use Rattle.calls.proofs.Arrays as arrays

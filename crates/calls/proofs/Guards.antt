@@ -23,7 +23,8 @@ use Rattle.prover.specs.declared.Kind.{Kind}
 use Rattle.prover.specs.declared.Kind.the-variants.{Shut, Asked, Change}
 use Rattle.prover.specs.declared.Run.{Run}
 use Rattle.prover.specs.declared.Pass.{Pass}
-use Rattle.prover.specs.Records.{Out, out, isChange, isFull, isOpen, isSmall}
+use Rattle.prover.specs.Records as records
+use Rattle.prover.specs.Records.{Out, out}
 use Rattle.prover.specs.Order.{isTotal, isMessage, isEnds, isOpenings, levelAt, foldSize}
 use Rattle.prover.specs.WellFormed.{wellFormed}
 use Rattle.prover.specs.Open.{openNext, opened, noPoints, pointsOf, openKernel, paddedKernel, openCall, openAtCall}
@@ -41,7 +42,7 @@ use Rattle.item.specs.declared.Given.the-variants.{Reading, Numbers}
 use Rattle.item.specs.Item.{contributes, partsOf}
 use Rattle.runs.specs.Trip.{sumOf}
 use Rattle.calls.specs.Step.{Lent}
-use Rattle.calls.specs.State.{State}
+use Rattle.calls.specs.State.{isChange, isFull, isOpen, isSmall, State}
 use Rattle.calls.specs.Table.{Refusal, decided, row, rowAt, waits, passNext, openingsNext, changeNext, levelNow, long, bothLong, readRows, givenRows, placeRow, totalFits, table}
 use Rattle.calls.specs.declared.Call.the-variants as call
 use Rattle.calls.proofs.Records.{Notes, runOf}
@@ -61,8 +62,27 @@ pub like-row : {A : Type 0} (b c : Bool) (k : ℕ) (rest : Outcome A) (t : Optio
     → require b k rest ≡ decided (row c k t) o
 like-row b c k rest t o e r = ap (λ x. require x k rest) e ∙ same-row c k rest t o r
 
+-- the tests of the code beside the table's
+modes : (m : Mode) → records.isSmall m ≡ isSmall m
+modes Small = refl
+modes Full = refl
+
+fulls : (m : Mode) → records.isFull m ≡ isFull m
+fulls Small = refl
+fulls Full = refl
+
+opens : (k : Kind) → records.isOpen k ≡ isOpen k
+opens Shut = refl
+opens Asked = refl
+opens Change = refl
+
+changing : (k : Kind) → records.isChange k ≡ isChange k
+changing Shut = refl
+changing Asked = refl
+changing Change = refl
+
 -- the tests of what is next, one against the other
-pass-next : (m : Mode) (t : Next) → cond (isSmall m) (openNext t) false ≡ passNext m t
+pass-next : (m : Mode) (t : Next) → cond (records.isSmall m) (openNext t) false ≡ passNext m t
 pass-next Full t = refl
 pass-next Small next.Total = refl
 pass-next Small next.Message = refl
@@ -78,7 +98,7 @@ openings-next true next.Challenge n = refl
 openings-next true next.Ends n = refl
 openings-next true next.Openings n = refl
 
-change-next : (m : Mode) (t : Next) (n : ℕ) → cond (isSmall m) (changeAt t n) false ≡ changeNext m t n
+change-next : (m : Mode) (t : Next) (n : ℕ) → cond (records.isSmall m) (changeAt t n) false ≡ changeNext m t n
 change-next Full t n = refl
 change-next Small next.Total n = refl
 change-next Small next.Message n = refl
@@ -169,8 +189,8 @@ module _ (p : ℕ) (a : State) (past : Notes) (few : a .start .rounds ≤ 15) wh
     formed-and : (x y : Bool) → x ≡ y → cond (wellFormed p R s) x false ≡ y
     formed-and x y e = ap (λ b. cond b x false) wf ∙ e
 
-    full-and : (x y : Bool) → cond (isFull (a .turn .mode)) x false ≡ y → cond (cond (wellFormed p R s) (isFull (a .turn .mode)) false) x false ≡ y
-    full-and x y e = ap (λ b. cond b x false) (formed-and _ _ refl) ∙ e
+    full-and : (x y : Bool) → cond (isFull (a .turn .mode)) x false ≡ y → cond (cond (wellFormed p R s) (records.isFull (a .turn .mode)) false) x false ≡ y
+    full-and x y e = ap (λ b. cond b x false) (formed-and _ _ (fulls (a .turn .mode))) ∙ e
 
     pub open-decided : (l : Lent) → openCall p R s ≡ decided (table p a call.OpenPass l) (answered (opened R noPoints (openKernel R)))
     unfolding openCall table
@@ -180,7 +200,7 @@ module _ (p : ℕ) (a : State) (past : Notes) (few : a .start .rounds ≤ 15) wh
     unfolding openAtCall table
     open-at-decided b l =
         like-row _ _ 10 _ _ _
-        (formed-and _ _ (openings-next (isSmall (a .turn .mode)) (a .turn .next) (a .start .rounds)))
+        (formed-and _ _ (openings-next (records.isSmall (a .turn .mode)) (a .turn .next) (a .start .rounds) ∙ ap (λ m. m && openingsNext (a .turn .next) (a .start .rounds)) (modes (a .turn .mode))))
         (same-row (isNonzero p b) 6 _ none _ refl)
 
     pub to-full-decided : (l : Lent) → toFullCall p R s (l .f) (l .g) ≡ decided (table p a call.ToFull l) (answered (changes R (l .f) (l .g)))
@@ -219,15 +239,15 @@ module _ (p : ℕ) (a : State) (past : Notes) (few : a .start .rounds ≤ 15) wh
 
     -- the open pass is the state's
     module _ (kind : s .kind ≡ a .pass .kind) (count : s .taken ≡ length (a .pass .items)) where
-      open-test : cond (wellFormed p R s) (isOpen (s .kind)) false ≡ isOpen (a .pass .kind)
-      open-test = formed-and _ _ (ap isOpen kind)
+      open-test : cond (wellFormed p R s) (records.isOpen (s .kind)) false ≡ isOpen (a .pass .kind)
+      open-test = formed-and _ _ (opens (s .kind) ∙ ap isOpen kind)
 
       wanted-test : ltb (s .taken) (a .start .items) ≡ ltb (length (a .pass .items)) (a .start .items)
       wanted-test = ap (λ n. ltb n (a .start .items)) count
 
       place-there : (l : Lent) → placesThere R s (length (l .f)) (length (l .g)) ≡ (not (isChange (a .pass .kind)) || bothLong a l)
       place-there l =
-          ap₂ (λ b here. cond b here true) (ap isChange kind) (long-test l)
+          ap₂ (λ b here. cond b here true) (changing (s .kind) ∙ ap isChange kind) (long-test l)
           ∙ place-test (isChange (a .pass .kind)) (bothLong a l)
 
       places : (l : Lent) (x : Item) → itemPlaces p R s (l .f) (l .g) x ≡ decided (placeRow a l) (answered (takes p R s x (l .f) (l .g)))

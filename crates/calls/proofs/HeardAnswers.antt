@@ -1,5 +1,5 @@
 -- What an answered call says where the calls bring the trip's, and that the verifier goes on with the trip.
-use mathlib.Core.Path.{_≡_, refl, sym, ap, ap₂, subst, _∙_}
+use mathlib.Core.Path.{_≡_, refl, sym, ap, subst, _∙_}
 use mathlib.Core.Bool.{Bool, true, false, cond, _||_}
 use mathlib.Core.List.{List}
 use mathlib.Core.Option.{none}
@@ -17,6 +17,7 @@ use Rattle.field.specs.Integer.{image}
 use Rattle.wire.specs.Proof.{proofTotal, proofNumber}
 use Rattle.vector.specs.Rounds.{roundsOf}
 use Rattle.vector.specs.Vector.{at}
+use Rattle.vector.specs.Slice.{isNonzero}
 use Rattle.vector.specs.Message.{Message}
 use Rattle.vector.specs.Opening.{opening}
 use Rattle.vector.proofs.Rounds.{rounds-at-most, rounds-enough}
@@ -36,7 +37,7 @@ use Rattle.calls.specs.QueryStep as said
 use Rattle.calls.specs.QueryState.{VerifierState, atRound, hearing, hears as goesOn, isWhole, verifierTable}
 use Rattle.calls.specs.Meaning.{messageAt, proofOfTrip}
 use Rattle.calls.proofs.HeardMeaning.{BringsTrip, SaysTrip}
-use Rattle.calls.proofs.QueryStands.{verdict-turn}
+use Rattle.calls.proofs.QueryStands.{Carries, verdict-turn}
 use Rattle.calls.proofs.QueryTurns.{item-rows, close-rows, claim-rows, file-rows, message-rows, verdict-row, opening-point}
 use Rattle.calls.proofs.QuerySteps.{heardAs, goesTo, saysSo}
 use Rattle.calls.proofs.QueryKeeps.{stands-after}
@@ -60,6 +61,21 @@ module _ (p : ℕ) (large : maxWeight < p) (prime : Prime p) (odd : p % 2 ≡ 1)
 
   enough : T .start .items ≤ 2 ^ n
   enough = rw rounds (rounds-enough (T .start .items) most)
+
+  -- an opening of the trip, whatever the verifier was asked before
+  nonzero : (b : ℕ) → (ltb 0 b ≡ true) × (ltb b p ≡ true) → residue p b ≡ 0 → ⊥
+  nonzero b h e =
+      let least = ltb-true 0 b (h .0) in
+      let below = ltb-true b p (h .1) in
+      omega (arith, residue-small p b (omega arith))
+
+  pub opening-holds : (k : ℕ) (v : Verifier) → Carries (T .start) cs k v → (b : ℕ) → isNonzero p b ≡ true
+      → openingFinds p v b (opening p n (at cs) (vectorF p T) (vectorG p T) b) ≡ holds
+  opening-holds k v c b ok =
+      ap (λ k. openingFinds p v b (opening p k (at cs) (vectorF p T) (vectorG p T) b)) (sym (ap (λ s. s .rounds) (c .start)))
+      ∙ true-opening-holds prime odd b (nonzero b (both (ltb 0 b) (ltb b p) ok)) v (at cs)
+      (λ k h. ap (λ xs. at xs k) (c .challenges) ∙ fifteen-at n cs few (omega (arith, listed)) k (omega (arith, ap (λ s. s .rounds) (c .start))))
+      (vectorF p T) (vectorG p T)
 
   module _ (a : VerifierState) (v : Verifier) (f : Follows p T cs a v) where
     kind : {b : Bool} → a .start .plain ≡ b → T .start .plain ≡ b
@@ -116,23 +132,6 @@ module _ (p : ℕ) (large : maxWeight < p) (prime : Prime p) (odd : p % 2 ≡ 1)
         pub file-yes : finds p (afterFile p v (proofTotal file) file) ≡ yes
         file-yes = verdict-yes p T cs (atRound a n false) _ file-follows few listed large enough refl refl
 
-    -- an opening of the trip
-    nonzero : (b : ℕ) → (ltb 0 b ≡ true) × (ltb b p ≡ true) → residue p b ≡ 0 → ⊥
-    nonzero b h e =
-        let least = ltb-true 0 b (h .0) in
-        let below = ltb-true b p (h .1) in
-        omega (arith, residue-small p b (omega arith))
-
-    opening-holds : (b : ℕ) (l : Shown) → verifierTable p a (query.CheckOpening b) l ≡ none
-        → l .values ≡ opening p n (at (a .challenges)) (vectorF p T) (vectorG p T) b → openingFinds p v b (l .values) ≡ holds
-    opening-holds b l e values =
-        let c = carries p T cs a v f in
-        ap (openingFinds p v b)
-        (values ∙ ap₂ (λ k xs. opening p k (at xs) (vectorF p T) (vectorG p T) b) (sym (ap (λ s. s .rounds) (c .start))) (f .challenges))
-        ∙ true-opening-holds prime odd b (nonzero b (both (ltb 0 b) (ltb b p) (opening-point p a l b e))) v (at cs)
-        (λ k h. ap (λ xs. at xs k) (c .challenges) ∙ fifteen-at n cs few (omega (arith, listed)) k (omega (arith, ap (λ s. s .rounds) (c .start))))
-        (vectorF p T) (vectorG p T)
-
     closed-at : (w : Verifier) → a .closed ≡ false → Follows p T cs (atRound a 0 false) w → Follows p T cs (atRound a (a .round) (a .refuted)) w
     closed-at w unclosed g =
         subst (λ i. Follows p T cs (atRound a i (a .refuted)) w) (sym (no-message p T cs a v f unclosed))
@@ -186,4 +185,10 @@ module _ (p : ℕ) (large : maxWeight < p) (prime : Prime p) (odd : p % 2 ≡ 1)
               (subst (λ s. Follows p T cs (atRound a (s .rounds) false) (afterFile p v (proofTotal file) file)) (sym (f .start))
               (file-follows (rows .counted) (rows .unclosed) (kind (rows .same)) file reads)),
         )
-    answers-right (query.CheckOpening b) l e brings = ((λ values. ap said.opens (opening-holds b l e values)), f)
+    answers-right (query.CheckOpening b) l e brings = (
+      λ values.
+          ap (λ xs. said.opens (openingFinds p v b xs))
+          (values ∙ ap (λ ds. opening p n (at ds) (vectorF p T) (vectorG p T) b) (f .challenges))
+          ∙ ap said.opens (opening-holds (length (a .items)) v (carries p T cs a v f) b (opening-point p a l b e)),
+      f,
+    )

@@ -59,13 +59,13 @@ pub record Follows (p : ℕ) (T : Trip) (cs : List ℕ) (a : VerifierState) (v :
   pub claim : a .closed ≡ true → v .claim ≡ claimOf p T cs (a .round)
 
 -- the sums with one item more, field by field
-more-f : (p : ℕ) (s : Start) (cs : List ℕ) (k x sum now : ℕ) (start : Start) (challenges : List ℕ) (taken : ℕ)
+pub more-f : (p : ℕ) (s : Start) (cs : List ℕ) (k x sum now : ℕ) (start : Start) (challenges : List ℕ) (taken : ℕ)
     → sum ≡ now → start ≡ s → challenges ≡ fifteen (s .rounds) cs → taken ≡ k
     → addMod p sum (mulMod p (entersAs p start taken x) (weight p (at challenges) (start .rounds) taken))
     ≡ addMod p now (mulMod p (entersAs p s k x) (weight p (at (fifteen (s .rounds) cs)) (s .rounds) k))
 more-f p s cs k x sum now start challenges taken a b c d = rw (a, b, c, d)
 
-more-g : (p : ℕ) (s : Start) (cs : List ℕ) (k x sum now : ℕ) (start : Start) (challenges : List ℕ) (taken : ℕ)
+pub more-g : (p : ℕ) (s : Start) (cs : List ℕ) (k x sum now : ℕ) (start : Start) (challenges : List ℕ) (taken : ℕ)
     → sum ≡ now → start ≡ s → challenges ≡ fifteen (s .rounds) cs → taken ≡ k
     → addMod p sum (mulMod p x (weight p (at challenges) (start .rounds) taken))
     ≡ addMod p now (mulMod p x (weight p (at (fifteen (s .rounds) cs)) (s .rounds) k))

@@ -1,6 +1,6 @@
 -- What an answered call of a verifier brings and says, of the trip alone.
 use Prim.Native.Nat.{ℕ, _^_}
-use mathlib.Core.Path.{_≡_}
+use mathlib.Core.Path.{_≡_, refl}
 use mathlib.Core.Bool.{true}
 use lib.ListN.{length}
 use Rattle.field.specs.Total.{inLimits}
@@ -14,6 +14,7 @@ use Rattle.calls.specs.declared.query.Query.the-variants as query
 use Rattle.calls.specs.Meaning.{messageAt, proofOfTrip}
 use Rattle.calls.specs.QueryStep.{Shown, Said, replies, finds, opens}
 use Rattle.calls.specs.QueryState.{VerifierState}
+use Rattle.calls.specs.Given.{agreed, OpensTrip}
 
 -- "the trip's items first to last, the run's total, and the run's messages in order or its proof file"
 abbrev pub BringsTrip : ℕ → Trip → VerifierState → Query → Shown → Type 0
@@ -37,3 +38,12 @@ SaysTrip p T a query.Verdict l t = t ≡ finds yes
 SaysTrip p T a query.Proof l t = t ≡ finds yes
 SaysTrip p T a (query.CheckOpening b) l t =
     l .values ≡ opening p (T .start .rounds) (at (a .challenges)) (vectorF p T) (vectorG p T) b → t ≡ opens holds
+
+pub says-agreed : (p : ℕ) (T : Trip) (a : VerifierState) (q : Query) (l : Shown) (t : Said) → SaysTrip p T a q l t → OpensTrip p T a (record { query = q; shown = l }) → t ≡ agreed q
+says-agreed p T a (query.Give x) l t h o = h
+says-agreed p T a (query.Close z) l t h o = h
+says-agreed p T a (query.CloseClaim c) l t h o = h
+says-agreed p T a (query.Message even cross odd) l t h o = h
+says-agreed p T a query.Verdict l t h o = h
+says-agreed p T a query.Proof l t h o = h
+says-agreed p T a (query.CheckOpening b) l t h o = h (o b refl)

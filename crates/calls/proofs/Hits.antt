@@ -15,13 +15,12 @@ use Rattle.prover.specs.declared.Next.the-variants as next
 use Rattle.prover.specs.declared.Kind.{Kind}
 use Rattle.prover.specs.declared.Kind.the-variants.{Shut, Asked, Change}
 use Rattle.prover.specs.WellFormed.{roundFits}
-use Rattle.prover.specs.Records.{isFull}
 use Rattle.runs.specs.Trip.{Trip}
 use Rattle.calls.specs.declared.Call.{Call}
 use Rattle.calls.specs.declared.Call.the-variants as call
 use Rattle.calls.specs.Lists.{along, always, somewhere}
 use Rattle.calls.specs.Step.{Lent, isAnswered}
-use Rattle.calls.specs.State.{State}
+use Rattle.calls.specs.State.{isFull, State}
 use Rattle.calls.specs.World.{Made, World, came, onward}
 use Rattle.calls.specs.Table.{waits, openingsNext, table}
 use Rattle.calls.specs.Meaning.{Question, total, roundMessage, ends, openingAt, proof, done, closeAsks, question, meant, Kept}
@@ -56,7 +55,7 @@ module _ (p : ℕ) (large : maxWeight < p) (through : Bool) (T : Trip) (whole : 
   pub hit-replies : (q : Question) (h : Hit q) → replyOf (came p (h .world) (h .made)) ≡ meant p T (h .world .state .turn .challenges) q
   hit-replies q h = ap₂ (λ x y. record { answer = x; values = y }) (h .right .answer) (h .right .values) ∙ ap (meant p T (h .world .state .turn .challenges)) (h .asked)
 
-  hit-here : (w : World) {past : Notes} → Going p large through T whole w past → Prefix (w .state .turn .challenges) cs → (m : Made) → Sized (m .call)
+  unfoldable pub hit-here : (w : World) {past : Notes} → Going p large through T whole w past → Prefix (w .state .turn .challenges) cs → (m : Made) → Sized (m .call)
       → (isAnswered (came p w m .answer) ≡ true → Kept p T through (w .state) (m .call) (m .lent)) → (q : Question) → Answered p q w m → Hit q
   hit-here w {past} g prefix m z kept q e =
       let d = decide-step p large (w .state) (w .run) (w .pass) (g .faithful) (m .call) z (m .lent) in

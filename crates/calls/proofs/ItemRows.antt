@@ -7,12 +7,11 @@ use lib.Dec.{leb, ltb}
 use lib.ListN.{length}
 use borrow.Author.Tests.{leb-true, ltb-true}
 use Rattle.refusal.specs.Limit.{maxWeight}
-use Rattle.prover.specs.Records.{isOpen}
 use Rattle.item.specs.declared.Given.{Given}
 use Rattle.item.specs.declared.Given.the-variants.{Reading, Numbers}
 use Rattle.calls.specs.declared.Call.the-variants as call
 use Rattle.calls.specs.Step.{Lent}
-use Rattle.calls.specs.State.{State}
+use Rattle.calls.specs.State.{isOpen, State}
 use Rattle.calls.specs.Table.{givenRows, placeRow, table}
 use Rattle.calls.proofs.Steps.{row-passed}
 use Rattle.calls.proofs.Turns.{both, row-at-passed}

@@ -29,14 +29,13 @@ use Rattle.prover.specs.Reply.{Reply, answerIn}
 use Rattle.prover.specs.Reply as reply
 use Rattle.prover.specs.Order.{roundOrEnds}
 use Rattle.prover.specs.WellFormed.{roundFits, kindFits}
-use Rattle.prover.specs.Records.{isChange, isFull, isOpen, isSmall}
 use Rattle.item.specs.declared.Given.{Given}
 use Rattle.runs.specs.Trip.{Trip, itemOf, vectorF, vectorG, totalOf}
 use Rattle.runs.specs.Passes.{passAfter, Gives}
 use Rattle.runs.specs.Buffers.{Written}
 use Rattle.calls.specs.declared.Call.the-variants as call
 use Rattle.calls.specs.Step.{Lent, Result}
-use Rattle.calls.specs.State.{State, inPass, goesTo, withBuffers, inFullMode, takesChallenge, buffersIn, closed}
+use Rattle.calls.specs.State.{isChange, isFull, isOpen, isSmall, State, inPass, goesTo, withBuffers, inFullMode, takesChallenge, buffersIn, closed}
 use Rattle.calls.specs.Table.{waits, changeNext, levelNow, level, long, taken, completed, table}
 use Rattle.calls.specs.Meaning.{meant, roundMessage, ends, closeAsks, messagesTo, foldF, foldG, AsLeft, itemWrites}
 use Rattle.calls.specs.Statement.{known}

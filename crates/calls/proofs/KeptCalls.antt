@@ -4,13 +4,12 @@ use mathlib.Core.Path.{_≡_, refl, subst}
 use mathlib.Core.Bool.{Bool, true}
 use lib.ListN.{length}
 use Rattle.vector.specs.Vector.{at}
-use Rattle.prover.specs.Records.{isFull}
 use Rattle.item.specs.declared.Given.{Given}
 use Rattle.runs.specs.Trip.{Trip, itemOf, vectorF, vectorG}
 use Rattle.calls.specs.declared.Call.{Call}
 use Rattle.calls.specs.declared.Call.the-variants as call
 use Rattle.calls.specs.Step.{Lent}
-use Rattle.calls.specs.State.{State}
+use Rattle.calls.specs.State.{isFull, State}
 use Rattle.calls.specs.Meaning.{AsLeft, bindsItem, Kept}
 
 module _ (p : ℕ) (T : Trip) (through : Bool) (a : State) where

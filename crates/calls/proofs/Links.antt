@@ -115,6 +115,12 @@ length-proof p T cs =
     let xs : List ℕ = endValue p (at cs) n (vectorF p T) ∷ endValue p (at cs) n (vectorG p T) ∷ [] in
     length-file n (totalOf T) (messagesTo p T cs n ++ xs) (length-append (messagesTo p T cs n) xs ∙ omega (arith, length-messages p T cs n))
 
+-- 6n values
+pub opening-length : (p n : ℕ) (c : ℕ → ℕ) (f g : Vector) (b : ℕ) → length (opening p n c f g b) ≡ 6 * n
+opening-length p n c f g b =
+    length-append (tripleValues (triple p n c f b) 0 n) (tripleValues (triple p n c g b) 0 n)
+    ∙ omega (arith, triples-length (triple p n c f b) 0 n, triples-length (triple p n c g b) 0 n)
+
 module _ (p : ℕ) (large : maxWeight < p) (through : Bool) (T : Trip) (whole : length (T .items) ≡ T .start .items) (cs : List ℕ) where
   abbrev H : Question → Type 0
   H q = Hit p large through T whole cs q
@@ -146,9 +152,8 @@ module _ (p : ℕ) (large : maxWeight < p) (through : Bool) (T : Trip) (whole : 
       let n : ℕ = T .start .rounds in
       let ds : List ℕ = h .world .state .turn .challenges in
       let v : List ℕ = opening p n (at ds) (vectorF p T) (vectorG p T) b in
-      let long : length v ≡ 6 * n = length-append (tripleValues (triple p n (at ds) (vectorF p T) b) 0 n) (tripleValues (triple p n (at ds) (vectorG p T) b) 0 n) ∙ omega (arith, triples-length (triple p n (at ds) (vectorF p T) b) 0 n, triples-length (triple p n (at ds) (vectorG p T) b) 0 n) in
       ap (λ r. take (6 * n) (r .values)) e
-      ∙ ap (λ k. take k (inNinety n v)) (sym long)
+      ∙ ap (λ k. take k (inNinety n v)) (sym (opening-length p n (at ds) (vectorF p T) (vectorG p T) b))
       ∙ take-append-seam v _
       ∙ opening-same p T cs ds (late-prefix (openingAt b) h (ap isLate (h .asked))) b
 

@@ -17,19 +17,19 @@ use Rattle.prover.specs.declared.Next.{Next}
 use Rattle.prover.specs.declared.Next.the-variants as next
 use Rattle.prover.specs.declared.Kind.the-variants.{Shut}
 use Rattle.prover.specs.Order.{roundOrEnds}
-use Rattle.prover.specs.Records.{isFull}
 use Rattle.runs.specs.Trip.{Trip}
+use Rattle.calls.specs.State.{isFull}
 use Rattle.calls.specs.declared.Call.{Call}
 use Rattle.calls.specs.declared.Call.the-variants as call
 use Rattle.calls.specs.Step.{Lent}
-use Rattle.calls.specs.Table.{changeNext}
-use Rattle.calls.specs.Lists.{along}
-use Rattle.calls.specs.World.{World, freshWorld}
+use Rattle.calls.specs.Table.{waits, changeNext}
+use Rattle.calls.specs.Lists.{after}
+use Rattle.calls.specs.World.{World, freshWorld, onward}
 use Rattle.calls.specs.Proper.{Valid, AllNonzero, wholePass, answerBy, changeBefore, roundsFrom, openingsAt, endCalls, openingCalls, wholeRun, Host, Brings, properRun}
 use Rattle.calls.specs.Demand3.{AllSized, AllAnswered, AllKept, AllRight}
 use Rattle.calls.proofs.Records.{noNotes}
 use Rattle.calls.proofs.Answers.{all-right, fresh-going}
-use Rattle.calls.proofs.LiveWorld.{Lives, lives-answered, lives-sized, lives-kept, Standing}
+use Rattle.calls.proofs.LiveWorld.{Lives, lives-answered, lives-sized, lives-kept, lives-ended, Standing}
 use Rattle.calls.proofs.LivePass.{total-lives, message-lives, ends-lives, opening-lives, change-lives}
 use Rattle.calls.proofs.LiveFull.{challenge-lives, full-message-lives, full-ends-lives, full-opening-lives}
 
@@ -122,21 +122,21 @@ module _ (p : ℕ) (large : maxWeight < p) (through : Bool) (T : Trip) (valid : 
 
   -- THE OPENINGS
   openings-live : ltb 0 n ≡ true → (bs : List ℕ) → AllNonzero p bs → (w : Host) → Before (leb k (suc n)) next.Openings n w → Lives p T through w (openingsAt T k bs)
-  unfolding openingsAt along
-  openings-live some [] ok w st = tt
+  unfolding openingsAt Lives
+  openings-live some [] ok w st = ap (waits next.Openings) (st .next)
   openings-live some (b ∷ bs) ok w st =
       opening-live (openingsAt T k bs) (leb k (suc n)) (due-by (suc n) (omega arith)) b (ok 0 (omega arith)) some n w st
       (λ w st. openings-live some bs (λ j l. ok (suc j) (omega arith)) w st)
 
   after-ends : (bs : List ℕ) → AllNonzero p bs → (w : Host) → Before (leb k n) next.Openings n w → Lives p T through w (openingCalls T k bs)
-  unfolding along
+  unfolding Lives
   after-ends bs ok w st = by (ltb 0 n) refl
     where
       by : (b : Bool) → ltb 0 n ≡ b → Lives p T through w (cond b (changeBefore T k (suc n) ++ openingsAt T k bs) [])
       by true some =
           change-live (openingsAt T k bs) (suc n) (omega arith) next.Openings some n w (subst (λ b. Before b next.Openings n w) (sym (leb·suc-suc k n)) st)
           (openings-live some bs ok)
-      by false none = tt
+      by false none = ap (waits next.Openings) (st .next)
 
   run-lives : (cs bs : List ℕ) → length cs ≡ n → AllNonzero p cs → AllNonzero p bs → (w : Host) → Standing p large through T Due valid Small next.Total 0 Shut 0 w
       → Lives p T through w (wholeRun T k cs bs)
@@ -182,6 +182,10 @@ module _ (p : ℕ) (large : maxWeight < p) (T : Trip) (valid : Valid p T) (k : �
 
   pub proper-kept : (through : Bool) → AllKept p through T fresh (properRun p T k cs bs l)
   proper-kept through = lives-kept p T through begin (wholeRun T k cs bs) (lives through)
+
+  -- and it ends after the ends
+  pub proper-ended : waits next.Openings (after (onward p) fresh (properRun p T k cs bs l) .state .turn .next) ≡ true
+  proper-ended = lives-ended p T true begin (wholeRun T k cs bs) (lives true)
 
   -- so each of its answers is the meaning
   pub proper-right : (through : Bool) → AllRight p through T fresh (properRun p T k cs bs l)

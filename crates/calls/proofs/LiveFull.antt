@@ -20,13 +20,12 @@ use Rattle.prover.specs.declared.Next.the-variants as next
 use Rattle.prover.specs.declared.Kind.{Kind}
 use Rattle.prover.specs.declared.Kind.the-variants.{Shut}
 use Rattle.prover.specs.Order.{roundOrEnds}
-use Rattle.prover.specs.Records.{isFull}
 use Rattle.runs.specs.Trip.{Trip, vectorF, vectorG}
 use Rattle.runs.specs.Buffers.{Written}
 use Rattle.calls.specs.declared.Call.{Call}
 use Rattle.calls.specs.declared.Call.the-variants as call
 use Rattle.calls.specs.Step.{Lent}
-use Rattle.calls.specs.State.{State, takesChallenge, buffersIn}
+use Rattle.calls.specs.State.{isFull, State, takesChallenge, buffersIn}
 use Rattle.calls.specs.Table.{waits, openingsNext, levelNow, long, readRows}
 use Rattle.calls.specs.Meaning.{challengeWrites, AsLeft}
 use Rattle.calls.specs.Proper.{Valid, Host, foldZero}

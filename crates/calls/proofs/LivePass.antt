@@ -17,7 +17,6 @@ use Rattle.prover.specs.declared.Next.the-variants as next
 use Rattle.prover.specs.declared.Kind.{Kind}
 use Rattle.prover.specs.declared.Kind.the-variants.{Shut, Asked, Change}
 use Rattle.prover.specs.Order.{roundOrEnds}
-use Rattle.prover.specs.Records.{isChange, isOpen, isSmall}
 use Rattle.item.specs.declared.Given.{Given}
 use Rattle.item.specs.declared.Given.the-variants.{Reading, Numbers}
 use Rattle.runs.specs.Trip.{Trip, itemOf, sumOf}
@@ -26,7 +25,7 @@ use Rattle.runs.proofs.PassTrip.{gives-all}
 use Rattle.calls.specs.declared.Call.{Call}
 use Rattle.calls.specs.declared.Call.the-variants as call
 use Rattle.calls.specs.Step.{Lent}
-use Rattle.calls.specs.State.{State, inPass, buffersIn, closed, goesOn}
+use Rattle.calls.specs.State.{isChange, isOpen, isSmall, State, inPass, buffersIn, closed, goesOn}
 use Rattle.calls.specs.Table.{waits, passNext, openingsNext, changeNext, bothLong, totalFits}
 use Rattle.calls.specs.Meaning.{itemWrites}
 use Rattle.calls.specs.Statement.{Sized}

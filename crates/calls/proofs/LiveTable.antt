@@ -12,11 +12,10 @@ use Rattle.vector.proofs.Every.{reduced-all}
 use Rattle.prover.specs.declared.Next.the-variants as next
 use Rattle.prover.specs.declared.Run.{Run}
 use Rattle.prover.specs.declared.Pass.{Pass}
-use Rattle.prover.specs.Records.{isChange, isFull, isOpen, isSmall}
 use Rattle.calls.specs.declared.Call.{Call}
 use Rattle.calls.specs.declared.Call.the-variants as call
 use Rattle.calls.specs.Step.{Lent, isAnswered, step}
-use Rattle.calls.specs.State.{State}
+use Rattle.calls.specs.State.{isChange, isFull, isOpen, isSmall, State}
 use Rattle.item.specs.declared.Given.{Given}
 use Rattle.item.specs.declared.Given.the-variants.{Reading, Numbers}
 use Rattle.calls.specs.Proper.{ItemFits}
@@ -25,10 +24,10 @@ use Rattle.calls.specs.Statement.{Sized, Decides}
 use Rattle.calls.proofs.Records.{Notes}
 use Rattle.calls.proofs.Refusals.{Inv, decide-step}
 
-row-free : (b : Bool) (k : ℕ) (t : Option Refusal) → b ≡ true → t ≡ none → row b k t ≡ none
+pub row-free : (b : Bool) (k : ℕ) (t : Option Refusal) → b ≡ true → t ≡ none → row b k t ≡ none
 row-free b k t e f = rw e f
 
-row-at-free : (b : Bool) (k i : ℕ) (t : Option Refusal) → b ≡ true → t ≡ none → rowAt b k i t ≡ none
+pub row-at-free : (b : Bool) (k i : ℕ) (t : Option Refusal) → b ≡ true → t ≡ none → rowAt b k i t ≡ none
 row-at-free b k i t e f = rw e f
 
 module _ (p : ℕ) (a : State) (l : Lent) where

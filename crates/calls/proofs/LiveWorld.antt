@@ -16,14 +16,13 @@ use Rattle.prover.specs.declared.Next.{Next}
 use Rattle.prover.specs.declared.Next.the-variants as next
 use Rattle.prover.specs.declared.Kind.{Kind}
 use Rattle.prover.specs.declared.Kind.the-variants.{Shut, Asked, Change}
-use Rattle.prover.specs.Records.{isFull}
 use Rattle.runs.specs.Trip.{Trip, vectorF, vectorG}
 use Rattle.runs.specs.Buffers.{Written}
 use Rattle.runs.proofs.CloseLaws.{fold-below}
 use Rattle.calls.specs.declared.Call.{Call}
-use Rattle.calls.specs.Lists.{along, each}
+use Rattle.calls.specs.Lists.{after, along, each}
 use Rattle.calls.specs.Step.{Lent, Result, isAnswered}
-use Rattle.calls.specs.State.{State, buffersIn, goesOn}
+use Rattle.calls.specs.State.{isFull, State, withBuffers, buffersIn, goesOn}
 use Rattle.calls.specs.World.{Made, World, came, onward}
 use Rattle.calls.specs.Table.{waits, long, taken, completed, bothLong, readRows, table}
 use Rattle.calls.specs.Meaning.{foldF, foldG}
@@ -43,27 +42,36 @@ module _ (p : ℕ) (T : Trip) where
   abbrev pub made : Host → Call → Result
   made w c = came p (w .world) (makes p T w c)
 
-  -- all that is shown of a list, along it
-  abbrev pub Lives : Bool → Host → List Call → Type 0
-  Lives through =
-      along (hostOn p T) (λ w c. (isAnswered (made w c .answer) ≡ true) × Sized c × KeptBy p T through (w .world .state) c (lends p T (w .world .state) (w .lent)))
+  -- all that is shown of a call
+  abbrev Lived : Bool → Host → Call → Type 0
+  Lived through w c = (isAnswered (made w c .answer) ≡ true) × Sized c × KeptBy p T through (w .world .state) c (lends p T (w .world .state) (w .lent))
+
+  -- and of a list, along it; it ends after the ends
+  unfoldable pub Lives : Bool → Host → List Call → Type 0
+  Lives through w [] = waits next.Openings (w .world .state .turn .next) ≡ true
+  Lives through w (c ∷ cs) = Lived through w c × Lives through (hostOn p T w c) cs
 
   -- what holds of the host's calls holds along the list that it makes
-  played : (P : World → Made → Type 0) (Q : Host → Call → Type 0) → ((w : Host) (c : Call) → Q w c → P (w .world) (makes p T w c)) → (w : Host) (cs : List Call)
-      → along (hostOn p T) Q w cs → along (onward p) P (w .world) (each (hostOn p T) (makes p T) w cs)
-  unfolding along each
-  played P Q so w [] h = tt
-  played P Q so w (c ∷ cs) h = (so w c (h .0), played P Q so (hostOn p T w c) cs (h .1))
+  played : (through : Bool) (P : World → Made → Type 0) → ((w : Host) (c : Call) → Lived through w c → P (w .world) (makes p T w c)) → (w : Host) (cs : List Call)
+      → Lives through w cs → along (onward p) P (w .world) (each (hostOn p T) (makes p T) w cs)
+  unfolding along each Lives
+  played through P so w [] h = tt
+  played through P so w (c ∷ cs) h = (so w c (h .0), played through P so (hostOn p T w c) cs (h .1))
+
+  pub lives-ended : (through : Bool) (w : Host) (cs : List Call) → Lives through w cs → waits next.Openings (after (onward p) (w .world) (each (hostOn p T) (makes p T) w cs) .state .turn .next) ≡ true
+  unfolding after each Lives
+  lives-ended through w [] h = h
+  lives-ended through w (c ∷ cs) h = lives-ended through (hostOn p T w c) cs (h .1)
 
   module _ (through : Bool) (w : Host) (cs : List Call) (h : Lives through w cs) where
     pub lives-answered : AllAnswered p (w .world) (each (hostOn p T) (makes p T) w cs)
-    lives-answered = played _ _ (λ w c q. q .0) w cs h
+    lives-answered = played through _ (λ w c q. q .0) w cs h
 
     pub lives-sized : AllSized p (w .world) (each (hostOn p T) (makes p T) w cs)
-    lives-sized = played _ _ (λ w c q. q .1) w cs h
+    lives-sized = played through _ (λ w c q. q .1) w cs h
 
     pub lives-kept : AllKept p through T (w .world) (each (hostOn p T) (makes p T) w cs)
-    lives-kept = played _ _ (λ w c q y. by-kept p T through (w .world .state) c (lends p T (w .world .state) (w .lent)) (q .2)) w cs h
+    lives-kept = played through _ (λ w c q y. by-kept p T through (w .world .state) c (lends p T (w .world .state) (w .lent)) (q .2)) w cs h
 
   -- fold 0 is lent in buffers of the same length
   lends-length : (a : State) (l : Lent) → (length (lends p T a l .f) ≡ length (l .f)) × (length (lends p T a l .g) ≡ length (l .g))
@@ -109,6 +117,10 @@ still a b l x v u ef eg wf wg left j =
     (wf .above j (omega arith) ∙ left j .0 ∙ ap (λ y. at y j) (sym ef), wg .above j (omega arith) ∙ left j .1 ∙ ap (λ y. at y j) (sym eg))
 
 -- the buffers of a call leave the rest of the state
+pub buffers-same : {A : Type 0} (of : State → A) → ((a : State) (l : Lent) → of (withBuffers a l) ≡ of a) → (b : Bool) (a : State) (l : Lent) → of (buffersIn b a l) ≡ of a
+buffers-same of same true a l = same a l
+buffers-same of same false a l = refl
+
 pub buffers-so : (b : Bool) (a : State) (l : Lent) → (buffersIn b a l .turn ≡ a .turn) × (buffersIn b a l .pass ≡ a .pass)
 buffers-so true a l = (refl, refl)
 buffers-so false a l = (refl, refl)
@@ -140,7 +152,7 @@ module _ (p : ℕ) (large : maxWeight < p) (through : Bool) (T : Trip) (due : Ty
         let l : Lent = cond b (foldZero p T (w .lent)) (w .lent) in
         table p a c l ≡ none → KeptBy p T through a c l → (cs : List Call)
         → (MovedBy c → Right p T a c l (made p T w c) → Lives p T through (hostOn p T w c) cs) → Lives p T through w (c ∷ cs))
-    unfolding along
+    unfolding Lives
     call-lives c z b anew free kept cs on =
         let a : State = w .world .state in
         let e : lends p T a (w .lent) ≡ cond b (foldZero p T (w .lent)) (w .lent) =

@@ -24,7 +24,7 @@ use Rattle.prover.specs.declared.Step.{Step}
 use Rattle.prover.specs.declared.Answer.the-variants as answer
 use Rattle.prover.specs.Reply.{answerIn}
 use Rattle.prover.specs.Reply as reply
-use Rattle.prover.specs.Records.{Out, noValues, answeredStep, kernelOf, isFull, isOpen}
+use Rattle.prover.specs.Records.{Out, noValues, answeredStep, kernelOf}
 use Rattle.prover.specs.Order.{isTotal, isOpenings, levelOf, roundOrEnds}
 use Rattle.prover.specs.WellFormed.{roundFits, kindFits}
 use Rattle.prover.specs.Open.{newPass, noPoints, pointsOf, openKernel, paddedKernel}
@@ -43,7 +43,7 @@ use Rattle.runs.proofs.PassTrip.{after-dot, after-sum}
 use Rattle.runs.proofs.CloseLaws.{closed-message, closed-ends, closed-opening}
 use Rattle.calls.specs.declared.Call.the-variants as call
 use Rattle.calls.specs.Step.{Lent}
-use Rattle.calls.specs.State.{State}
+use Rattle.calls.specs.State.{isFull, isOpen, State}
 use Rattle.calls.specs.Table.{decided, waits, long, bothLong, readRows, table}
 use Rattle.calls.specs.Meaning.{Answer, meant, roundMessage, ends, openingAt, closeAsks, foldF, foldG, messagesTo, proofOfTrip}
 use Rattle.calls.proofs.Records.{Notes, runOf, passOf}

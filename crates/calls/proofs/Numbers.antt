@@ -6,8 +6,8 @@ use Prim.Native.Nat.{ℕ, zero, suc, _+_, _*_, _-_, _^_, _<_, _≤_}
 use native.Mathlib.Omega.{arith}
 use lib.Dec.{ltb}
 use lib.ListN.{length, getD, replicate}
-use Rattle.algebra.specs.Mod.{mulMod, residue}
-use Rattle.algebra.proofs.Congruence.{base-of, residue-lt}
+use Rattle.algebra.specs.Mod.{mulMod}
+use Rattle.algebra.proofs.Congruence.{base-of}
 use Rattle.algebra.proofs.Laws.{mul-lt}
 use Rattle.vector.specs.Vector.{Vector, at, weight}
 use Rattle.vector.specs.Message.{Message, messageOf, message}
@@ -31,7 +31,7 @@ use Rattle.runs.specs.Passes.{passAfter}
 use Rattle.runs.specs.Items.{ownTrip}
 use Rattle.runs.proofs.PassRecord.{after-kind}
 use Rattle.runs.proofs.PassTrip.{own-taken}
-use Rattle.runs.proofs.CloseLaws.{end-values, end-below, message-below}
+use Rattle.runs.proofs.CloseLaws.{residue-below, end-values, end-below, message-below}
 use Rattle.calls.proofs.Fits.{Fine}
 
 module _ (p : ℕ) (some : 0 < p) where
@@ -100,9 +100,6 @@ module _ (p : ℕ) (some : 0 < p) where
   unfolding messageSlice
   slice-below h fs gs = by (bothHave (2 * h) fs gs)
     where
-      below : (x : ℕ) → residue p x < p
-      below x = omega (arith, residue-lt p x, base-of p some)
-
       by : (b : Bool) → (let m : Message = cond b (messageOf p h (at fs) (at gs)) (record { even = 0; cross = 0; odd = 0 }) in (m .even < p) × (m .cross < p) × (m .odd < p))
-      by true = (below _, below _, below _)
+      by true = (residue-below p some _, residue-below p some _, residue-below p some _)
       by false = (some, some, some)

@@ -26,7 +26,7 @@ use Rattle.prover.specs.declared.Kind.the-variants.{Shut, Asked, Change}
 use Rattle.prover.specs.declared.Run.{Run}
 use Rattle.prover.specs.declared.Pass.{Pass}
 use Rattle.prover.specs.Reply as reply
-use Rattle.prover.specs.Records.{Out, noValues, isChange, isFull, isOpen}
+use Rattle.prover.specs.Records.{Out, noValues}
 use Rattle.prover.specs.Order.{isTotal}
 use Rattle.prover.specs.WellFormed.{roundFits, kindFits}
 use Rattle.prover.specs.Take.{takes}
@@ -43,7 +43,7 @@ use Rattle.runs.proofs.ChangeLaws.{asked-leaves}
 use Rattle.calls.specs.declared.Call.{Call}
 use Rattle.calls.specs.declared.Call.the-variants as call
 use Rattle.calls.specs.Step.{Lent, Result, leaving}
-use Rattle.calls.specs.State.{State, inPass, withItem, takesChallenge, buffersIn, goesOn}
+use Rattle.calls.specs.State.{isChange, isFull, isOpen, State, inPass, withItem, takesChallenge, buffersIn, goesOn}
 use Rattle.calls.specs.Table.{waits, openingsNext, changeNext, levelNow, level, long, taken, completed, bothLong, readRows, fileSize, table}
 use Rattle.calls.specs.Meaning.{meaning, foldF, foldG, AsLeft, itemWrites, challengeWrites}
 use Rattle.calls.specs.Statement.{known, Right}

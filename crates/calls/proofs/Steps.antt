@@ -21,7 +21,7 @@ use Rattle.prover.specs.declared.Run.{Run}
 use Rattle.prover.specs.declared.Pass.{Pass}
 use Rattle.prover.specs.declared.Step.{Step}
 use Rattle.prover.specs.Reply as reply
-use Rattle.prover.specs.Records.{Out, out, leaves, noValues, isOpen}
+use Rattle.prover.specs.Records.{Out, out, leaves, noValues}
 use Rattle.prover.specs.Order.{isTotal, isOpenings}
 use Rattle.prover.specs.WellFormed.{kindFits, wellFormed}
 use Rattle.prover.specs.Open.{opened, noPoints, pointsOf, openKernel, paddedKernel, toSmallCall}
@@ -36,7 +36,7 @@ use Rattle.runs.specs.Trip.{sumOf}
 use Rattle.calls.specs.declared.Call.{Call}
 use Rattle.calls.specs.declared.Call.the-variants as call
 use Rattle.calls.specs.Step.{Lent, Result, keeping, leaving, step}
-use Rattle.calls.specs.State.{State}
+use Rattle.calls.specs.State.{isOpen, State}
 use Rattle.calls.specs.Table.{Refusal, refusedWith, decided, row, waits, table}
 use Rattle.calls.proofs.Records.{Notes, runOf}
 use Rattle.calls.proofs.Guards.{challengeDoes, same-row, like-row, proof-next, open-decided, open-at-decided, to-full-decided, message-decided, ends-decided, opening-decided, challenge-decided, item-decided, close-decided}

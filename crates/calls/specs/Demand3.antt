@@ -1,23 +1,28 @@
 -- DEMAND 3: "a single theorem whose subject is the whole list". To be read top to bottom with Lists, Starts, State, World, Table, Meaning,
--- Statement (a run's list), Proper (a run's own list), QueryState (a verifier's list) and Given (a verifier's beside a run's).
-use Prim.Native.Nat.{ℕ, _<_}
+-- Statement (a run's list), Proper (a run's own list), QueryState (a verifier's list), Given (a verifier's beside a run's), Carried and
+-- WholeList (the verifier's own list) and Verdict (a verifier's verdicts).
+use Prim.Native.Nat.{ℕ, _+_, _*_, _<_, _≤_}
 use mathlib.Core.Path.{_≡_}
 use mathlib.Core.Bool.{Bool, true}
 use mathlib.Core.List.{List, [], _∷_, _++_}
 use mathlib.Core.Option.{none}
-use lib.ListN.{length}
+use lib.ListN.{length, take}
+use Rattle.refusal.specs.Outcome.{answered}
 use Rattle.vector.specs.Vector.{at}
 use Rattle.item.specs.declared.Start.{Start}
 use Rattle.runs.specs.Trip.{Trip}
 use Rattle.calls.specs.Lists.{after, along, always}
-use Rattle.calls.specs.Step.{Lent, isAnswered}
+use Rattle.calls.specs.Step.{Lent, Result, isAnswered}
 use Rattle.calls.specs.World.{Made, World, freshWorld, came, onward}
-use Rattle.calls.specs.Table.{table}
+use Rattle.calls.specs.Table.{table, fileSize}
 use Rattle.calls.specs.Meaning.{question, Kept}
 use Rattle.calls.specs.Statement.{Sized, Decides, CountsHold, Holds, Right}
 use Rattle.calls.specs.QueryState.{verifierTable, Posed, Hearing, freshHearing, heard, hearsOn, DecidesHeard}
 use Rattle.calls.specs.Proper.{Valid, Brings, properRun}
-use Rattle.calls.specs.Given.{replyOf, BringsRun, SaysRun}
+use Rattle.calls.specs.Given.{replyOf, BringsRun, OpeningsChecked, agreed, OpensTrip}
+use Rattle.calls.specs.Carried.{byMessages, byFile, writesProof}
+use Rattle.calls.specs.WholeList.{wholeByMessages, wholeByFile}
+use Rattle.calls.specs.Verdict.{broughtWith, Judges, Account, freshAccount, accountOn}
 use Rattle.calls.specs.Starts.{Startable, Whole, Starts}
 
 -- ALONG A RUN'S LIST
@@ -57,9 +62,20 @@ module _ (p : ℕ) where
   AllBringRun T w ms =
       along (hearsOn p) (λ h q. isAnswered (heard p h q .told) ≡ true → BringsRun p T w ms (h .state) (q .query) (q .shown))
 
-  abbrev pub AllSayRun : Trip → World → List Made → Hearing → List Posed → Type 0
-  AllSayRun T w ms =
-      along (hearsOn p) (λ h q. verifierTable p (h .state) (q .query) (q .shown) ≡ none → SaysRun p T w ms (h .state) (q .query) (q .shown) (heard p h q .told))
+  -- the verifier agrees with what the table lets through, with a check where it is of an opening of the trip
+  abbrev pub AllSay : Trip → Hearing → List Posed → Type 0
+  AllSay T =
+      along (hearsOn p) (λ h q. verifierTable p (h .state) (q .query) (q .shown) ≡ none → OpensTrip p T (h .state) q → heard p h q .told ≡ answered (agreed (q .query)))
+
+  -- every call is answered, and the verifier agrees
+  abbrev pub AllAgreed : Hearing → List Posed → Type 0
+  AllAgreed = along (hearsOn p) (λ h q. heard p h q .told ≡ answered (agreed (q .query)))
+
+  -- every answered call answers to the equations of what was brought up to and with it
+  abbrev pub AllJudged : Start → List ℕ → Account → List Posed → Type 0
+  AllJudged s cs =
+      along (accountOn p (s .rounds))
+      (λ w q. isAnswered (heard p (w .now) q .told) ≡ true → Judges p s cs (broughtWith p (s .rounds) (w .brought) (q .query) (q .shown)) (q .query) (heard p (w .now) q .told))
 
 pub record Demand3 (p : ℕ) : Type 0 where
   -- each start is refused exactly by 3 and 6, and otherwise gives the records that the lists below begin with
@@ -88,8 +104,29 @@ pub record Demand3 (p : ℕ) : Type 0 where
   -- A VERIFIER'S LIST, whatever it is: refused exactly when, and with the number that, the table says, and then nothing changes
   pub verifierRefusals : (s : Start) → Startable s → (cs : List ℕ) (qs : List Posed) → AllDecidedHeard p (freshHearing s cs) qs
   -- BESIDE A RUN'S LIST that took the verifier's challenges: where the answered calls bring the trip's items first to last and what the run
-  -- gave, every message passes, every verdict is yes, and every opening that the run gave opens
+  -- gave, every message passes and every verdict is yes
   pub verifierAnswers : (through : Bool) (T : Trip) → Whole T → (f g : List ℕ) (ms : List Made)
       → (let w : World = freshWorld (T .start) f g in
       AllSized p w ms → AllKept p through T w ms → (cs : List ℕ) → length cs ≡ T .start .rounds → AllTake p cs w ms
-      → (qs : List Posed) → AllBringRun p T w ms (freshHearing (T .start) cs) qs → AllSayRun p T w ms (freshHearing (T .start) cs) qs)
+      → (qs : List Posed) → AllBringRun p T w ms (freshHearing (T .start) cs) qs → AllSay p T (freshHearing (T .start) cs) qs)
+  -- and "at any time", whatever the verifier was asked before, every check of the run's openings is yes
+  pub openingsChecked : (through : Bool) (T : Trip) → Whole T → (f g : List ℕ) (ms : List Made)
+      → (let w : World = freshWorld (T .start) f g in
+      AllSized p w ms → AllKept p through T w ms → (cs : List ℕ) → length cs ≡ T .start .rounds → AllTake p cs w ms
+      → (qs : List Posed) → OpeningsChecked p T w ms (after (hearsOn p) (freshHearing (T .start) cs) qs))
+  -- A PROPER RUN'S VERIFIER has for its own list the L items, the close, n messages, the verdict and a check of each opening, answers it
+  -- throughout and agrees: every message passes, the verdict and every check are yes; and so with the proof file of a plain run, which the run
+  -- writes into any file that has room for it: the L items, the file, the checks
+  pub verifierProper : (T : Trip) → Valid p T → (k : ℕ) (cs bs : List ℕ) (l : Lent) → Brings p T k cs bs l
+      → (let w : World = freshWorld (T .start) (l .f) (l .g) in
+      let ms : List Made = properRun p T k cs bs l in
+      let h : Hearing = freshHearing (T .start) cs in
+      (byMessages p T w ms ≡ wholeByMessages p T cs bs)
+      × AllAgreed p h (byMessages p T w ms)
+      × (T .start .plain ≡ true → (m : Lent) → fileSize (T .start .rounds) ≤ length (m .file)
+      → (let o : Result = came p (after (onward p) w ms) (writesProof m) in
+      let file : List ℕ = take (fileSize (T .start .rounds)) (o .lent .file) in
+      (isAnswered (o .answer) ≡ true) × (byFile p T w ms file ≡ wholeByFile p T cs bs) × AllAgreed p h (byFile p T w ms file))))
+  -- A VERIFIER'S VERDICTS, whatever its list: yes for exactly the messages that meet its equations, else no with the first round that
+  -- failed, or n
+  pub verdicts : (s : Start) → Startable s → (cs : List ℕ) → length cs ≡ s .rounds → (qs : List Posed) → AllJudged p s cs (freshAccount s cs) qs

@@ -60,6 +60,10 @@ lent c f g = record { call = c; lent = lending f g [] }
 abbrev pub proofInto : ℕ → Made
 proofInto size = record { call = call.WriteProof; lent = lending [] [] (replicate size 255) }
 
+-- what each call of a list replies
+abbrev pub repliesFrom : World → List Made → List Answer
+repliesFrom = each (onward P) (λ w m. replyOf (came P w m))
+
 -- a call and its answer
 abbrev pub Exchange : Type 0
 Exchange = Made × Answer
@@ -136,6 +140,6 @@ lastOf file (x ∷ xs) = lastOf x xs
 pub record TripList (xs : List Exchange) (w : World) : Type 0 where
   pub sized : AllSized P w (callsOf xs)
   pub kept : AllKept P true trip w (callsOf xs)
-  pub replies : each (onward P) (λ w m. replyOf (came P w m)) w (callsOf xs) ≡ answersOf xs
+  pub replies : repliesFrom w (callsOf xs) ≡ answersOf xs
   pub refusals : each (onward P) (λ w m. table P (w .state) (m .call) (m .lent)) w (callsOf xs) ≡ refusalsOf xs
   pub file : lastOf [] (each (onward P) (λ w m. came P w m .lent .file) w (callsOf xs)) ≡ tripFile

@@ -5,11 +5,13 @@ use mathlib.Core.Path.{_≡_}
 use mathlib.Core.Bool.{true}
 use mathlib.Core.List.{List}
 use lib.ListN.{length, take}
-use Rattle.refusal.specs.Outcome.{Outcome, answered}
+use Rattle.refusal.specs.Outcome.{answered}
+use Rattle.vector.specs.Vector.{at}
+use Rattle.vector.specs.Opening.{opening}
 use Rattle.prover.specs.Reply as reply
-use Rattle.verifier.specs.Reply as heard
+use Rattle.verifier.specs.Reply as verifier
 use Rattle.verifier.specs.Records.{yes, holds}
-use Rattle.runs.specs.Trip.{Trip, itemOf}
+use Rattle.runs.specs.Trip.{Trip, itemOf, vectorF, vectorG}
 use Rattle.calls.specs.declared.query.Query.{Query}
 use Rattle.calls.specs.declared.query.Query.the-variants as query
 use Rattle.calls.specs.Lists.{somewhere}
@@ -18,7 +20,7 @@ use Rattle.calls.specs.World.{Made, World, came, onward}
 use Rattle.calls.specs.Meaning.{Question, total, roundMessage, openingAt, proof, question, Answer, says}
 use Rattle.calls.specs.Table.{fileSize}
 use Rattle.calls.specs.QueryStep.{Shown, Said, replies, finds, opens}
-use Rattle.calls.specs.QueryState.{VerifierState}
+use Rattle.calls.specs.QueryState.{VerifierState, Posed, Hearing, heard}
 
 abbrev pub replyOf : Result → Answer
 replyOf o = record { answer = o .answer; values = o .values }
@@ -48,14 +50,25 @@ module _ (p : ℕ) where
     BringsRun b query.Proof l = Wrote w ms (l .file)
     BringsRun b (query.CheckOpening x) l = Unit {0}
 
-    -- every message passes, every verdict is yes; "every opening check .. is yes if point and values are an opening that the run gave"
-    abbrev pub SaysRun : VerifierState → Query → Shown → Outcome Said → Type 0
-    SaysRun b (query.Give x) l t = t ≡ answered (replies heard.taken)
-    SaysRun b (query.Close z) l t = t ≡ answered (replies heard.closed)
-    SaysRun b (query.CloseClaim c) l t = t ≡ answered (replies heard.closed)
-    SaysRun b (query.Message even cross odd) l t = t ≡ answered (replies heard.passed)
-    SaysRun b query.Verdict l t = t ≡ answered (finds yes)
-    SaysRun b query.Proof l t = t ≡ answered (finds yes)
-    SaysRun b (query.CheckOpening x) l t =
-        (values : List ℕ) → Gave w ms (openingAt x) (record { answer = answered reply.opening; values = values })
-        → l .values ≡ take (6 * b .start .rounds) values → t ≡ answered (opens holds)
+    -- "every opening check .. is yes if point and values are an opening that the run gave": answered, and yes
+    abbrev pub OpeningsChecked : Hearing → Type 0
+    OpeningsChecked h =
+        (b : ℕ) (values : List ℕ) → Gave w ms (openingAt b) (record { answer = answered reply.opening; values = values }) → (file : List ℕ)
+        → heard p h (record { query = query.CheckOpening b; shown = record { file = file; values = take (6 * T .start .rounds) values } }) .told
+        ≡ answered (opens holds)
+
+-- WHAT A VERIFIER THAT AGREES SAYS: an item taken, the pass closed, a message passed; a verdict, a file and an opening: yes
+abbrev pub agreed : Query → Said
+agreed (query.Give x) = replies verifier.taken
+agreed (query.Close z) = replies verifier.closed
+agreed (query.CloseClaim c) = replies verifier.closed
+agreed (query.Message even cross odd) = replies verifier.passed
+agreed query.Verdict = finds yes
+agreed query.Proof = finds yes
+agreed (query.CheckOpening b) = opens holds
+
+-- what is checked is an opening of the trip at the point
+abbrev pub OpensTrip : ℕ → Trip → VerifierState → Posed → Type 0
+OpensTrip p T b q =
+    (x : ℕ) → q .query ≡ query.CheckOpening x
+    → q .shown .values ≡ opening p (T .start .rounds) (at (b .challenges)) (vectorF p T) (vectorG p T) x

@@ -9,10 +9,14 @@ pub mod Statement
 pub mod QueryStep
 pub mod QueryState
 pub mod Given
+pub mod Carried
+pub mod WholeList
+pub mod Verdict
 pub mod Starts
 pub mod Proper
 pub mod Demand3
 pub mod QueryExample
+pub mod VerdictExample
 pub mod Example
 pub mod ExampleSmall
 pub mod ExampleFull

@@ -1,5 +1,5 @@
 -- What holds along a list of calls that are made one after another, whatever the machine.
-use mathlib.Core.List.{List, [], _∷_}
+use mathlib.Core.List.{List, [], _∷_, _++_}
 use mathlib.Core.Logic.{_⊎_}
 
 module _ {W M : Type 0} (next : W → M → W) where
@@ -27,3 +27,8 @@ module _ {W M : Type 0} (next : W → M → W) where
   unfoldable pub each : {A : Type 0} → (W → M → A) → W → List M → List A
   each of w [] = []
   each of w (m ∷ ms) = of w m ∷ each of (next w m) ms
+
+  -- what the calls give, one after another
+  unfoldable pub gathered : {A : Type 0} → (W → M → List A) → W → List M → List A
+  gathered of w [] = []
+  gathered of w (m ∷ ms) = of w m ++ gathered of (next w m) ms

@@ -18,14 +18,14 @@ use Rattle.prover.specs.declared.Kind.{Kind}
 use Rattle.prover.specs.declared.Kind.the-variants.{Shut, Asked, Change}
 use Rattle.prover.specs.Reply.{Reply}
 use Rattle.prover.specs.Reply as reply
-use Rattle.prover.specs.Records.{noValues, isChange, isFull}
+use Rattle.prover.specs.Records.{noValues}
 use Rattle.prover.specs.Values.{inNinety}
 use Rattle.item.specs.declared.Given.{Given}
 use Rattle.runs.specs.Trip.{Trip, itemOf, vectorF, vectorG, totalOf}
 use Rattle.calls.specs.declared.Call.{Call}
 use Rattle.calls.specs.declared.Call.the-variants as call
 use Rattle.calls.specs.Step.{Lent}
-use Rattle.calls.specs.State.{State}
+use Rattle.calls.specs.State.{isFull, isChange, State}
 use Rattle.calls.specs.Table.{waits, level, long, taken, completed, fileSize}
 
 -- an answer or a refusal, with the values beside it

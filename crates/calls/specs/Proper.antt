@@ -12,7 +12,6 @@ use Rattle.field.specs.Total.{inLimits}
 use Rattle.vector.specs.Vector.{at}
 use Rattle.vector.specs.Slice.{overwrite, isNonzero}
 use Rattle.prover.specs.declared.Next.the-variants as next
-use Rattle.prover.specs.Records.{isFull}
 use Rattle.item.specs.declared.Given.{Given}
 use Rattle.item.specs.declared.Given.the-variants.{Reading, Numbers}
 use Rattle.runs.specs.Trip.{Trip, itemOf, vectorF, vectorG, totalOf}
@@ -20,7 +19,7 @@ use Rattle.calls.specs.declared.Call.{Call}
 use Rattle.calls.specs.declared.Call.the-variants as call
 use Rattle.calls.specs.Lists.{each}
 use Rattle.calls.specs.Step.{Lent}
-use Rattle.calls.specs.State.{State}
+use Rattle.calls.specs.State.{isFull, State}
 use Rattle.calls.specs.Table.{waits}
 use Rattle.calls.specs.World.{Made, World, freshWorld, came, onward}
 use Rattle.calls.specs.Starts.{Whole}

@@ -27,13 +27,12 @@ use Rattle.verifier.specs.ProofFile.{hearsNext, hearsFirst, endsAgree, compares
 use Rattle.item.specs.declared.Start.{Start}
 use Rattle.item.specs.declared.Given.the-variants.{Reading}
 use Rattle.item.specs.Item.{partsOf}
-use Rattle.calls.specs.declared.query.Query.{Query}
 use Rattle.calls.specs.declared.query.Query.the-variants as query
 use Rattle.refusal.specs.Outcome.{Outcome, answered, refused}
 use Rattle.calls.specs.QueryStep.{Said, ask}
 use Rattle.calls.specs.QueryStep as said
 use Rattle.calls.specs.Lists.{each}
-use Rattle.calls.specs.QueryState.{Posed, Hearing, freshHearing, heard, hearsOn}
+use Rattle.calls.specs.QueryState.{Posed, plainly, Hearing, freshHearing, heard, hearsOn}
 
 abbrev P : ℕ
 P = 2147483647
@@ -44,9 +43,6 @@ toldAll = each (hearsOn P) (λ h q. heard P h q .told)
 
 abbrev start : Start
 start = record { items = 3; rounds = 2; plain = true; twists = replicate 15 0 }
-
-abbrev plainly : Query → Posed
-plainly q = record { query = q; shown = record { file = []; values = [] } }
 
 abbrev file : List ℕ
 file = proofFile 2 (negsuc 5099) (2147482047 ∷ 2147478297 ∷ 2147480147 ∷ 2147457147 ∷ 2147482997 ∷ 200 ∷ 2147483237 ∷ 65 ∷ [])

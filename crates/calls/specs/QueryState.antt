@@ -113,6 +113,10 @@ pub record Posed : Type 0 where
   pub query : Query
   pub shown : Shown
 
+-- one that is lent nothing
+abbrev pub plainly : Query → Posed
+plainly q = record { query = q; shown = record { file = []; values = [] } }
+
 -- the verifier, and the state that follows from the answered calls
 pub record Hearing : Type 0 where
   pub state : VerifierState

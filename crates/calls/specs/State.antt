@@ -1,7 +1,7 @@
 -- Document 01, "Lists of calls": "The mode, the open pass, what is next, the items taken and c_0.. follow from the start and the
 -- answered calls alone".
 use Prim.Native.Nat.{ℕ}
-use mathlib.Core.Bool.{Bool, cond}
+use mathlib.Core.Bool.{Bool, true, false, cond, not}
 use mathlib.Core.List.{List, [], _∷_, _++_}
 use lib.Dec.{ltb}
 use lib.ListN.{length}
@@ -11,12 +11,28 @@ use Rattle.prover.specs.declared.Next.{Next}
 use Rattle.prover.specs.declared.Next.the-variants as next
 use Rattle.prover.specs.declared.Kind.{Kind}
 use Rattle.prover.specs.declared.Kind.the-variants.{Shut, Asked, Change}
-use Rattle.prover.specs.Records.{isChange, isFull}
 use Rattle.item.specs.declared.Start.{Start}
 use Rattle.item.specs.declared.Given.{Given}
 use Rattle.calls.specs.declared.Call.{Call}
 use Rattle.calls.specs.declared.Call.the-variants as call
 use Rattle.calls.specs.Step.{Lent, Result, isAnswered}
+
+abbrev pub isFull : Mode → Bool
+isFull Small = false
+isFull Full = true
+
+abbrev pub isSmall : Mode → Bool
+isSmall m = not (isFull m)
+
+abbrev pub isOpen : Kind → Bool
+isOpen Shut = false
+isOpen Asked = true
+isOpen Change = true
+
+abbrev pub isChange : Kind → Bool
+isChange Shut = false
+isChange Asked = false
+isChange Change = true
 
 pub record Turn : Type 0 where
   pub mode : Mode

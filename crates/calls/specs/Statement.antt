@@ -15,14 +15,14 @@ use Rattle.prover.specs.declared.Kind.the-variants.{Asked}
 use Rattle.prover.specs.declared.Next.the-variants as next
 use Rattle.prover.specs.declared.Run.{Run}
 use Rattle.prover.specs.declared.Pass.{Pass}
-use Rattle.prover.specs.Records.{kernelOf, noValues, isFull}
+use Rattle.prover.specs.Records.{kernelOf, noValues}
 use Rattle.item.specs.declared.Given.the-variants.{Reading}
 use Rattle.runs.specs.Trip.{Trip, vectorF, vectorG}
 use Rattle.runs.specs.Buffers.{Written}
 use Rattle.calls.specs.declared.Call.{Call}
 use Rattle.calls.specs.declared.Call.the-variants as call
 use Rattle.calls.specs.Step.{Lent, Result, isAnswered}
-use Rattle.calls.specs.State.{State, goesOn}
+use Rattle.calls.specs.State.{isFull, State, goesOn}
 use Rattle.calls.specs.Table.{Refusal, refusedWith, waits, passLevel, long, taken, completed, fileSize}
 use Rattle.calls.specs.Meaning.{meaning, proofOfTrip, foldF, foldG, bindsItem, writes}
 

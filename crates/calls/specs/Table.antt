@@ -15,12 +15,11 @@ use Rattle.item.specs.declared.Given.the-variants.{Reading, Numbers}
 use Rattle.prover.specs.declared.Mode.{Mode}
 use Rattle.prover.specs.declared.Next.{Next}
 use Rattle.prover.specs.declared.Next.the-variants as next
-use Rattle.prover.specs.Records.{isSmall, isFull, isOpen, isChange}
 use Rattle.runs.specs.Trip.{sumOf}
 use Rattle.calls.specs.declared.Call.{Call}
 use Rattle.calls.specs.declared.Call.the-variants as call
 use Rattle.calls.specs.Step.{Lent}
-use Rattle.calls.specs.State.{State}
+use Rattle.calls.specs.State.{isFull, isSmall, isOpen, isChange, State}
 
 -- "It carries its number and, for 5 and 13 to 15, the index"
 abbrev pub Refusal : Type 0

@@ -1,19 +1,19 @@
--- What productCall answers, in document 01's words: each outcome holds of exactly the arguments that it is given for.
+-- What productCall answers, in document 01's words and both ways: each outcome holds of exactly the arguments that it is given for.
 use mathlib.Core.Path.{_≡_, ap, _∙_, subst}
 use mathlib.Core.Logic.{_↔_}
 use mathlib.Core.List.{List}
 use Prim.Native.Nat.{ℕ, _^_, _≤_, _<_}
 use lib.Dec.{leb}
 use lib.ListN.{length}
-use borrow.Author.Tests.{le-leb, leb-true, leb-false}
+use borrow.Author.Tests.{le-leb, lt-leb, leb-true, leb-false}
 use Rattle.refusal.specs.Number as number
 use Rattle.refusal.specs.Outcome.{Outcome, answered, refused, refusedAt}
-use Rattle.refusal.proofs.Outcome.{failed, require-says}
+use Rattle.refusal.proofs.Outcome.{failed, fails, require-says}
 use Rattle.wire.specs.Matrix.{Shape, readMatrix}
 use Rattle.wire.proofs.MatrixSays.{GoodMatrix, MatrixRefused, Faulty, MatrixSays, matrix-says, matrix-said}
 use Rattle.r1cs.specs.Product.{ruleVector, afterFile, productCall}
 use Rattle.r1cs.proofs.Vectors.{RuleVector, vector-of, of-vector}
-use Rattle.r1cs.proofs.ProductRows.{row-done}
+use Rattle.r1cs.proofs.ProductRows.{row-vector, row-buffer, row-done}
 
 -- answered
 pub record Multiplies (p : ℕ) (file z out : List ℕ) (n : ℕ) : Type 0 where
@@ -52,12 +52,26 @@ module _ (p : ℕ) (file z out : List ℕ) where
   pub product-says : ProductSays p file z out (productCall p file z out)
   product-says = after-says (readMatrix p file) (matrix-says p file)
 
-  -- an answered product, both ways
+  -- what follows a file that was read
+  past-file : (shape : Shape) → GoodMatrix p file shape → productCall p file z out ≡ afterFile p z out (answered shape)
+  past-file shape good = ap (afterFile p z out) (matrix-said p file (answered shape) good)
+
+  -- each outcome, both ways
+  pub product-said : (o : Outcome ℕ) → ProductSays p file z out o → productCall p file z out ≡ o
+  unfolding afterFile
+  product-said (answered n) h =
+      let shape : Shape = record { rounds = n; count = h .count } in
+      past-file shape (h .matrix)
+      ∙ row-done p z out shape (of-vector p (2 ^ n) z (h .vector)) (le-leb (2 ^ n) (length out) (h .buffer))
+  product-said (refused k) (by-file h) = ap (afterFile p z out) (matrix-said p file (refused k) h)
+  product-said (refused k) (by-vector shape good bad) =
+      let size = 2 ^ (shape .rounds) in
+      past-file shape good ∙ row-vector p z out shape (fails (ruleVector p size z) (λ e. bad (vector-of p size z e)))
+  product-said (refused k) (by-buffer shape good v short) =
+      let size = 2 ^ (shape .rounds) in
+      past-file shape good ∙ row-buffer p z out shape (of-vector p size z v) (lt-leb size (length out) short)
+  product-said (refusedAt k i) h = ap (afterFile p z out) (matrix-said p file (refusedAt k i) h)
+
+  -- an answered product
   pub product-answered : (n : ℕ) → (productCall p file z out ≡ answered n) ↔ Multiplies p file z out n
-  product-answered n = ((λ e. subst (ProductSays p file z out) e product-says), λ h. said h)
-    where
-      said : Multiplies p file z out n → productCall p file z out ≡ answered n
-      said h =
-          let shape : Shape = record { rounds = n; count = h .count } in
-          ap (afterFile p z out) (matrix-said p file (answered shape) (h .matrix))
-          ∙ row-done p z out shape (of-vector p (2 ^ n) z (h .vector)) (le-leb (2 ^ n) (length out) (h .buffer))
+  product-answered n = ((λ e. subst (ProductSays p file z out) e product-says), λ h. product-said (answered n) h)

@@ -100,7 +100,7 @@ module _ (p : ℕ) (c : ℕ → ℕ) (f g : Vector) (r : Run) (s : Pass) (ok : r
 
 -- FIELD NUMBERS
 module _ (p : ℕ) (some : 0 < p) where
-  residue-below : (a : ℕ) → residue p a < p
+  pub residue-below : (a : ℕ) → residue p a < p
   residue-below a = subst (λ q. residue p a < q) (base-of p some) (residue-lt p a)
 
   -- of field numbers every fold is one, so the end value is
