@@ -14,9 +14,10 @@ use Rattle.vector.specs.Fold.{foldWith, endValue}
 use Rattle.vector.specs.Message.{Message, message}
 use Rattle.vector.specs.Opening.{tripleValues, opening}
 use Rattle.verifier.specs.Trips.{claimAt}
-use Rattle.prover.specs.Start.{zeros15, freshRun}
-use Rattle.runs.specs.Trip.{Raw, reading, Trip, vectorF, vectorG, sumOf, totalOf}
-use Rattle.runs.specs.Passes.{startOf}
+use Rattle.item.specs.declared.Given.{Given}
+use Rattle.item.specs.declared.Given.the-variants.{Reading}
+use Rattle.item.specs.Start.{plainStart}
+use Rattle.runs.specs.Trip.{Trip, vectorF, vectorG, sumOf, totalOf}
 
 abbrev P : ℕ
 P = 2147483647
@@ -89,18 +90,18 @@ abbrev pub right : Row → List ℕ
 right (c is stated) = stated
 
 -- the trip of a plain run with these items
-abbrev pub tripOf : List Raw → Trip
-tripOf items = record { start = startOf (freshRun (length items) (roundsOf (length items)) true zeros15); items = items }
+abbrev pub tripOf : List Given → Trip
+tripOf items = record { start = plainStart (length items); items = items }
 
 -- "Readings -180, -175, 40, weights 10, 20, 5; challenges 2, 3; point 2."
 abbrev pub trip : Trip
-trip = tripOf (reading (minus 180) 10 ∷ reading (minus 175) 20 ∷ reading (pos 40) 5 ∷ [])
+trip = tripOf (Reading (minus 180) 10 ∷ Reading (minus 175) 20 ∷ Reading (pos 40) 5 ∷ [])
 
 abbrev pub tripChallenges : List ℕ
 tripChallenges = 2 ∷ 3 ∷ []
 
 -- openings as the program prints them, claims as field numbers; a run of one item has no messages, whatever the item
-abbrev pub table : Raw → List Row
+abbrev pub table : Given → List Row
 table item =
     (messages trip tripChallenges
     is 2147482047 ∷ 2147478297 ∷ 2147480147
@@ -121,6 +122,6 @@ table item =
     ∷ (rounds 3 is 2 ∷ [])
     ∷ []
 
-pub starred : (item : Raw) → map left (table item) ≡ map right (table item)
+pub starred : (item : Given) → map left (table item) ≡ map right (table item)
 unfolding inOrder claimAt powers firstFrom tripleValues foldWith sum sumOf image residue addMod negMod mulMod halfOne halfMod
 starred item = refl

@@ -47,11 +47,13 @@ impl Run {
         ensures { λ r. ⌜ (out r [] [] ≡ out (writtenStep self pass (writeCall (modulusOf (self .start)) self pass (now (file .entry)))) [] []) × (now (file .exit) ≡ writtenIn (writeCall (modulusOf (self .start)) self pass (now (file .entry))) (proofOf self) (now (file .entry))) ⌝ }
     {
         let start = self.start;
-        let Check::Passed = may_write(item::modulus_of(start), self, pass) else {
+        let p = item::modulus_of(start);
+        let Check::Passed = may_write(p, self, pass) else {
             return refuse(self, pass, refusal::ORDER);
         };
         let messages = self.messages;
-        let written = wire::proof::write_proof(
+        let written = wire::proof::write_proof_in(
+            p,
             start.rounds,
             self.total,
             messages,

@@ -13,12 +13,7 @@ use Rattle.vector.specs.Opening.{evaluate}
 use Rattle.vector.specs.Slice.{allReduced, evaluateSlice}
 use Rattle.vector.proofs.Rounds.{size-all}
 use Rattle.vector.proofs.Every.{all-reduced-iff}
-use Rattle.r1cs.specs.Product.{passed, ruleVector}
-use Rattle.r1cs.specs.declared.Check.{Check}
-
--- the answer of a check is its test
-pub told : {r a : Check} {b : Bool} → r ≡ a → passed r ≡ b → b ≡ passed a
-told h e = sym e ∙ ap passed h
+use Rattle.r1cs.specs.Product.{ruleVector}
 
 both : (a b : Bool) → cond a b false ≡ true → (a ≡ true) × (b ≡ true)
 both true b h = (refl, h)

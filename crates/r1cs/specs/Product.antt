@@ -1,7 +1,7 @@
 -- A matrix times a vector: document 01, "Rules" (Gemini, Definition 1), the matrix given by its file. p is the modulus.
 use Prim.Native.Nat.{ℕ, _^_, _<_, _≤_}
 use mathlib.Core.Path.{_≡_}
-use mathlib.Core.Bool.{Bool, true, false, cond, _&&_}
+use mathlib.Core.Bool.{Bool, false, cond, _&&_}
 use mathlib.Core.List.{List}
 use lib.Dec.{eqb, leb}
 use lib.ListN.{length}
@@ -10,8 +10,6 @@ use Rattle.refusal.specs.Outcome.{Outcome, answered, refused, refusedAt, requir
 use Rattle.vector.specs.Vector.{Vector, at, sum, dot}
 use Rattle.vector.specs.Slice.{overwrite, allReduced}
 use Rattle.wire.specs.Matrix.{Entry, Shape, entry, entryAt, matrixCount, readMatrix}
-use Rattle.r1cs.specs.declared.Check.{Check}
-use Rattle.r1cs.specs.declared.Check.the-variants as check
 use Rattle.r1cs.specs.declared.Multiplied.{Multiplied}
 use Rattle.r1cs.specs.declared.Multiplied.the-variants.{Done, Refused, RefusedAt}
 
@@ -74,10 +72,6 @@ abbrev pub productLeaves : ℕ → List ℕ → List ℕ → List ℕ → List �
 productLeaves p file z out = productIn p file z out (productCall p file z out)
 
 -- the code's answers in these terms
-abbrev pub passed : Check → Bool
-passed check.Passed = true
-passed check.Failed = false
-
 abbrev pub multipliedOf : Multiplied → Outcome ℕ
 multipliedOf (Done n) = answered n
 multipliedOf (Refused k) = refused k

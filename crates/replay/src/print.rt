@@ -1,10 +1,9 @@
 // What the tool prints.
 use super::lists::within;
+use calls::query::Told;
 use libc::STDOUT_FILENO;
 use prover::Answer;
 use prover::Step;
-use verifier::Opened;
-use verifier::Verdict;
 
 pub(crate) fn text(bytes: &[u8]) {
     io::write_all(STDOUT_FILENO, bytes);
@@ -169,19 +168,19 @@ pub(crate) fn judge_answer(answer: verifier::Answer) {
     }
 }
 
-pub(crate) fn verdict(verdict: Verdict) {
-    match verdict {
-        Verdict::Yes => line(b"yes"),
-        Verdict::No(round) => one(b"no", round),
-        Verdict::Refused(k) => refused(k),
-    }
-}
-
-pub(crate) fn opened(opened: Opened) {
-    match opened {
-        Opened::Yes => line(b"yes"),
-        Opened::NoF(j) => one(b"no f", j),
-        Opened::NoG(j) => one(b"no g", j),
-        Opened::Refused(k) => refused(k),
+pub(crate) fn told(told: Told) {
+    match told {
+        Told::Started => line(b"started"),
+        Told::Taken => line(b"taken"),
+        Told::Closed => line(b"closed"),
+        Told::Passed => line(b"passed"),
+        Told::Failed(round) => one(b"no", round),
+        Told::Yes => line(b"yes"),
+        Told::No(round) => one(b"no", round),
+        Told::Opens => line(b"yes"),
+        Told::FailsF(j) => one(b"no f", j),
+        Told::FailsG(j) => one(b"no g", j),
+        Told::Refused(k) => refused(k),
+        Told::RefusedAt(k, i) => refused_at(k, i),
     }
 }

@@ -1,4 +1,4 @@
-// The prover's calls.
+// The prover's calls, each made as data.
 use super::lists;
 use super::lists::held;
 use super::lists::within;
@@ -9,10 +9,17 @@ use super::state;
 use super::state::Lists;
 use super::state::Prover;
 use super::state::State;
+use calls::Call;
+use item::Given;
 use prover::Answer;
-use prover::Pass;
 use prover::Run;
 use prover::Step;
+
+// The call that an op names, with its numbers.
+pub enum Named {
+    Call(Call),
+    Nothing,
+}
 
 pub(crate) fn call(
     s: State,
@@ -30,7 +37,7 @@ pub(crate) fn call(
     if op == 24 {
         return write_proof(s, a, proof);
     }
-    state::with_prover(s, lend(s.prover, s.lists, op, a, b, f, g))
+    state::with_prover(s, checked(s.prover, s.lists, op, a, b, f, g))
 }
 
 fn start(p: Prover, op: u32, a: u32, b: u32, scratch: &[u32]) -> Prover {
@@ -67,86 +74,60 @@ fn after(step: Step) -> Prover {
     }
 }
 
-fn told(step: Step) -> Prover {
+fn call_of(op: u32, a: u32, b: u32) -> Named {
+    match op {
+        13 => Named::Call(Call::OpenPass),
+        14 => Named::Call(Call::OpenAt(a)),
+        15 => reading(a, b),
+        16 => given(Given::Numbers(a, b)),
+        17 => Named::Call(Call::Close),
+        18 => Named::Call(Call::Message),
+        19 => Named::Call(Call::Challenge(a)),
+        20 => Named::Call(Call::Ends),
+        21 => Named::Call(Call::Opening(a)),
+        22 => Named::Call(Call::ToFull),
+        23 => Named::Call(Call::ToSmall),
+        _ => Named::Nothing,
+    }
+}
+
+// A reading in two's complement of sixteen bits, and a weight.
+fn reading(a: u32, b: u32) -> Named {
+    if a > 65535 {
+        return Named::Nothing;
+    }
+    if b > 65535 {
+        return Named::Nothing;
+    }
+    given(Given::Reading(signed16(a), b as u16))
+}
+
+fn given(item: Given) -> Named {
+    Named::Call(Call::Give(item))
+}
+
+fn checked(p: Prover, l: Lists, op: u32, a: u32, b: u32, f: &mut [u32], g: &mut [u32]) -> Prover {
+    let Named::Call(call) = call_of(op, a, b) else {
+        print::bad();
+        return p;
+    };
+    if p.on {} else {
+        print::line(b"no run");
+        return p;
+    }
+    let n = within(l.flent, f);
+    let m = within(l.glent, g);
+    let step = make(p, call, &mut f[..n], &mut g[..m]);
     print::step(step);
     after(step)
 }
 
-// The lent places of both buffers.
-fn lend(p: Prover, l: Lists, op: u32, a: u32, b: u32, f: &mut [u32], g: &mut [u32]) -> Prover {
-    let n = within(l.flent, f);
-    let m = within(l.glent, g);
-    checked(p, op, a, b, &mut f[..n], &mut g[..m])
-}
-
-fn checked(p: Prover, op: u32, a: u32, b: u32, f: &mut [u32], g: &mut [u32]) -> Prover {
-    if op == 15 {
-        return item(p, a, b, f, g);
-    }
-    if op > 23 {
-        print::bad();
-        return p;
-    }
-    if p.on {} else {
-        print::line(b"no run");
-        return p;
-    }
+// With the lent places of both buffers, and no file.
+fn make(p: Prover, call: Call, f: &mut [u32], g: &mut [u32]) -> Step {
+    let mut file = [0u8; 1];
     let run = p.run;
     let pass = p.pass;
-    if op < 18 {
-        return told(in_small(run, pass, op, a, b, f, g));
-    }
-    told(in_full(run, pass, op, a, f, g))
-}
-
-// A reading in two's complement of sixteen bits, and a weight.
-fn item(p: Prover, a: u32, b: u32, f: &mut [u32], g: &mut [u32]) -> Prover {
-    if a > 65535 {
-        print::bad();
-        return p;
-    }
-    if b > 65535 {
-        print::bad();
-        return p;
-    }
-    if p.on {} else {
-        print::line(b"no run");
-        return p;
-    }
-    let pass = p.pass;
-    told(p.run.item(pass, signed16(a), b as u16, f, g))
-}
-
-fn in_small(run: Run, pass: Pass, op: u32, a: u32, b: u32, f: &mut [u32], g: &mut [u32]) -> Step {
-    if op == 13 {
-        return run.open_pass(pass);
-    }
-    if op == 14 {
-        return run.open_at(pass, a);
-    }
-    if op == 16 {
-        return run.field_item(pass, a, b, f, g);
-    }
-    run.close(pass)
-}
-
-fn in_full(run: Run, pass: Pass, op: u32, a: u32, f: &mut [u32], g: &mut [u32]) -> Step {
-    if op == 18 {
-        return run.message(pass, f, g);
-    }
-    if op == 19 {
-        return run.challenge(pass, a, f, g);
-    }
-    if op == 20 {
-        return run.ends(pass, f, g);
-    }
-    if op == 21 {
-        return run.opening(pass, a, f, g);
-    }
-    if op == 22 {
-        return run.to_full(pass, f, g);
-    }
-    run.to_small(pass)
+    calls::make(run, pass, call, f, g, &mut file)
 }
 
 // Into the first a bytes of the proof file; a written proof sets its length.
@@ -170,6 +151,9 @@ fn write_proof(s: State, a: u32, proof: &mut [u8]) -> State {
 }
 
 fn written(p: Prover, proof: &mut [u8]) -> Step {
+    let mut f = [0u32; 1];
+    let mut g = [0u32; 1];
+    let run = p.run;
     let pass = p.pass;
-    p.run.write_proof(pass, proof)
+    calls::make(run, pass, Call::WriteProof, &mut f, &mut g, proof)
 }

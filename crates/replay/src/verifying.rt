@@ -1,4 +1,4 @@
-// The verifier's calls.
+// The verifier's calls, each made as data.
 use super::lists::held;
 use super::lists::within_bytes;
 use super::print;
@@ -7,9 +7,17 @@ use super::signs::signed64;
 use super::state;
 use super::state::Judge;
 use super::state::State;
+use calls::query::Query;
+use item::Given;
 use verifier::Answer;
 use verifier::Step;
 use verifier::Verifier;
+
+// The call that an op names, with its numbers.
+pub enum Posed {
+    Query(Query),
+    Nothing,
+}
 
 pub(crate) fn call(
     s: State,
@@ -20,31 +28,12 @@ pub(crate) fn call(
     scratch: &[u32],
     proof: &[u8],
 ) -> State {
+    let values = held(s.lists, scratch);
     if op < 33 {
-        return state::with_judge(s, start(s.judge, op, a, b, held(s.lists, scratch)));
+        return state::with_judge(s, start(s.judge, op, a, b, values));
     }
-    if op < 38 {
-        return state::with_judge(s, checked(s.judge, op, a, b, c));
-    }
-    if op == 39 {
-        let n = within_bytes(s.lists.proof, proof);
-        return state::with_judge(s, judge(s.judge, &proof[..n]));
-    }
-    ask(s.judge, op, a, held(s.lists, scratch));
-    s
-}
-
-// A proof file is a close of the pass, so the verifier changes.
-fn judge(j: Judge, file: &[u8]) -> Judge {
-    if j.on {} else {
-        print::line(b"no verifier");
-        return j;
-    }
-    let judged = j.verifier.proof(file);
-    let verdict = judged.verdict;
-    print::verdict(verdict);
-    let verifier = judged.verifier;
-    Judge { on: true, verifier }
+    let n = within_bytes(s.lists.proof, proof);
+    state::with_judge(s, checked(s.judge, op, a, b, c, &proof[..n], values))
 }
 
 fn start(j: Judge, op: u32, a: u32, b: u32, scratch: &[u32]) -> Judge {
@@ -74,74 +63,51 @@ fn started(j: Judge, step: Step) -> Judge {
     let Answer::Started = answer else {
         return j;
     };
-    after(step)
-}
-
-fn after(step: Step) -> Judge {
     let verifier = step.verifier;
     Judge { on: true, verifier }
 }
 
-fn told(step: Step) -> Judge {
-    let answer = step.answer;
-    print::judge_answer(answer);
-    after(step)
-}
-
-fn checked(j: Judge, op: u32, a: u32, b: u32, c: u32) -> Judge {
-    if op == 33 {
-        return item(j, a, b);
+fn query_of(op: u32, a: u32, b: u32, c: u32) -> Posed {
+    match op {
+        33 => reading(a, b),
+        34 => given(Given::Numbers(a, b)),
+        35 => Posed::Query(Query::Close(signed64(a, b))),
+        36 => Posed::Query(Query::CloseClaim(a)),
+        37 => Posed::Query(Query::Message(a, b, c)),
+        38 => Posed::Query(Query::Verdict),
+        39 => Posed::Query(Query::Proof),
+        40 => Posed::Query(Query::CheckOpening(a)),
+        _ => Posed::Nothing,
     }
-    if j.on {} else {
-        print::line(b"no verifier");
-        return j;
-    }
-    told(change(j.verifier, op, a, b, c))
-}
-
-fn change(v: Verifier, op: u32, a: u32, b: u32, c: u32) -> Step {
-    if op == 34 {
-        return v.field_item(a, b);
-    }
-    if op == 35 {
-        return v.close(signed64(a, b));
-    }
-    if op == 36 {
-        return v.close_claim(a);
-    }
-    v.message(a, b, c)
 }
 
 // A reading in two's complement of sixteen bits, and a weight.
-fn item(j: Judge, a: u32, b: u32) -> Judge {
+fn reading(a: u32, b: u32) -> Posed {
     if a > 65535 {
-        print::bad();
-        return j;
+        return Posed::Nothing;
     }
     if b > 65535 {
-        print::bad();
-        return j;
+        return Posed::Nothing;
     }
-    if j.on {} else {
-        print::line(b"no verifier");
-        return j;
-    }
-    told(j.verifier.item(signed16(a), b as u16))
+    given(Given::Reading(signed16(a), b as u16))
 }
 
-// The calls that leave the verifier as it is.
-fn ask(j: Judge, op: u32, a: u32, scratch: &[u32]) {
-    if op > 40 {
+fn given(item: Given) -> Posed {
+    Posed::Query(Query::Give(item))
+}
+
+fn checked(j: Judge, op: u32, a: u32, b: u32, c: u32, file: &[u8], values: &[u32]) -> Judge {
+    let Posed::Query(query) = query_of(op, a, b, c) else {
         print::bad();
-        return;
-    }
+        return j;
+    };
     if j.on {} else {
         print::line(b"no verifier");
-        return;
+        return j;
     }
-    if op == 38 {
-        print::verdict(j.verifier.verdict());
-        return;
-    }
-    print::opened(j.verifier.check_opening(a, scratch));
+    let heard = calls::query::ask(j.verifier, query, file, values);
+    let told = heard.told;
+    print::told(told);
+    let verifier = heard.verifier;
+    Judge { on: true, verifier }
 }

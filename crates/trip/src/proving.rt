@@ -226,11 +226,11 @@ fn item_at(start: Start, log: &[u8], i: u32) -> Item
 fn pair(start: Start, i: u32, reading: i16, weight: u16) -> Item
     ensures { λ r. ⌜ r ≡ orZero (partsOf modulus start i (Given.Reading reading weight)) ⌝ }
 {
-    let parts = item::parts_of(field::modulus(), start, i, Given::Reading(reading, weight));
-    let Parts::Item(item) = parts else {
-        return no_item();
-    };
-    item
+    match item::parts_of(field::modulus(), start, i, Given::Reading(reading, weight)) {
+        Parts::Item(item) => item,
+        Parts::Refused(_) => no_item(),
+        Parts::RefusedAt(_, _) => no_item(),
+    }
 }
 
 fn no_item() -> Item

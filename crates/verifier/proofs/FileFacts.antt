@@ -18,9 +18,6 @@ use Rattle.wire.specs.Proof.{Head, Ends, proofRounds, proofNumber, proofSize, p
 use Rattle.wire.specs.Proof as wire
 use Rattle.wire.proofs.ProofOf.{own-good}
 use Rattle.wire.proofs.RoundTrip.{found-same}
-use Rattle.field.specs.Modulus.{modulus}
-use Rattle.item.specs.declared.Start.{Start}
-use Rattle.item.specs.Start.{modulusOf}
 use Rattle.verifier.specs.declared.Verifier.{Verifier}
 use Rattle.verifier.specs.Records.{Replied, Finding}
 use Rattle.verifier.specs.WellFormed.{wellFormed}
@@ -74,11 +71,6 @@ module _ (p : ℕ) where
   unfolding hearsNext
   heard-next v {m} {l} h same e =
       e ∙ ap (λ x. hears p v x .verifier) same ∙ sym (ap (λ b. cond b v (hears p v l .verifier)) h)
-
--- the modulus that the reader of files works by
-pub modulus-read : (s : Start) → 2147483647 ≡ modulusOf s
-unfolding modulusOf modulus
-modulus-read s = refl
 
 pub not-nothing : {A : Type 0} {x : A} → nothing ≡ found x → ⊥
 not-nothing e = let z : _≡_ {A = ℕ} 0 1 = cc in omega arith

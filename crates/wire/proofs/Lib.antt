@@ -1,4 +1,5 @@
 pub mod Numbers
+pub mod Told
 pub mod Marks
 pub mod LogSays
 pub mod Below

@@ -9,7 +9,7 @@ use native.Mathlib.Omega.{arith}
 use lib.ListN.{length, getD, take, drop, length-drop, List·getD-append}
 use lib.Seq.{drop-cons, drop-append-add, drop-drop, take-at, length-take-le, getD-take, getD-append-add}
 use lib.IntN.{ℤ, natAbs}
-use borrow.Author.Tests.{le-leb}
+use borrow.Author.Tests.{le-leb, lt-ltb}
 use Rattle.refusal.specs.Limit.{maxRounds}
 use Rattle.refusal.specs.Outcome.{answered}
 use Rattle.field.specs.Total.{limit, inLimits}
@@ -158,7 +158,7 @@ module _ (p n : ℕ) (t : ℤ) (ms : List ℕ) (f g : ℕ) (w : Writable p n t m
       × ReadsAs p (take (proofSize n) (writtenIn (writeProof p n t ms f g buffer) (proofFile n t (proofValues n ms f g)) buffer)) n t ms f g
   unfolding writtenIn inLimits
   write-reads-back buffer h =
-      let o = row-written p n t ms f g buffer (w .most) (le-leb _ _ (w .limits)) (all-below p (λ k. getD ms k 0) (3 * n) (w .messages)) (w .end-f) (w .end-g) h in (
+      let o = row-written p n t ms f g buffer (le-leb _ _ (w .most)) (le-leb _ _ (w .limits)) (all-below p (λ k. getD ms k 0) (3 * n) (w .messages)) (lt-ltb _ _ (w .end-f)) (lt-ltb _ _ (w .end-g)) (le-leb _ _ h) in (
         o,
         rw (o, take-at (proofFile n t (proofValues n ms f g)) (drop (proofSize n) buffer) (proofSize n) (length-file n t (proofValues n ms f g) (length-values n t ms f g (w .room))))
             reads-back,

@@ -70,7 +70,7 @@ pub(crate) fn signed32(v: u32) -> i64
 
 // Two's complement back.
 pub(crate) fn bits32(z: i64) -> u32
-    requires { ⌜ natAbs z ≤ 2147483647 ⌝ }
+    requires { ⌜ natAbs z ≤ 2147483648 ⌝ }
     ensures { λ r. ⌜ r ≡ bits 4 z ⌝ }
 {
     if z < 0 {

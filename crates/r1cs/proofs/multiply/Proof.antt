@@ -9,7 +9,8 @@ use Rattle.vector.specs.Vector.{at}
 use Rattle.vector.specs.Slice.{overwrite}
 use Rattle.wire.specs.Matrix.{Shape}
 use Rattle.r1cs.specs.Product.{ruleVector, matrixIn, times}
-use Rattle.r1cs.proofs.Vectors.{told, size-rule, vector-of}
+use Rattle.r1cs.proofs.Vectors.{size-rule, vector-of}
+use Rattle.wire.proofs.Told.{told}
 use Rattle.r1cs.proofs.ProductRows.{left-refused, left-done, row-vector, row-buffer, row-done, few-rounds, fits-of}
 use borrow.Author.Needs.{needs}
 use Rattle.r1cs.proofs.multiply.Statement.{statement}
@@ -34,12 +35,12 @@ returns : tie.Need-returns
 returns c =
     let s = c .before .before .before .before .before .before .before .args in
     let shape : Shape = record { rounds = s .rounds; count = s .count } in
-    let n : c .before .before .before .size-of .result ≡ 2 ^ (s .rounds) = c .before .before .before .size-of .ensures ∙ size-rule (s .rounds) (few-rounds 2147483647 (s .matrix .now) shape (c .before .before .before .before .before .before .before .pre)) in
-    let a : ruleVector 2147483647 (2 ^ (s .rounds)) (s .z .now) ≡ false = ap (λ m. ruleVector 2147483647 m (s .z .now)) (sym n) ∙ told (c .enum-told2 .given .1) (c .before .before .vector-fits .ensures) in
-    left-refused 2147483647 (s .matrix .now) (s .z .now) (s .out .now) _ 16 (row-vector 2147483647 (s .z .now) (s .out .now) shape a)
+    let n : c .before .before .before .size-of .result ≡ 2 ^ (s .rounds) = c .before .before .before .size-of .ensures ∙ size-rule (s .rounds) (few-rounds (s .p) (s .matrix .now) shape (c .before .before .before .before .before .before .before .pre)) in
+    let a : ruleVector (s .p) (2 ^ (s .rounds)) (s .z .now) ≡ false = ap (λ m. ruleVector (s .p) m (s .z .now)) (sym n) ∙ told (c .enum-told2 .given .1) (c .before .before .vector-fits .ensures) in
+    left-refused (s .p) (s .matrix .now) (s .z .now) (s .out .now) _ 16 (row-vector (s .p) (s .z .now) (s .out .now) shape a)
 
-buffer-fits-requires : tie.Need-buffer-fits-requires
-buffer-fits-requires c κs = search needs
+pass-if-requires : tie.Need-pass-if-requires
+pass-if-requires c κs = search needs
 
 enum-told-3 : tie.Need-enum-told-3
 enum-told-3 c = search needs
@@ -51,20 +52,20 @@ returns-2 : tie.Need-returns-2
 returns-2 c =
     let s = c .before .before .before .before .before .before .before .before .before .before .args in
     let shape : Shape = record { rounds = s .rounds; count = s .count } in
-    let n : c .before .before .before .before .before .before .size-of .result ≡ 2 ^ (s .rounds) = c .before .before .before .before .before .before .size-of .ensures ∙ size-rule (s .rounds) (few-rounds 2147483647 (s .matrix .now) shape (c .before .before .before .before .before .before .before .before .before .before .pre)) in
-    let a : ruleVector 2147483647 (2 ^ (s .rounds)) (s .z .now) ≡ true = ap (λ m. ruleVector 2147483647 m (s .z .now)) (sym n) ∙ told (c .before .before .before .enum-told .given .1) (c .before .before .before .before .before .vector-fits .ensures) in
-    let b : leb (2 ^ (s .rounds)) (length (s .out .now)) ≡ false = ap (λ m. leb m (length (s .out .now))) (sym n) ∙ told (c .enum-told4 .given .1) (c .before .before .buffer-fits .ensures) in
-    left-refused 2147483647 (s .matrix .now) (s .z .now) (s .out .now) _ 9 (row-buffer 2147483647 (s .z .now) (s .out .now) shape a b)
+    let n : c .before .before .before .before .before .before .size-of .result ≡ 2 ^ (s .rounds) = c .before .before .before .before .before .before .size-of .ensures ∙ size-rule (s .rounds) (few-rounds (s .p) (s .matrix .now) shape (c .before .before .before .before .before .before .before .before .before .before .pre)) in
+    let a : ruleVector (s .p) (2 ^ (s .rounds)) (s .z .now) ≡ true = ap (λ m. ruleVector (s .p) m (s .z .now)) (sym n) ∙ told (c .before .before .before .enum-told .given .1) (c .before .before .before .before .before .vector-fits .ensures) in
+    let b : leb (2 ^ (s .rounds)) (length (s .out .now)) ≡ false = ap (λ m. leb m (length (s .out .now))) (sym n) ∙ told (c .enum-told4 .given .1) (c .before .before .pass-if .ensures) in
+    left-refused (s .p) (s .matrix .now) (s .z .now) (s .out .now) _ 9 (row-buffer (s .p) (s .z .now) (s .out .now) shape a b)
 
 sum-rows-requires : tie.Need-sum-rows-requires
 sum-rows-requires c κs =
     let s = c .before .before .before .before .before .before .before .before .before .before .before .args in
     let h = c .before .before .before .before .before .before .before .before .before .before .before .pre in
     let shape : Shape = record { rounds = s .rounds; count = s .count } in
-    let n : c .before .before .before .before .before .before .before .size-of .result ≡ 2 ^ (s .rounds) = c .before .before .before .before .before .before .before .size-of .ensures ∙ size-rule (s .rounds) (few-rounds 2147483647 (s .matrix .now) shape h) in
-    let a : ruleVector 2147483647 (2 ^ (s .rounds)) (s .z .now) ≡ true = ap (λ m. ruleVector 2147483647 m (s .z .now)) (sym n) ∙ told (c .before .before .before .before .enum-told .given .1) (c .before .before .before .before .before .before .vector-fits .ensures) in
-    let b : leb (2 ^ (s .rounds)) (length (s .out .now)) ≡ true = ap (λ m. leb m (length (s .out .now))) (sym n) ∙ told (c .before .enum-told3 .given .1) (c .before .before .before .buffer-fits .ensures) in
-    fits-of 2147483647 (s .matrix .now) shape h (c .before .before .before .before .before .before .before .size-of .result) (s .z .now) (s .out .now) n (vector-of 2147483647 (2 ^ (s .rounds)) (s .z .now) a .long ∙ sym n)
+    let n : c .before .before .before .before .before .before .before .size-of .result ≡ 2 ^ (s .rounds) = c .before .before .before .before .before .before .before .size-of .ensures ∙ size-rule (s .rounds) (few-rounds (s .p) (s .matrix .now) shape h) in
+    let a : ruleVector (s .p) (2 ^ (s .rounds)) (s .z .now) ≡ true = ap (λ m. ruleVector (s .p) m (s .z .now)) (sym n) ∙ told (c .before .before .before .before .enum-told .given .1) (c .before .before .before .before .before .before .vector-fits .ensures) in
+    let b : leb (2 ^ (s .rounds)) (length (s .out .now)) ≡ true = ap (λ m. leb m (length (s .out .now))) (sym n) ∙ told (c .before .enum-told3 .given .1) (c .before .before .before .pass-if .ensures) in
+    fits-of (s .p) (s .matrix .now) shape h (c .before .before .before .before .before .before .before .size-of .result) (s .z .now) (s .out .now) n (vector-of (s .p) (2 ^ (s .rounds)) (s .z .now) a .long ∙ sym n)
     (omega (arith, leb-true (2 ^ (s .rounds)) (length (s .out .now)) b, n))
 
 same-length : tie.Need-same-length
@@ -74,11 +75,11 @@ returns-3 : tie.Need-returns-3
 returns-3 c =
     let s = c .before .before .before .before .before .before .before .before .before .before .before .before .before .before .args in
     let shape : Shape = record { rounds = s .rounds; count = s .count } in
-    let n : c .before .before .before .before .before .before .before .before .before .before .size-of .result ≡ 2 ^ (s .rounds) = c .before .before .before .before .before .before .before .before .before .before .size-of .ensures ∙ size-rule (s .rounds) (few-rounds 2147483647 (s .matrix .now) shape (c .before .before .before .before .before .before .before .before .before .before .before .before .before .before .pre)) in
-    let a : ruleVector 2147483647 (2 ^ (s .rounds)) (s .z .now) ≡ true = ap (λ m. ruleVector 2147483647 m (s .z .now)) (sym n) ∙ told (c .before .before .before .before .before .before .before .enum-told .given .1) (c .before .before .before .before .before .before .before .before .before .vector-fits .ensures) in
-    let b : leb (2 ^ (s .rounds)) (length (s .out .now)) ≡ true = ap (λ m. leb m (length (s .out .now))) (sym n) ∙ told (c .before .before .before .before .enum-told3 .given .1) (c .before .before .before .before .before .before .buffer-fits .ensures) in
-    left-done 2147483647 (s .matrix .now) (s .z .now) (s .out .now) _ (s .rounds) _ (row-done 2147483647 (s .z .now) (s .out .now) shape a b)
-    (c .before .before .sum-rows .ensures ∙ ap (λ m. overwrite (times 2147483647 m (matrixIn (s .matrix .now)) (at (s .z .now))) m (s .out .now)) n)
+    let n : c .before .before .before .before .before .before .before .before .before .before .size-of .result ≡ 2 ^ (s .rounds) = c .before .before .before .before .before .before .before .before .before .before .size-of .ensures ∙ size-rule (s .rounds) (few-rounds (s .p) (s .matrix .now) shape (c .before .before .before .before .before .before .before .before .before .before .before .before .before .before .pre)) in
+    let a : ruleVector (s .p) (2 ^ (s .rounds)) (s .z .now) ≡ true = ap (λ m. ruleVector (s .p) m (s .z .now)) (sym n) ∙ told (c .before .before .before .before .before .before .before .enum-told .given .1) (c .before .before .before .before .before .before .before .before .before .vector-fits .ensures) in
+    let b : leb (2 ^ (s .rounds)) (length (s .out .now)) ≡ true = ap (λ m. leb m (length (s .out .now))) (sym n) ∙ told (c .before .before .before .before .enum-told3 .given .1) (c .before .before .before .before .before .before .pass-if .ensures) in
+    left-done (s .p) (s .matrix .now) (s .z .now) (s .out .now) _ (s .rounds) _ (row-done (s .p) (s .z .now) (s .out .now) shape a b)
+    (c .before .before .sum-rows .ensures ∙ ap (λ m. overwrite (times (s .p) m (matrixIn (s .matrix .now)) (at (s .z .now))) m (s .out .now)) n)
 
 pub multiply-spec : {M : Type 1} → statement M
 multiply-spec =
@@ -90,7 +91,7 @@ multiply-spec =
     enum-told
     enum-told-2
     returns
-    buffer-fits-requires
+    pass-if-requires
     enum-told-3
     enum-told-4
     returns-2

@@ -7,9 +7,6 @@ use Rattle.refusal.specs.Check.{passed}
 use Rattle.prover.specs.Written.{writtenStep, writeCall, proofOf}
 use Rattle.prover.proofs.Outcomes.{write-never, write-then}
 use mathlib.Core.List.{[]}
-use Rattle.field.specs.Modulus.{modulus}
-use Rattle.item.specs.Start.{modulusOf}
-use Rattle.wire.specs.Proof.{writeProof}
 use Rattle.prover.specs.Records.{out}
 use borrow.Author.Needs.{needs}
 use Rattle.prover.proofs.Run.write_proof.Statement.{statement}
@@ -37,8 +34,8 @@ returns c =
     let e = ap (λ p. writeCall p (s .self) (s .pass) (now (s .file))) (sym (c .before .before .before .before .modulus-of .ensures)) ∙ write-never (c .before .before .before .before .modulus-of .result) (s .self) (s .pass) (now (s .file)) (sym (c .before .before .before .may-write .ensures) ∙ ap passed (c .before .enum-told2 .given .1)) in
     (ap (λ o. out o [] []) (c .refuse .ensures ∙ ap (writtenStep (s .self) (s .pass)) (sym e)), ap (λ o. writtenIn o (proofOf (s .self)) (now (s .file))) (sym e))
 
-write-proof-requires : tie.Need-write-proof-requires
-write-proof-requires c κs = search needs
+write-proof-in-requires : tie.Need-write-proof-in-requires
+write-proof-in-requires c κs = search needs
 
 written-step-requires : tie.Need-written-step-requires
 written-step-requires c κs = search needs
@@ -54,15 +51,13 @@ kept : (c : tie.After-struct-told)
 kept c = search needs
 
 returns-2 : tie.Need-returns-2
-unfolding modulusOf modulus
 returns-2 c =
     let s = c .before .before .before .before .before .before .before .before .before .before .before .before .before .args in
     let e =
-    ap (λ p. writeCall p (s .self) (s .pass) (now (s .file))) (sym (c .before .before .before .before .before .before .before .before .before .before .modulus-of .ensures)) ∙ write-then (c .before .before .before .before .before .before .before .before .before .before .modulus-of .result) (s .self) (s .pass) (now (s .file)) (sym (c .before .before .before .before .before .before .before .before .before .may-write .ensures) ∙ ap passed (c .before .before .before .before .before .before .before .enum-told .given .1))
-    ∙ ap (λ p. writeProof p (s .self .start .rounds) (s .self .total) (s .self .messages) (s .self .fend) (s .self .gend) (now (s .file))) (c .before .before .before .before .before .before .before .before .before .before .modulus-of .ensures) in
+    ap (λ p. writeCall p (s .self) (s .pass) (now (s .file))) (sym (c .before .before .before .before .before .before .before .before .before .before .modulus-of .ensures)) ∙ write-then (c .before .before .before .before .before .before .before .before .before .before .modulus-of .result) (s .self) (s .pass) (now (s .file)) (sym (c .before .before .before .before .before .before .before .before .before .may-write .ensures) ∙ ap passed (c .before .before .before .before .before .before .before .enum-told .given .1)) in
     let z = s .self .total in
     let t : toZ w64 (ofZ w64 z) ≡ z = kept (c .before .before .before .before) in
-    let w = simp t at (c .before .before .before .write-proof .ensures) in
+    let w = simp t at (c .before .before .before .write-proof-in .ensures) in
     (ap (λ o. out o [] []) (c .written-step .ensures ∙ ap (writtenStep (s .self) (s .pass)) (w .0 ∙ sym e)), w .1 ∙ ap (λ o. writtenIn o (proofOf (s .self)) (now (s .file))) (sym e))
 
 pub write-proof-spec : {M : Type 1} → statement M
@@ -75,7 +70,7 @@ write-proof-spec =
     enum-told-2
     refuse-requires
     returns
-    write-proof-requires
+    write-proof-in-requires
     written-step-requires
     same-length
     returns-2)

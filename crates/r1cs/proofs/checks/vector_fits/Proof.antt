@@ -1,5 +1,6 @@
 use borrow.Author.Needs.{needs}
 use borrow.Author.Tests.{eq-eqb, ne-eqb}
+use mathlib.Core.Path.{_∙_}
 use Rattle.r1cs.specs.Product.{ruleVector}
 use Rattle.r1cs.proofs.checks.vector_fits.Statement.{statement}
 use Rattle.r1cs.proofs.checks.vector_fits.Tie as tie
@@ -11,13 +12,12 @@ returns c = simp (ne-eqb _ _ (c .if1 .taken))
 all-reduced-requires : tie.Need-all-reduced-requires
 all-reduced-requires c κs = search needs
 
+pass-if-requires : tie.Need-pass-if-requires
+pass-if-requires c κs = search needs
+
 returns-2 : tie.Need-returns-2
 unfolding ruleVector
-returns-2 c = simp (c .if2 .taken, ← c .before .all-reduced .ensures, eq-eqb _ _ (c .before .before .if1 .left))
-
-returns-3 : tie.Need-returns-3
-unfolding ruleVector
-returns-3 c = simp (c .if2 .left, ← c .before .all-reduced .ensures, eq-eqb _ _ (c .before .before .if1 .left))
+returns-2 c = simp (eq-eqb _ _ (c .before .before .if1 .left)) (c .pass-if .ensures ∙ c .before .all-reduced .ensures)
 
 pub vector-fits-spec : {M : Type 1} → statement M
-vector-fits-spec = tie.close (tie.spec returns all-reduced-requires returns-2 returns-3)
+vector-fits-spec = tie.close (tie.spec returns all-reduced-requires pass-if-requires returns-2)

@@ -3,7 +3,9 @@ use borrow.Author.Needs.{needs}
 use mir.Facts.{toZ-ofZ}
 use mir.Syntax.{w16}
 use Rattle.trip.specs.Items.{pairAt, orZero}
-use Rattle.vector.specs.Item.{plainParts}
+use Rattle.field.specs.Modulus.{modulus}
+use Rattle.item.specs.declared.Given.the-variants.{Reading}
+use Rattle.item.specs.Item.{partsOf}
 use Rattle.trip.proofs.proving.item_at.Statement.{statement}
 use Rattle.trip.proofs.proving.item_at.Tie as tie
 
@@ -26,7 +28,7 @@ returns : tie.Need-returns
 unfolding pairAt
 returns c = let r = c .before .before .reading .given in
     let u = toZ-ofZ {w = w16} {z = r .0 .0} (search needs) in
-    rw (← c .before .before .before .before .log-item .ensures, r .1) (c .pair .ensures ∙ ap (λ z. orZero (plainParts 2147483647 z (r .0 .1 .0))) u)
+    rw (← c .before .before .before .before .log-item .ensures, r .1) (c .pair .ensures ∙ ap (λ z. orZero (partsOf modulus (c .before .before .before .before .before .before .args .start) (c .before .before .before .before .before .before .args .i) (Reading z (r .0 .1 .0)))) u)
 
 returns-2 : tie.Need-returns-2
 unfolding pairAt

@@ -2,21 +2,23 @@
 use Rattle.refusal.proofs.Outcome.{all-start, all-stop, all-pass, all-end}
 use Rattle.refusal.specs.Outcome.{answered, requireAll}
 use Rattle.wire.specs.Matrix.{Shape, requireEntry}
+use Rattle.wire.proofs.Told.{told}
 use Prim.Native.Nat.{_-_, _≤_, _^_}
 use mathlib.Core.Path.{_≡_, sym, ap, _∙_}
+use borrow.Author.Needs.{needs}
 use native.Mathlib.Omega.{arith}
 use Rattle.wire.proofs.matrix.check_entries.Statement.{statement}
 use Rattle.wire.proofs.matrix.check_entries.Tie as tie
 
 abbrev Inv-loop : tie.InvT-loop
-Inv-loop file rounds count size n k₀ k =
+Inv-loop p file rounds count size n k₀ k =
     (k ≤ count)
     × (size ≡ 2 ^ rounds)
-    × (requireAll {A = Shape} (requireEntry 2147483647 file) k (count - k) (answered (record { rounds = rounds; count = count }))
-    ≡ requireAll (requireEntry 2147483647 file) 0 count (answered (record { rounds = rounds; count = count })))
+    × (requireAll {A = Shape} (requireEntry p file) k (count - k) (answered (record { rounds = rounds; count = count }))
+    ≡ requireAll (requireEntry p file) 0 count (answered (record { rounds = rounds; count = count })))
 
 abbrev μ-loop : tie.MeasureT-loop
-μ-loop file rounds count size n k₀ k = count - k
+μ-loop p file rounds count size n k₀ k = count - k
 
 two-to-requires : tie.Need-two-to-requires Inv-loop μ-loop
 two-to-requires c κs = omega arith
@@ -27,35 +29,53 @@ loop-holds c = (omega arith, c .two-to .ensures, all-start _ _ _)
 placed-requires : tie.Need-placed-requires Inv-loop μ-loop
 placed-requires c κs = omega arith
 
-cast-t9 : tie.Need-cast-t9 Inv-loop μ-loop
-cast-t9 c = omega arith
+enum-told : tie.Need-enum-told Inv-loop μ-loop
+enum-told c = search needs
+
+enum-told-2 : tie.Need-enum-told-2 Inv-loop μ-loop
+enum-told-2 c = search needs
+
+cast-t10 : tie.Need-cast-t10 Inv-loop μ-loop
+cast-t10 c = omega arith
 
 returns : tie.Need-returns Inv-loop μ-loop
 returns c =
-    let s = c .before .before .before .loop .inv .1 ∙ ap (λ n. 2 ^ n) (c .before .before .before .before .before .before .pre .0) in
-    all-stop _ (c .before .before .before .loop .k) _ _ (c .before .before .loop-test .taken) (c .before .before .before .loop .inv .2) (λ later. simp (← s, ← c .before .placed .ensures, c .if1 .left))
+    let s = c .before .before .before .before .loop .inv .1 ∙ ap (λ n. 2 ^ n) (c .before .before .before .before .before .before .before .pre .0) in
+    all-stop _ (c .before .before .before .before .loop .k) _ _ (c .before .before .before .loop-test .taken) (c .before .before .before .before .loop .inv .2) (λ later. simp (← s, told (c .enum-told2 .given .1) (c .before .before .placed .ensures)))
 
 sorted-requires : tie.Need-sorted-requires Inv-loop μ-loop
 sorted-requires c κs = omega arith
 
-cast-t11 : tie.Need-cast-t11 Inv-loop μ-loop
-cast-t11 c = omega arith
+enum-told-3 : tie.Need-enum-told-3 Inv-loop μ-loop
+enum-told-3 c = search needs
+
+enum-told-4 : tie.Need-enum-told-4 Inv-loop μ-loop
+enum-told-4 c = search needs
+
+cast-t12 : tie.Need-cast-t12 Inv-loop μ-loop
+cast-t12 c = omega arith
 
 returns-2 : tie.Need-returns-2 Inv-loop μ-loop
 returns-2 c =
-    let s = c .before .before .before .before .before .loop .inv .1 ∙ ap (λ n. 2 ^ n) (c .before .before .before .before .before .before .before .before .pre .0) in
-    all-stop _ (c .before .before .before .before .before .loop .k) _ _ (c .before .before .before .before .loop-test .taken) (c .before .before .before .before .before .loop .inv .2) (λ later. simp (← s, ← c .before .before .before .placed .ensures, c .before .before .if1 .taken, ← c .before .sorted .ensures, c .if2 .left))
+    let s = c .before .before .before .before .before .before .before .loop .inv .1 ∙ ap (λ n. 2 ^ n) (c .before .before .before .before .before .before .before .before .before .before .pre .0) in
+    all-stop _ (c .before .before .before .before .before .before .before .loop .k) _ _ (c .before .before .before .before .before .before .loop-test .taken) (c .before .before .before .before .before .before .before .loop .inv .2) (λ later. simp (← s, told (c .before .before .before .enum-told .given .1) (c .before .before .before .before .before .placed .ensures), told (c .enum-told4 .given .1) (c .before .before .sorted .ensures)))
 
 valued-requires : tie.Need-valued-requires Inv-loop μ-loop
 valued-requires c κs = omega arith
 
-cast-t13 : tie.Need-cast-t13 Inv-loop μ-loop
-cast-t13 c = omega arith
+enum-told-5 : tie.Need-enum-told-5 Inv-loop μ-loop
+enum-told-5 c = search needs
+
+enum-told-6 : tie.Need-enum-told-6 Inv-loop μ-loop
+enum-told-6 c = search needs
+
+cast-t14 : tie.Need-cast-t14 Inv-loop μ-loop
+cast-t14 c = omega arith
 
 returns-3 : tie.Need-returns-3 Inv-loop μ-loop
 returns-3 c =
-    let s = c .before .before .before .before .before .before .before .loop .inv .1 ∙ ap (λ n. 2 ^ n) (c .before .before .before .before .before .before .before .before .before .before .pre .0) in
-    all-stop _ (c .before .before .before .before .before .before .before .loop .k) _ _ (c .before .before .before .before .before .before .loop-test .taken) (c .before .before .before .before .before .before .before .loop .inv .2) (λ later. simp (← s, ← c .before .before .before .before .before .placed .ensures, c .before .before .before .before .if1 .taken, ← c .before .before .before .sorted .ensures, c .before .before .if2 .taken, ← c .before .valued .ensures, c .if3 .left))
+    let s = c .before .before .before .before .before .before .before .before .before .before .loop .inv .1 ∙ ap (λ n. 2 ^ n) (c .before .before .before .before .before .before .before .before .before .before .before .before .before .pre .0) in
+    all-stop _ (c .before .before .before .before .before .before .before .before .before .before .loop .k) _ _ (c .before .before .before .before .before .before .before .before .before .loop-test .taken) (c .before .before .before .before .before .before .before .before .before .before .loop .inv .2) (λ later. simp (← s, told (c .before .before .before .before .before .before .enum-told .given .1) (c .before .before .before .before .before .before .before .before .placed .ensures), told (c .before .before .before .enum-told3 .given .1) (c .before .before .before .before .before .sorted .ensures), told (c .enum-told6 .given .1) (c .before .before .valued .ensures)))
 
 add-k : tie.Need-add-k Inv-loop μ-loop
 add-k c = omega arith
@@ -65,10 +85,10 @@ loop-less c = omega arith
 
 loop-again : tie.Need-loop-again Inv-loop μ-loop
 loop-again c =
-    let s = c .before .before .before .before .before .before .before .loop .inv .1 ∙ ap (λ n. 2 ^ n) (c .before .before .before .before .before .before .before .before .before .before .pre .0) in (
+    let s = c .before .before .before .before .before .before .before .before .before .before .loop .inv .1 ∙ ap (λ n. 2 ^ n) (c .before .before .before .before .before .before .before .before .before .before .before .before .before .pre .0) in (
       omega arith,
-      c .before .before .before .before .before .before .before .loop .inv .1,
-      all-pass _ (c .before .before .before .before .before .before .before .loop .k) _ _ (c .before .before .before .before .before .before .loop-test .taken) (c .before .before .before .before .before .before .before .loop .inv .2) (λ later. simp (← s, ← c .before .before .before .before .before .placed .ensures, c .before .before .before .before .if1 .taken, ← c .before .before .before .sorted .ensures, c .before .before .if2 .taken, ← c .before .valued .ensures, c .if3 .taken)),
+      c .before .before .before .before .before .before .before .before .before .before .loop .inv .1,
+      all-pass _ (c .before .before .before .before .before .before .before .before .before .before .loop .k) _ _ (c .before .before .before .before .before .before .before .before .before .loop-test .taken) (c .before .before .before .before .before .before .before .before .before .before .loop .inv .2) (λ later. simp (← s, told (c .before .before .before .before .before .before .enum-told .given .1) (c .before .before .before .before .before .before .before .before .placed .ensures), told (c .before .before .before .enum-told3 .given .1) (c .before .before .before .before .before .sorted .ensures), told (c .enum-told5 .given .1) (c .before .before .valued .ensures))),
     )
 
 returns-4 : tie.Need-returns-4 Inv-loop μ-loop
@@ -83,13 +103,19 @@ check-entries-spec =
     two-to-requires
     loop-holds
     placed-requires
-    cast-t9
+    enum-told
+    enum-told-2
+    cast-t10
     returns
     sorted-requires
-    cast-t11
+    enum-told-3
+    enum-told-4
+    cast-t12
     returns-2
     valued-requires
-    cast-t13
+    enum-told-5
+    enum-told-6
+    cast-t14
     returns-3
     add-k
     loop-less

@@ -25,8 +25,11 @@ add-get16-3 c = search needs
 get16-requires-2 : tie.Need-get16-requires-2
 get16-requires-2 c κs = search needs
 
+pass-if-requires : tie.Need-pass-if-requires
+pass-if-requires c κs = search needs
+
 returns : tie.Need-returns
-returns c = simp (← c .before .before .get16 .ensures .0, lt-ltb _ _ (c .before .if1 .taken), ← c .get162 .ensures .0)
+returns c = simp (← c .before .before .before .get16 .ensures .0, lt-ltb _ _ (c .before .before .if1 .taken), ← c .before .get162 .ensures .0) (c .pass-if .ensures)
 
 returns-2 : tie.Need-returns-2
 returns-2 c = simp (← c .before .get16 .ensures .0, le-ltb _ _ (c .if1 .left))
@@ -42,5 +45,6 @@ placed-spec =
     add-get16-2
     add-get16-3
     get16-requires-2
+    pass-if-requires
     returns
     returns-2)

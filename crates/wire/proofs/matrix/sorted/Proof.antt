@@ -60,9 +60,12 @@ returns-2 : tie.Need-returns-2
 unfolding inOrder
 returns-2 c = simp (ne-eqb _ _ (c .before .before .before .before .before .if1 .left), ← c .before .before .before .before .get16 .ensures .0, ← c .before .before .get163 .ensures .0, lt-ltb _ _ (c .if2 .taken))
 
+pass-if-requires : tie.Need-pass-if-requires
+pass-if-requires c κs = search needs
+
 returns-3 : tie.Need-returns-3
 unfolding inOrder
-returns-3 c = simp (ne-eqb _ _ (c .before .before .before .before .before .before .if1 .left), ← c .before .before .before .before .before .get16 .ensures .0, ← c .before .before .before .get163 .ensures .0, ← c .before .before .before .before .get162 .ensures .0, ← c .before .before .get164 .ensures .0, le-ltb _ _ (c .before .if2 .left), eq-eqb _ _ (c .if3 .taken))
+returns-3 c = simp (ne-eqb _ _ (c .before .before .before .before .before .before .before .if1 .left), ← c .before .before .before .before .before .before .get16 .ensures .0, ← c .before .before .before .before .get163 .ensures .0, ← c .before .before .before .before .before .get162 .ensures .0, ← c .before .before .before .get164 .ensures .0, le-ltb _ _ (c .before .before .if2 .left), eq-eqb _ _ (c .before .if3 .taken)) (c .pass-if .ensures)
 
 returns-4 : tie.Need-returns-4
 unfolding inOrder
@@ -90,5 +93,6 @@ sorted-spec =
     add-get16-6
     get16-requires-4
     returns-2
+    pass-if-requires
     returns-3
     returns-4)

@@ -3,8 +3,8 @@ use Rattle.wire.specs.Proof.{proofEnds, proofRounds, proofSize}
 use Prim.Native.Nat.{_<_}
 use lib.ListN.{length}
 use borrow.Author.Tests.{le-leb, lt-leb}
-use native.Mathlib.Omega.{arith}
 use borrow.Author.Needs.{needs}
+use native.Mathlib.Omega.{arith}
 use Rattle.wire.proofs.proof.proof_ends.Statement.{statement}
 use Rattle.wire.proofs.proof.proof_ends.Tie as tie
 
@@ -14,17 +14,17 @@ returns c =
     let short : length (c .before .before .args .file .now) < proofSize (proofRounds (c .before .before .args .file .now)) = omega arith in
     simp (lt-leb _ _ short)
 
-shared-slice-read-n : tie.Need-shared-slice-read-n
-shared-slice-read-n c = search needs
+shared-slice-read-rounds : tie.Need-shared-slice-read-rounds
+shared-slice-read-rounds c = search needs
+
+cast-rounds : tie.Need-cast-rounds
+cast-rounds c = omega (arith, c .shared-slice-known2 .given 5)
 
 cast-n : tie.Need-cast-n
 cast-n c = omega (arith, c .shared-slice-known2 .given 5)
 
-mul-if2 : tie.Need-mul-if2
-mul-if2 c = omega (arith, c .shared-slice-known2 .given 5)
-
-add-if2 : tie.Need-add-if2
-add-if2 c = omega (arith, c .shared-slice-known2 .given 5)
+proof-size-requires : tie.Need-proof-size-requires
+proof-size-requires c κs = search needs
 
 mul-get32 : tie.Need-mul-get32
 mul-get32 c = search needs
@@ -46,21 +46,21 @@ get32-requires-2 c κs = search needs
 
 returns-2 : tie.Need-returns-2
 unfolding proofEnds
-returns-2 c = simp (le-leb _ _ (c .before .before .if2 .taken), ← c .before .get32 .ensures, ← c .get322 .ensures)
+returns-2 c = simp (← c .before .before .before .proof-size .ensures, le-leb _ _ (c .before .before .if2 .taken), ← c .before .get32 .ensures, ← c .get322 .ensures)
 
 returns-3 : tie.Need-returns-3
 unfolding proofEnds
-returns-3 c = simp (lt-leb _ _ (c .if2 .left))
+returns-3 c = simp (← c .before .proof-size .ensures, lt-leb _ _ (c .if2 .left))
 
 pub proof-ends-spec : {M : Type 1} → statement M
 proof-ends-spec =
     tie.close
     (tie.spec
     returns
-    shared-slice-read-n
+    shared-slice-read-rounds
+    cast-rounds
     cast-n
-    mul-if2
-    add-if2
+    proof-size-requires
     mul-get32
     add-get32
     get32-requires
