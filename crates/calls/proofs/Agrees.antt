@@ -10,7 +10,6 @@ use borrow.Author.Tests.{ltb-true, eqb-true}
 use Rattle.vector.specs.Vector.{at}
 use Rattle.vector.specs.Rounds.{size}
 use Rattle.vector.specs.Fold.{combine, fold, endValue}
-use Rattle.vector.specs.Message.{Message}
 use Rattle.vector.proofs.Rounds.{rounds-enough}
 use Rattle.vector.proofs.Folds.{fold-challenges}
 use Rattle.vector.proofs.Messages.{message-same}

@@ -9,7 +9,7 @@ use lib.ListN.{replicate, take}
 use Rattle.algebra.specs.Mod.{residue, addMod, negMod, mulMod}
 use Rattle.refusal.specs.Outcome.{answered}
 use Rattle.field.specs.Integer.{image}
-use Rattle.field.specs.Total.{inLimits, plusItem}
+use Rattle.field.specs.Total.{inLimits, plus}
 use Rattle.wire.specs.Number.{num, bytes, numAt, signed, bits}
 use Rattle.wire.specs.Header.{marked}
 use Rattle.wire.specs.Proof.{allBelow, readProof, readProofOf, numbers as fileNumbers, proofHeader}
@@ -110,7 +110,7 @@ pub single-replies :
     ∷ says reply.taken
     ∷ says (reply.ends 2147483467 10)
     ∷ []
-unfolding each itemsBelow roundsFrom openingsAt step endsCall giveCall openCall closeCall cleared toFullCall wellFormed runFormed passFormed powers firstFrom inLimits sizeIn32 partsOf takes entering summedItem enteredItem plusItem image residue negMod addMod mulMod sum foldWith overwrite arrived topsAt climbFrom climbed meetsAt settled entered paddingFrom paddingKernel every
+unfolding each itemsBelow roundsFrom openingsAt step endsCall giveCall openCall closeCall cleared toFullCall wellFormed runFormed passFormed powers firstFrom inLimits sizeIn32 partsOf takes entering summedItem enteredItem plus image residue negMod addMod mulMod sum foldWith overwrite arrived topsAt climbFrom climbed meetsAt settled entered paddingFrom paddingKernel every
 single-replies = refl
 
 -- and with the change before the ends
@@ -124,7 +124,7 @@ pub single-changed :
     ∷ says reply.changed
     ∷ says (reply.ends 2147483467 10)
     ∷ []
-unfolding each itemsBelow roundsFrom openingsAt step endsCall giveCall openCall closeCall cleared toFullCall wellFormed runFormed passFormed powers firstFrom inLimits sizeIn32 partsOf takes entering summedItem enteredItem plusItem image residue negMod addMod mulMod sum foldWith overwrite arrived topsAt climbFrom climbed meetsAt settled entered paddingFrom paddingKernel every
+unfolding each itemsBelow roundsFrom openingsAt step endsCall giveCall openCall closeCall cleared toFullCall wellFormed runFormed passFormed powers firstFrom inLimits sizeIn32 partsOf takes entering summedItem enteredItem plus image residue negMod addMod mulMod sum foldWith overwrite arrived topsAt climbFrom climbed meetsAt settled entered paddingFrom paddingKernel every
 single-changed = refl
 
 -- its verifier's own list: the item, the close and the verdict; or the item and the file of 18 bytes

@@ -8,7 +8,7 @@ use lib.ListN.{replicate}
 use Rattle.algebra.specs.Mod.{residue, addMod, subMod, negMod, mulMod, halfOne, halfMod, inverseIn, inverseMod, divMod}
 use Rattle.refusal.specs.Outcome.{answered}
 use Rattle.field.specs.Integer.{image}
-use Rattle.field.specs.Total.{inLimits, plusItem}
+use Rattle.field.specs.Total.{inLimits, plus}
 use Rattle.vector.specs.Rounds.{powers, firstFrom}
 use Rattle.vector.specs.Power.{sizeIn32}
 use Rattle.vector.specs.Vector.{weight, sum}
@@ -128,7 +128,7 @@ pub twisted-replies :
     ∷ says (reply.ends 231 45)
     ∷ (record { answer = answered reply.opening; values = inNinety 2 twistedOpening })
     ∷ [])
-unfolding each itemsBelow roundsFrom openingsAt step messageGiven messageCall endsCall giveCall openCall openAtCall closeCall challengedFull challengeCall cleared toFullCall openingGiven openingCall wellFormed runFormed passFormed powers firstFrom inLimits sizeIn32 partsOf takes entering weight summedItem enteredItem plusItem image residue negMod addMod mulMod sum foldWith overwrite foldSlice messageSlice hornerAt arrived topsAt climbFrom climbed meetsAt settled entered paddingFrom paddingKernel valuesOf tripleValues every
+unfolding each itemsBelow roundsFrom openingsAt step messageGiven messageCall endsCall giveCall openCall openAtCall closeCall challengedFull challengeCall cleared toFullCall openingGiven openingCall wellFormed runFormed passFormed powers firstFrom inLimits sizeIn32 partsOf takes entering weight summedItem enteredItem plus image residue negMod addMod mulMod sum foldWith overwrite foldSlice messageSlice hornerAt arrived topsAt climbFrom climbed meetsAt settled entered paddingFrom paddingKernel valuesOf tripleValues every
 twisted-replies = refl
 
 -- its verifier's own list: the items, the claim, two messages, the verdict and a check

@@ -14,7 +14,6 @@ use Rattle.refusal.specs.Limit.{maxWeight}
 use Rattle.vector.specs.Vector.{Vector, at}
 use Rattle.vector.specs.Rounds.{size}
 use Rattle.vector.specs.Fold.{fold, endValue}
-use Rattle.vector.specs.Message.{Message}
 use Rattle.prover.specs.declared.Mode.{Mode}
 use Rattle.prover.specs.declared.Mode.the-variants.{Small, Full}
 use Rattle.prover.specs.declared.Next.{Next}

@@ -11,7 +11,6 @@ use Rattle.refusal.specs.Limit.{maxWeight}
 use Rattle.refusal.specs.Outcome.{Outcome, answered, refused, refusedAt}
 use Rattle.wire.specs.Proof.{proofFile}
 use Rattle.vector.specs.Vector.{at, dot}
-use Rattle.vector.specs.Message.{Message}
 use Rattle.vector.specs.Slice.{allReduced, isNonzero}
 use Rattle.vector.proofs.KernelPass.{Taken}
 use Rattle.prover.specs.declared.Next.{Next}

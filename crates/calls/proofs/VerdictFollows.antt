@@ -8,7 +8,7 @@ use Prim.Native.Nat.{ℕ, suc, _<_}
 use native.Mathlib.Omega.{arith}
 use lib.Dec.{eqb, ltb}
 use lib.ListN.{length}
-use borrow.Author.Tests.{eqb-true, eqb-false, leb-true, ltb-true}
+use borrow.Author.Tests.{eqb-true, eqb-false, ltb-true}
 use Rattle.algebra.specs.Mod.{mulMod}
 use Rattle.refusal.specs.Number as number
 use Rattle.refusal.specs.Limit.{maxWeight}
@@ -26,7 +26,7 @@ use Rattle.verifier.specs.Claims.{messageOf3, passedWith, failedNow, hears, fin
 use Rattle.verifier.specs.Calls.{verdictTurn, verdict}
 use Rattle.verifier.specs.ProofFile.{afterFile, judges, proof}
 use Rattle.verifier.specs.Trips.{claimAt, fileVerdictOf}
-use Rattle.verifier.proofs.Invariant.{not-true, parts-of, closed-taken}
+use Rattle.verifier.proofs.Invariant.{parts-of, closed-taken}
 use Rattle.verifier.proofs.Answered.{require-answered}
 use Rattle.verifier.proofs.FileVerdicts.{file-verdict-says, file-verdict-same}
 use Rattle.verifier.proofs.ProofFiles.{proof-answered, given-again, file-finds}

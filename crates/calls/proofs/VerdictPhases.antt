@@ -142,7 +142,7 @@ module _ (p : ℕ) (s : Start) (cs : List ℕ) where
                 (subst (Fine p (s .plain)) (sym item-newest) fine));
             fsum =
                 more-f p s cs k (contributes p (v .start) x .f) (v .fsum) _ (v .start) (v .challenges) (v .taken) (m .fsum) (c .start) (c .challenges) (m .taken)
-                ∙ ap (λ (t : Start). addMod p _ (mulMod p (entersAs p s k (contributes p t x .f)) (weight p held n k))) (c .start)
+                ∙ ap (λ (t : Start). addMod p (weighted p held n (entersF p T) k) (mulMod p (entersAs p s k (contributes p t x .f)) (weight p held n k))) (c .start)
                 ∙ ap₂ (λ y z. addMod p y (mulMod p (entersAs p s k (contributes p s z .f)) (weight p held n k)))
                 (weighted-same p held n (entersF p T) (entersF p U) k (λ i l. ap (λ z. entersAs p s i (contributes p s z .f)) (sym (item-same i l))))
                 (sym item-newest)
@@ -150,7 +150,7 @@ module _ (p : ℕ) (s : Start) (cs : List ℕ) where
                 ∙ ap (weighted p held n (entersF p U)) (sym items-more);
             gsum =
                 more-g p s cs k (contributes p (v .start) x .g) (v .gsum) _ (v .start) (v .challenges) (v .taken) (m .gsum) (c .start) (c .challenges) (m .taken)
-                ∙ ap (λ (t : Start). addMod p _ (mulMod p (contributes p t x .g) (weight p held n k))) (c .start)
+                ∙ ap (λ (t : Start). addMod p (weighted p held n (entersG p T) k) (mulMod p (contributes p t x .g) (weight p held n k))) (c .start)
                 ∙ ap₂ (λ y z. addMod p y (mulMod p (contributes p s z .g) (weight p held n k)))
                 (weighted-same p held n (entersG p T) (entersG p U) k (λ i l. ap (λ z. contributes p s z .g) (sym (item-same i l))))
                 (sym item-newest)

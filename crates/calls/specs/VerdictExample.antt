@@ -60,10 +60,10 @@ file end =
 abbrev tripItems : List Posed
 tripItems =
     plainly (query.Message 1 2 3)
-    ∷ plainly (query.Give (Reading (negsuc 179)) 10)
-    ∷ plainly (query.Give (Reading (negsuc 174)) 20)
-    ∷ plainly (query.Give (Reading (pos 40)) 5)
-    ∷ plainly (query.Give (Reading (pos 1)) 1)
+    ∷ plainly (query.Give (Reading (negsuc 179) 10))
+    ∷ plainly (query.Give (Reading (negsuc 174) 20))
+    ∷ plainly (query.Give (Reading (pos 40) 5))
+    ∷ plainly (query.Give (Reading (pos 1) 1))
     ∷ []
 
 abbrev tripCalls : ℕ → List Posed
