@@ -1,6 +1,6 @@
 -- What holds of a state whose answered calls brought the trip's items and kept the buffers.
 use mathlib.Core.Path.{_≡_, refl, sym, ap, ap₂, subst, _∙_}
-use mathlib.Core.Bool.{Bool, true, false}
+use mathlib.Core.Bool.{Bool, true, false, cond, not, _&&_, _||_}
 use mathlib.Core.List.{List, [], _∷_, _++_}
 use Prim.Native.Nat.{ℕ, zero, suc, _+_, _*_, _-_, _^_, _<_, _≤_}
 use native.Mathlib.Omega.{arith}
@@ -10,44 +10,48 @@ use borrow.Author.Tests.{ltb-true, eqb-true}
 use Rattle.vector.specs.Vector.{at}
 use Rattle.vector.specs.Rounds.{size}
 use Rattle.vector.specs.Fold.{combine, fold, endValue}
-use Rattle.vector.specs.Message.{Message}
 use Rattle.vector.proofs.Rounds.{rounds-enough}
 use Rattle.vector.proofs.Folds.{fold-challenges}
 use Rattle.vector.proofs.Messages.{message-same}
 use Rattle.vector.proofs.KernelPass.{Taken}
+use Rattle.prover.specs.declared.Mode.{Mode}
 use Rattle.prover.specs.declared.Next.{Next}
 use Rattle.prover.specs.declared.Next.the-variants as next
 use Rattle.prover.specs.declared.Kind.{Kind}
 use Rattle.prover.specs.declared.Kind.the-variants.{Shut, Asked, Change}
 use Rattle.prover.specs.declared.Pass.{Pass}
-use Rattle.prover.specs.Records as records
 use Rattle.prover.specs.Records.{kernelOf}
 use Rattle.prover.specs.Order.{isTotal, levelAt, levelOf}
 use Rattle.prover.specs.WellFormed.{roundFits}
-use Rattle.runs.specs.Trip.{Raw, Trip, vectorF, vectorG, totalOf}
+use Rattle.item.specs.declared.Given.{Given}
+use Rattle.runs.specs.Trip.{Trip, vectorF, vectorG, totalOf}
 use Rattle.runs.specs.Passes.{passAfter, Gives}
 use Rattle.runs.proofs.PassTrip.{after-given}
-use Rattle.calls.specs.State.{State}
+use Rattle.calls.specs.State.{isChange, isFull, isOpen, State}
 use Rattle.calls.specs.Table.{waits, long}
 use Rattle.calls.specs.Meaning.{messageAt, messagesTo, foldF, foldG}
 use Rattle.calls.specs.Statement.{known}
-use Rattle.calls.proofs.Records.{runOf}
+use Rattle.calls.proofs.Records.{Notes, runOf}
 use Rattle.calls.proofs.Arrays.{array-at}
 use Rattle.calls.proofs.Fits.{givenAt, Fits, run-formed}
 
 -- the trip of a state's start
-abbrev pub tripAt : List Raw → State → Trip
+abbrev pub tripAt : List Given → State → Trip
 tripAt its a = record { start = a .start; items = its }
 
-pub record Agrees (p : ℕ) (through : Bool) (its : List Raw) (a : State) : Type 0 where
-  pub gives : Gives (tripAt its a) (a .items)
-  pub placesF : (j : ℕ) → known through a ≤ j → j < long a → at (a .f) j ≡ foldF p (tripAt its a) a j
-  pub placesG : (j : ℕ) → known through a ≤ j → j < long a → at (a .g) j ≡ foldG p (tripAt its a) a j
-  pub total : a .start .plain ≡ true → waits next.Total (a .next) ≡ false → a .total ≡ totalOf (tripAt its a)
-  pub messages : a .messages ≡ messagesTo p (tripAt its a) (a .challenges) (givenAt (length (a .challenges)) (a .next))
-  pub ends : waits next.Openings (a .next) ≡ true
-      → (a .fend ≡ endValue p (at (a .challenges)) (a .start .rounds) (vectorF p (tripAt its a)))
-      × (a .gend ≡ endValue p (at (a .challenges)) (a .start .rounds) (vectorG p (tripAt its a)))
+-- from which place on the buffers hold the current fold, by mode and pass
+abbrev pub knownIn : ℕ → ℕ → Mode → Kind → Bool → Bool → ℕ
+knownIn h q m k openings through = cond (isFull m) (cond openings h 0) (cond (isChange k && (through || not openings)) (h - q) h)
+
+pub record Agrees (p : ℕ) (through : Bool) (its : List Given) (a : State) (past : Notes) : Type 0 where
+  pub gives : Gives (tripAt its a) (a .pass .items)
+  pub placesF : (j : ℕ) → known through a ≤ j → j < long a → at (a .buffers .f) j ≡ foldF p (tripAt its a) a j
+  pub placesG : (j : ℕ) → known through a ≤ j → j < long a → at (a .buffers .g) j ≡ foldG p (tripAt its a) a j
+  pub total : a .start .plain ≡ true → waits next.Total (a .turn .next) ≡ false → past .total ≡ totalOf (tripAt its a)
+  pub messages : past .messages ≡ messagesTo p (tripAt its a) (a .turn .challenges) (givenAt (length (a .turn .challenges)) (a .turn .next))
+  pub ends : waits next.Openings (a .turn .next) ≡ true
+      → (past .fend ≡ endValue p (at (a .turn .challenges)) (a .start .rounds) (vectorF p (tripAt its a)))
+      × (past .gend ≡ endValue p (at (a .turn .challenges)) (a .start .rounds) (vectorG p (tripAt its a)))
 
 -- A MESSAGE DEPENDS ON THE CHALLENGES BEFORE IT
 pub message-before : (p : ℕ) (T : Trip) (cs ds : List ℕ) (i : ℕ) → ((j : ℕ) → j < i → at cs j ≡ at ds j) → messageAt p T cs i ≡ messageAt p T ds i
@@ -76,52 +80,52 @@ length-messages p T cs (suc k) =
     length-append (messagesTo p T cs k) (messageAt p T cs k .even ∷ messageAt p T cs k .cross ∷ messageAt p T cs k .odd ∷ [])
     ∙ omega (arith, length-messages p T cs k)
 
-module _ (p : ℕ) (its : List Raw) (a : State) (h : Fits p a) where
+module _ (p : ℕ) (its : List Given) (a : State) {past : Notes} (h : Fits p a past) where
   abbrev T : Trip
   T = tripAt its a
 
-  pub round-most : length (a .challenges) ≤ a .start .rounds
-  round-most = by (a .next) (h .run .round)
+  pub round-most : length (a .turn .challenges) ≤ a .start .rounds
+  round-most = by (a .turn .next) (h .run .round)
     where
-      by : (t : Next) → roundFits t (length (a .challenges)) (a .start .rounds) ≡ true → length (a .challenges) ≤ a .start .rounds
-      by next.Total e = omega (arith, eqb-true (length (a .challenges)) 0 e)
-      by next.Message e = omega (arith, ltb-true (length (a .challenges)) (a .start .rounds) e)
-      by next.Challenge e = omega (arith, ltb-true (length (a .challenges)) (a .start .rounds) e)
-      by next.Ends e = omega (arith, eqb-true (length (a .challenges)) (a .start .rounds) e)
-      by next.Openings e = omega (arith, eqb-true (length (a .challenges)) (a .start .rounds) e)
+      by : (t : Next) → roundFits t (length (a .turn .challenges)) (a .start .rounds) ≡ true → length (a .turn .challenges) ≤ a .start .rounds
+      by next.Total e = omega (arith, eqb-true (length (a .turn .challenges)) 0 e)
+      by next.Message e = omega (arith, ltb-true (length (a .turn .challenges)) (a .start .rounds) e)
+      by next.Challenge e = omega (arith, ltb-true (length (a .turn .challenges)) (a .start .rounds) e)
+      by next.Ends e = omega (arith, eqb-true (length (a .turn .challenges)) (a .start .rounds) e)
+      by next.Openings e = omega (arith, eqb-true (length (a .turn .challenges)) (a .start .rounds) e)
 
   -- the level of a pass uses challenges that were taken
-  level-taken : (k : Kind) → levelOf (runOf a) k ≤ length (a .challenges)
-  level-taken k = by (a .next) k (h .run .round)
+  level-taken : (k : Kind) → levelOf (runOf a past) k ≤ length (a .turn .challenges)
+  level-taken k = by (a .turn .next) k (h .run .round)
     where
-      by : (t : Next) (k : Kind) → roundFits t (length (a .challenges)) (a .start .rounds) ≡ true → levelAt (a .start .rounds) (length (a .challenges)) t k ≤ length (a .challenges)
+      by : (t : Next) (k : Kind) → roundFits t (length (a .turn .challenges)) (a .start .rounds) ≡ true → levelAt (a .start .rounds) (length (a .turn .challenges)) t k ≤ length (a .turn .challenges)
       by next.Total k e = omega arith
       by next.Message k e = omega arith
       by next.Challenge k e = omega arith
-      by next.Ends k e = omega (arith, eqb-true (length (a .challenges)) (a .start .rounds) e)
+      by next.Ends k e = omega (arith, eqb-true (length (a .turn .challenges)) (a .start .rounds) e)
       by next.Openings Shut e = omega arith
-      by next.Openings Asked e = omega (arith, eqb-true (length (a .challenges)) (a .start .rounds) e)
+      by next.Openings Asked e = omega (arith, eqb-true (length (a .turn .challenges)) (a .start .rounds) e)
       by next.Openings Change e = omega arith
 
-  pub agree-at : (k : Kind) (j : ℕ) → j < levelOf (runOf a) k → at (runOf a .challenges) j ≡ at (a .challenges) j
-  agree-at k j l = array-at 15 (a .challenges) j (omega (arith, level-taken k))
+  pub agree-at : (k : Kind) (j : ℕ) → j < levelOf (runOf a past) k → at (runOf a past .challenges) j ≡ at (a .turn .challenges) j
+  agree-at k j l = array-at 15 (a .turn .challenges) j (omega (arith, level-taken k))
 
   -- THE OPEN PASS has taken the trip's items
-  pub pass-taken : (k : Kind) → a .kind ≡ k → records.isOpen k ≡ true → isTotal (a .next) ≡ false → Gives T (a .items)
-      → (let s : Pass = passAfter p (runOf a) k (a .point) (a .items) in
-      Taken p (a .start .rounds) (at (a .challenges)) (levelOf (runOf a) k) (s .points) (vectorF p T) (vectorG p T) (2 ^ a .start .rounds - a .start .items + length (a .items)) (kernelOf s))
+  pub pass-taken : (k : Kind) → a .pass .kind ≡ k → isOpen k ≡ true → isTotal (a .turn .next) ≡ false → Gives T (a .pass .items)
+      → (let s : Pass = passAfter p (runOf a past) k (a .pass .point) (a .pass .items) in
+      Taken p (a .start .rounds) (at (a .turn .challenges)) (levelOf (runOf a past) k) (s .points) (vectorF p T) (vectorG p T) (2 ^ a .start .rounds - a .start .items + length (a .pass .items)) (kernelOf s))
   pass-taken k e op other gives =
-      after-given p (runOf a) k (a .point) (a .items) (run-formed p a h) (h .pass .count) other op (at (a .challenges)) (agree-at k) T refl gives
+      after-given p (runOf a past) k (a .pass .point) (a .pass .items) (run-formed p a h) (h .pass .count) other op (at (a .turn .challenges)) (agree-at k) T refl gives
 
   pub enough : a .start .items ≤ 2 ^ a .start .rounds
   enough = subst (λ n. a .start .items ≤ 2 ^ n) (sym (h .run .rounds)) (rounds-enough (a .start .items) (h .run .most))
 
   -- a whole one
-  pub pass-whole : (k : Kind) → a .kind ≡ k → records.isOpen k ≡ true → isTotal (a .next) ≡ false → Gives T (a .items) → length (a .items) ≡ a .start .items
-      → (let s : Pass = passAfter p (runOf a) k (a .point) (a .items) in
-      Taken p (a .start .rounds) (at (a .challenges)) (levelOf (runOf a) k) (s .points) (vectorF p T) (vectorG p T) (2 ^ a .start .rounds) (kernelOf s))
+  pub pass-whole : (k : Kind) → a .pass .kind ≡ k → isOpen k ≡ true → isTotal (a .turn .next) ≡ false → Gives T (a .pass .items) → length (a .pass .items) ≡ a .start .items
+      → (let s : Pass = passAfter p (runOf a past) k (a .pass .point) (a .pass .items) in
+      Taken p (a .start .rounds) (at (a .turn .challenges)) (levelOf (runOf a past) k) (s .points) (vectorF p T) (vectorG p T) (2 ^ a .start .rounds) (kernelOf s))
   pass-whole k e op other gives all =
-      let s : Pass = passAfter p (runOf a) k (a .point) (a .items) in
-      let t : 2 ^ a .start .rounds - a .start .items + length (a .items) ≡ 2 ^ a .start .rounds = omega (arith, enough) in
-      subst (λ t. Taken p (a .start .rounds) (at (a .challenges)) (levelOf (runOf a) k) (s .points) (vectorF p T) (vectorG p T) t (kernelOf s)) t
+      let s : Pass = passAfter p (runOf a past) k (a .pass .point) (a .pass .items) in
+      let t : 2 ^ a .start .rounds - a .start .items + length (a .pass .items) ≡ 2 ^ a .start .rounds = omega (arith, enough) in
+      subst (λ t. Taken p (a .start .rounds) (at (a .turn .challenges)) (levelOf (runOf a past) k) (s .points) (vectorF p T) (vectorG p T) t (kernelOf s)) t
       (pass-taken k e op other gives)

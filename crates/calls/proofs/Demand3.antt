@@ -1,161 +1,124 @@
 -- DEMAND 3, proved: for any odd prime modulus above the largest weight that fits 32 bits, and so for 2,147,483,647.
-use mathlib.Core.Path.{_≡_, refl, sym, ap, ap₂, _∙_}
-use mathlib.Core.Bool.{Bool, true, false, cond}
+use mathlib.Core.Path.{_≡_, sym, ap, ap₂, _∙_}
+use mathlib.Core.Bool.{Bool, true}
 use mathlib.Core.List.{List, [], _∷_, _++_}
-use mathlib.Core.Option.{Option, none, some}
-use Prim.Native.Nat.{ℕ, _*_, _%_, _^_, _<_, _≤_}
-use native.Mathlib.Omega.{arith}
-use lib.ListN.{length, take}
+use Prim.Native.Nat.{ℕ, _%_, _^_, _<_, _≤_}
+use lib.ListN.{length}
 use Rattle.algebra.specs.Prime.{Prime}
 use Rattle.refusal.specs.Limit.{maxWeight}
-use Rattle.vector.specs.Vector.{at}
-use Rattle.vector.specs.Opening.{opening}
-use Rattle.prover.specs.declared.Run.{Run}
-use Rattle.prover.specs.declared.Pass.{Pass}
-use Rattle.prover.specs.Start.{zeroPass}
-use Rattle.verifier.specs.declared.Verifier.{Verifier}
-use Rattle.runs.specs.Trip.{Start, Trip, vectorF, vectorG}
+use Rattle.refusal.specs.Outcome.{answered}
+use Rattle.field.proofs.ModulusLaws.{modulus-odd, modulus-prime, modulus-word, modulus-weights}
+use Rattle.item.specs.declared.Start.{Start}
+use Rattle.item.specs.Start.{modulusOf}
+use Rattle.runs.specs.Trip.{Trip}
 use Rattle.calls.specs.declared.query.Query.{Query}
 use Rattle.calls.specs.declared.query.Query.the-variants as query
-use Rattle.calls.specs.declared.query.Told.{Told}
-use Rattle.calls.specs.declared.query.Told.the-variants as told
-use Rattle.calls.specs.declared.query.Heard.{Heard}
+use Rattle.calls.specs.Lists.{after, along}
 use Rattle.calls.specs.Step.{isAnswered}
-use Rattle.calls.specs.State.{State, fresh}
-use Rattle.calls.specs.Table.{Refusal}
-use Rattle.calls.specs.Meaning.{reply, question, messageAt, proofOfTrip}
-use Rattle.calls.specs.Statement.{Made, AllSized, AllKept, AllRight, startRun}
-use Rattle.calls.specs.QueryStep.{Shown, ask, isTold}
-use Rattle.calls.specs.QueryState.{VerifierState, freshVerifierState, hearing, hears, followHeard, verifierTable, Brings, Says}
-use Rattle.calls.specs.QueryStatement.{Asked, SaysWhere, AllBring, AllSay, startVerifier}
-use Rattle.calls.specs.Given.{replyOf, AllTake, BringsRun, SaysRun, SaysRunWhere, AllBringRun, AllSayRun}
-use Rattle.calls.specs.Starts.{Startable}
-use Rattle.calls.specs.Demand3.{Whole, KeptFrom, stateAfter, resultAfter, Demand3}
-use Rattle.calls.proofs.Refusals.{Inv, fresh-inv, all-decided}
-use Rattle.calls.proofs.Answers.{all-right, fresh-agrees}
+use Rattle.calls.specs.World.{Made, World, freshWorld, came, onward}
+use Rattle.calls.specs.Meaning.{meant, meaning, messageAt, proofOfTrip}
+use Rattle.calls.specs.QueryStep.{Shown}
+use Rattle.calls.specs.QueryState.{VerifierState, Posed, Hearing, freshHearing, heard, hearsOn}
+use Rattle.calls.specs.Given.{replyOf, BringsRun}
+use Rattle.calls.specs.Starts.{Whole}
+use Rattle.calls.specs.Demand3.{AllSized, AllKept, AllTake, AllBringRun, AllSay, Demand3}
+use Rattle.calls.proofs.Records.{Notes}
+use Rattle.calls.proofs.Refusals.{all-decided, fresh-faithful}
+use Rattle.calls.proofs.Answers.{Going, all-right, fresh-going}
 use Rattle.calls.proofs.Live.{proper-answered, proper-sized, proper-kept}
 use Rattle.calls.proofs.Alike.{last-replies}
-use Rattle.calls.proofs.Hits.{Going, gave-hit, wrote-hit}
-use Rattle.calls.proofs.Links.{total-of, claim-of, message-of, opening-of, file-of}
+use Rattle.calls.proofs.Hits.{hit-replies, hit-somewhere}
+use Rattle.calls.proofs.Links.{total-of, claim-of, message-of, file-of}
+use Rattle.calls.proofs.OpeningChecks.{openings-checked}
+use Rattle.calls.proofs.Carried.{proper-messages, proper-file, proper-written}
+use Rattle.calls.proofs.CarriedWhole.{messages-list, file-list}
 use Rattle.calls.proofs.QueryLists.{every-query}
-use Rattle.calls.proofs.HeardLists.{every-query-right, modulus-31}
+use Rattle.calls.proofs.HeardMeaning.{BringsTrip, says-agreed}
+use Rattle.calls.proofs.HeardFollows.{Follows}
+use Rattle.calls.proofs.HeardLists.{says-trip, follows-next, fresh-follows, modulus-31}
+use Rattle.calls.proofs.VerdictLists.{every-verdict}
 use Rattle.calls.proofs.StartRows.{all-starts}
 
--- a verifier keeps its start and its challenges
-heard-kept : (b : VerifierState) (t : Told) → (hearing b t .start ≡ b .start) × (hearing b t .challenges ≡ b .challenges)
-heard-kept b told.Taken = (refl, refl)
-heard-kept b told.Closed = (refl, refl)
-heard-kept b told.Passed = (refl, refl)
-heard-kept b told.Yes = (refl, refl)
-heard-kept b (told.No k) = (refl, refl)
-heard-kept b (told.NoF j) = (refl, refl)
-heard-kept b (told.NoG j) = (refl, refl)
-heard-kept b (told.Refused k) = (refl, refl)
-heard-kept b (told.RefusedAt k i) = (refl, refl)
-
-hears-kept : (b : VerifierState) (q : Query) (t : Told) → (hears b q t .start ≡ b .start) × (hears b q t .challenges ≡ b .challenges)
-hears-kept b (query.Item z w) t = (refl, refl)
-hears-kept b (query.FieldItem x y) t = (refl, refl)
-hears-kept b (query.Close z) t = heard-kept b t
-hears-kept b (query.CloseClaim c) t = heard-kept b t
-hears-kept b (query.Message even cross odd) t = heard-kept b t
-hears-kept b query.Verdict t = heard-kept b t
-hears-kept b query.Proof t = heard-kept b t
-hears-kept b (query.CheckOpening x) t = (refl, refl)
-
-follow-kept : (b : VerifierState) (q : Query) (o : Heard) → (followHeard b q o .start ≡ b .start) × (followHeard b q o .challenges ≡ b .challenges)
-follow-kept b q o = by (isTold (o .told))
-  where
-    by : (t : Bool) → (cond t (hears b q (o .told)) b .start ≡ b .start) × (cond t (hears b q (o .told)) b .challenges ≡ b .challenges)
-    by true = hears-kept b q (o .told)
-    by false = (refl, refl)
-
 -- WHAT THE RUN GAVE IS THE TRIP'S
-module _ (p : ℕ) (large : maxWeight < p) (through : Bool) (T : Trip) (whole : length (T .items) ≡ T .start .items) (cs : List ℕ) (a : State) (r : Run) (s : Pass)
-    (going : Going p large through T whole cs a r s) (ms : List Made) (z : AllSized ms) (kept : AllKept p through T a r s ms) (takes : AllTake p cs a r s ms) where
-  brings : (b : VerifierState) → b .challenges ≡ cs → (q : Query) (l : Shown) → BringsRun p T a r s ms b q l → Brings p T b q l
-  brings b e (query.Item x w) l h = h
-  brings b e (query.FieldItem x y) l h = h
-  brings b e (query.Close t) l h = let g = gave-hit p large through T whole cs a r s going ms z kept takes _ _ h in total-of p large through T whole cs t (g .0) (g .1)
-  brings b e (query.CloseClaim c) l h = let g = gave-hit p large through T whole cs a r s going ms z kept takes _ _ h in claim-of p large through T whole cs c (g .0) (g .1)
+module _ (p : ℕ) (large : maxWeight < p) (through : Bool) (T : Trip) (whole : Whole T) (cs : List ℕ) (w : World) {past : Notes}
+    (going : Going p large through T (whole .items) w past) (ms : List Made) (z : AllSized p w ms) (kept : AllKept p through T w ms) (takes : AllTake p cs w ms) where
+  brings : (b : VerifierState) → b .challenges ≡ cs → (q : Query) (l : Shown) → BringsRun p T w ms b q l → BringsTrip p T b q l
+  brings b e (query.Give x) l h = h
+  brings b e (query.Close t) l h =
+      let g = hit-somewhere p large through T (whole .items) cs _ _ w going ms z kept takes h in
+      total-of p large through T (whole .items) cs t (g .0) (sym (g .1) ∙ hit-replies p large through T (whole .items) cs _ (g .0))
+  brings b e (query.CloseClaim c) l h =
+      let g = hit-somewhere p large through T (whole .items) cs _ _ w going ms z kept takes h in
+      claim-of p large through T (whole .items) cs c (g .0) (sym (g .1) ∙ hit-replies p large through T (whole .items) cs _ (g .0))
   brings b e (query.Message even cross odd) l h =
-      let g = gave-hit p large through T whole cs a r s going ms z kept takes _ _ h in
-      message-of p large through T whole cs (b .round) even cross odd (g .0) (g .1) ∙ ap (λ ds. messageAt p T ds (b .round)) (sym e)
+      let g = hit-somewhere p large through T (whole .items) cs _ _ w going ms z kept takes h in
+      message-of p large through T (whole .items) cs (b .round) even cross odd (g .0) (sym (g .1) ∙ hit-replies p large through T (whole .items) cs _ (g .0))
+      ∙ ap (λ ds. messageAt p T ds (b .round)) (sym e)
   brings b e query.Verdict l h = tt
   brings b e query.Proof l h =
-      let g = wrote-hit p large through T whole cs a r s going ms z kept takes (l .file) h in
-      let f = file-of p large through T whole cs (l .file) (g .0) (g .1) in
+      let g = hit-somewhere p large through T (whole .items) cs _ _ w going ms z kept takes h in
+      let f = file-of p large through T (whole .items) cs (l .file) (g .0) (g .1) in
       (f .0 ∙ ap (proofOfTrip p T) (sym e), f .1)
   brings b e (query.CheckOpening x) l h = tt
 
-  says : (b : VerifierState) → b .start ≡ T .start → b .challenges ≡ cs → (q : Query) (l : Shown) (t : Told) → Says p T b q l t → SaysRun p T a r s ms b q l t
-  says b es ec (query.Item x w) l t h = h
-  says b es ec (query.FieldItem x y) l t h = h
-  says b es ec (query.Close x) l t h = h
-  says b es ec (query.CloseClaim c) l t h = h
-  says b es ec (query.Message even cross odd) l t h = h
-  says b es ec query.Verdict l t h = h
-  says b es ec query.Proof l t h = h
-  says b es ec (query.CheckOpening x) l t h = λ values gave same.
-      let g = gave-hit p large through T whole cs a r s going ms z kept takes _ _ gave in
-      h (same ∙ ap (λ st. take (6 * st .rounds) values) es ∙ opening-of p large through T whole cs x values (g .0) (g .1)
-      ∙ ap (λ ds. opening p (T .start .rounds) (at ds) (vectorF p T) (vectorG p T) x) (sym ec))
-
-  all-bring : (b : VerifierState) (v : Verifier) → b .challenges ≡ cs → (qs : List Asked) → AllBringRun p T a r s ms b v qs → AllBring p T b v qs
-  unfolding AllBringRun AllBring
-  all-bring b v e [] h = tt
-  all-bring b v e (m ∷ qs) h =
-      (λ y. brings b e (m .query) (m .shown) (h .0 y), all-bring _ _ (follow-kept b (m .query) (ask p v (m .query) (m .shown)) .1 ∙ e) qs (h .1))
-
-  says-where : (b : VerifierState) → b .start ≡ T .start → b .challenges ≡ cs → (m : Asked) (k : Option Refusal) (t : Told) → SaysWhere p T b m k t → SaysRunWhere p T a r s ms b m k t
-  says-where b es ec m none t h = says b es ec (m .query) (m .shown) t h
-  says-where b es ec m (some k) t h = tt
-
-  all-say-run : (b : VerifierState) (v : Verifier) → b .start ≡ T .start → b .challenges ≡ cs → (qs : List Asked) → AllSay p T b v qs → AllSayRun p T a r s ms b v qs
-  unfolding AllSay AllSayRun
-  all-say-run b v es ec [] h = tt
-  all-say-run b v es ec (m ∷ qs) h =
-      let k = follow-kept b (m .query) (ask p v (m .query) (m .shown)) in
-      (says-where b es ec m (verifierTable p b (m .query) (m .shown)) (ask p v (m .query) (m .shown) .told) (h .0), all-say-run _ _ (k .0 ∙ es) (k .1 ∙ ec) qs (h .1))
+  -- A VERIFIER'S LIST that brings what the run gave
+  module _ (prime : Prime p) (odd : p % 2 ≡ 1) (word : p ≤ 2 ^ 32) (listed : length cs ≡ T .start .rounds) where
+    all-say : (h : Hearing) → Follows p T cs (h .state) (h .verifier) → (qs : List Posed) → AllBringRun p T w ms h qs → AllSay p T h qs
+    unfolding along
+    all-say h f [] b = tt
+    all-say h f (q ∷ qs) b =
+        let brought : isAnswered (heard p h q .told) ≡ true → BringsTrip p T (h .state) (q .query) (q .shown)
+        = λ y. brings (h .state) (f .challenges) (q .query) (q .shown) (b .0 y) in (
+          λ e o.
+              let s = says-trip p large prime odd word T whole cs listed h f q brought e in
+              s .0 ∙ ap (λ t. answered t) (says-agreed p T (h .state) (q .query) (q .shown) _ (s .1) o),
+          all-say (hearsOn p h q) (follows-next p large prime odd word T whole cs listed h f q brought) qs (b .1),
+        )
 
 module _ (p : ℕ) (large : maxWeight < p) (prime : Prime p) (odd : p % 2 ≡ 1) (word : p ≤ 2 ^ 32) where
-  begins : (s : Start) → Startable s → (f g : List ℕ) → Inv p large (fresh s f g) (startRun s) zeroPass
-  begins s h f g = fresh-inv p large s (h .least) (h .most) (h .rounds) f g
-
-  rights : (through : Bool) (T : Trip) → Whole T → (f g : List ℕ) (ms : List Made) → AllSized ms → KeptFrom p T f g through ms → AllRight p through T (fresh (T .start) f g) (startRun (T .start)) zeroPass ms
-  rights through T w f g ms z kept =
-      all-right p large through T (w .items) (fresh (T .start) f g) (startRun (T .start)) zeroPass (begins (T .start) (w .start) f g) refl (fresh-agrees p large through T (w .items) f g) ms z kept
-
   -- the last call of a list replies what is meant
-  replies : (through : Bool) (T : Trip) → Whole T → (f g : List ℕ) (ms : List Made) (m : Made) → AllSized (ms ++ m ∷ []) → KeptFrom p T f g through (ms ++ m ∷ [])
-      → isAnswered (resultAfter p T f g ms m .answer) ≡ true
-      → replyOf (resultAfter p T f g ms m) ≡ reply p T (stateAfter p T f g ms .challenges) (question (stateAfter p T f g ms) (m .call))
-  replies through T w f g ms m z kept =
-      last-replies p through T (fresh (T .start) f g) (startRun (T .start)) zeroPass ms m
-      (all-decided p large (fresh (T .start) f g) (startRun (T .start)) zeroPass (begins (T .start) (w .start) f g) (ms ++ m ∷ []) z)
-      (rights through T w f g (ms ++ m ∷ []) z kept)
+  replies : (through : Bool) (T : Trip) → Whole T → (f g : List ℕ) (ms : List Made) (m : Made)
+      → (let w : World = freshWorld (T .start) f g in
+      let x : World = after (onward p) w ms in
+      AllSized p w (ms ++ m ∷ []) → AllKept p through T w (ms ++ m ∷ []) → isAnswered (came p x m .answer) ≡ true → replyOf (came p x m) ≡ meaning p T (x .state) (m .call))
+  replies through T whole f g ms m z kept =
+      let w : World = freshWorld (T .start) f g in
+      let going = fresh-going p large through T (whole .items) (whole .start) f g in
+      last-replies p T through w ms m (all-decided p large w (going .faithful) (ms ++ m ∷ []) z) (all-right p large through T (whole .items) w going (ms ++ m ∷ []) z kept)
 
   -- DEMAND 3
   pub demand3 : Demand3 p
   demand3 =
       record {
         starts = all-starts p;
-        refusals = λ s h f g ms z. all-decided p large (fresh s f g) (startRun s) zeroPass (begins s h f g) ms z;
-        answers = rights;
+        refusals = λ s h f g ms z. all-decided p large (freshWorld s f g) (fresh-faithful p large s h f g) ms z;
+        answers = λ through T whole f g ms z kept.
+            all-right p large through T (whole .items) (freshWorld (T .start) f g) (fresh-going p large through T (whole .items) (whole .start) f g) ms z kept;
         proper = λ T valid k cs bs l brought.
             (proper-answered p large T valid k cs bs l brought, proper-sized p large T valid k cs bs l brought, proper-kept p large T valid k cs bs l brought);
-        alike = λ T w th th′ f g f′ g′ ms ns m n z z′ kept kept′ challenges asked e e′.
-            replies th T w f g ms m z kept e ∙ ap₂ (reply p T) challenges asked ∙ sym (replies th′ T w f′ g′ ns n z′ kept′ e′);
-        verifierRefusals = λ s h cs qs. every-query p s (h .least) (h .most) (h .rounds) cs qs;
-        verifierAnswers = λ through T w f g ms z kept cs long takes qs brought.
-            let a : State = fresh (T .start) f g in
-            let going : Going p large through T (w .items) cs a (startRun (T .start)) zeroPass =
-            record { inv = begins (T .start) (w .start) f g; start = refl; agrees = fresh-agrees p large through T (w .items) f g; prefix = λ j less. absurd (omega arith) } in
-            all-say-run p large through T (w .items) cs a (startRun (T .start)) zeroPass going ms z kept takes (freshVerifierState (T .start) cs) (startVerifier (T .start) cs) refl refl qs
-            (every-query-right p large prime odd word T (w .start .least) (w .start .most) (w .start .rounds) (w .items) cs long qs
-            (all-bring p large through T (w .items) cs a (startRun (T .start)) zeroPass going ms z kept takes (freshVerifierState (T .start) cs) (startVerifier (T .start) cs) refl qs brought));
+        alike = λ T whole th th′ f g f′ g′ ms ns m n z z′ kept kept′ challenges asked e e′.
+            replies th T whole f g ms m z kept e ∙ ap₂ (meant p T) challenges asked ∙ sym (replies th′ T whole f′ g′ ns n z′ kept′ e′);
+        verifierRefusals = every-query p;
+        verifierAnswers = λ through T whole f g ms z kept cs listed takes qs brought.
+            all-say p large through T whole cs (freshWorld (T .start) f g) (fresh-going p large through T (whole .items) (whole .start) f g) ms z kept takes prime odd word listed
+            (freshHearing (T .start) cs) (fresh-follows p large prime odd word T whole cs listed) qs brought;
+        openingsChecked = λ through T whole f g ms z kept cs listed takes.
+            openings-checked p large prime odd word T whole cs listed through f g ms z kept takes;
+        verifierProper = λ T valid k cs bs l brought. (
+          messages-list p large T valid k cs bs l brought,
+          proper-messages p large prime odd word T valid k cs bs l brought,
+          λ plain m room.
+              let file = proper-file p large prime odd word T valid k cs bs l brought plain m room in
+              (file .0, file-list p large T valid k cs bs l brought _ (proper-written p large prime odd word T valid k cs bs l brought plain m room), file .1),
+        );
+        verdicts = λ s h cs listed. every-verdict p s cs large h listed;
       }
 
 -- of the customer's modulus
 pub demand3-31 : Demand3 2147483647
 demand3-31 = let m = modulus-31 in demand3 2147483647 (m .0) (m .1) (m .2) (m .3)
+
+-- at the modulus of a start's runs: what `make` and `ask` compute, whatever record they are handed
+pub demand3-of : (s : Start) → Demand3 (modulusOf s)
+unfolding modulusOf
+demand3-of s = demand3 _ modulus-weights modulus-prime modulus-odd modulus-word

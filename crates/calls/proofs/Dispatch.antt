@@ -3,14 +3,16 @@ use Prim.Native.Nat.{ℕ}
 use mathlib.Core.Path.{_≡_, sym, ap, _∙_}
 use mathlib.Core.List.{List, []}
 use lib.IntN.{ℤ}
+use Rattle.item.specs.declared.Given.{Given}
+use Rattle.item.specs.declared.Given.the-variants.{Reading, Numbers}
 use Rattle.wire.specs.Proof.{writtenIn}
 use Rattle.prover.specs.declared.Run.{Run}
 use Rattle.prover.specs.declared.Pass.{Pass}
 use Rattle.prover.specs.declared.Step.{Step}
-use Rattle.prover.specs.Records.{out, leaves}
+use Rattle.prover.specs.Records.{Out, out, leaves}
 use Rattle.prover.specs.Open.{openCall, openAtCall, toSmallCall}
 use Rattle.prover.specs.Change.{toFullCall}
-use Rattle.prover.specs.Calls.{itemCall, fieldItemCall}
+use Rattle.prover.specs.Calls.{giveCall}
 use Rattle.prover.specs.Close.{closeCall, leavesStep}
 use Rattle.prover.specs.Full.{messageCall, endsCall}
 use Rattle.prover.specs.Challenge.{challengeCall}
@@ -18,7 +20,7 @@ use Rattle.prover.specs.Opening.{openingCall}
 use Rattle.prover.specs.Written.{writeCall, writtenStep, proofOf}
 use Rattle.calls.specs.declared.Call.{Call}
 use Rattle.calls.specs.declared.Call.the-variants as call
-use Rattle.calls.specs.Step.{keeping, leaving, keepingStep, step}
+use Rattle.calls.specs.Step.{keeping, leaving, step}
 use Rattle.calls.specs.Dispatch.{lending, result}
 
 module _ (p : ℕ) (r : Run) (s : Pass) (f g file : List ℕ) where
@@ -42,18 +44,20 @@ module _ (p : ℕ) (r : Run) (s : Pass) (f g file : List ℕ) where
   unfolding step
   made-to-small o c e h = at-call o f g file c call.ToSmall e (ap (keeping (lending f g file)) h)
 
-  -- a signed number reaches the method through its bits
-  pub made-item : (o : Step) (f′ g′ : List ℕ) (c : Call) (z z′ : ℤ) (w : ℕ) → c ≡ call.Item z w → z′ ≡ z → out o f′ g′ ≡ leaves r s f g (itemCall p r s z′ w f g) → result o f′ g′ file ≡ step p r s c (lending f g file)
-  unfolding step
-  made-item o f′ g′ c z z′ w e same h = at-call o f′ g′ file c (call.Item z w) e (ap (leaving (lending f g file)) (h ∙ ap (λ y. leaves r s f g (itemCall p r s y w f g)) same))
+  -- an item, by its kind; a signed number reaches the method through its bits
+  pub give-reading : (o : Out) (x : Given) (z z′ : ℤ) (w : ℕ) → x ≡ Reading z w → z′ ≡ z → o ≡ leaves r s f g (giveCall p r s (Reading z′ w) f g) → o ≡ leaves r s f g (giveCall p r s x f g)
+  give-reading o x z z′ w e same h = h ∙ ap (λ y. leaves r s f g (giveCall p r s y f g)) (ap (λ y. Reading y w) same ∙ sym e)
 
-  pub made-field-item : (o : Step) (f′ g′ : List ℕ) (c : Call) (a b : ℕ) → c ≡ call.FieldItem a b → out o f′ g′ ≡ leaves r s f g (fieldItemCall p r s a b f g) → result o f′ g′ file ≡ step p r s c (lending f g file)
-  unfolding step
-  made-field-item o f′ g′ c a b e h = at-call o f′ g′ file c (call.FieldItem a b) e (ap (leaving (lending f g file)) h)
+  pub give-numbers : (o : Out) (x : Given) (a b : ℕ) → x ≡ Numbers a b → o ≡ leaves r s f g (giveCall p r s (Numbers a b) f g) → o ≡ leaves r s f g (giveCall p r s x f g)
+  give-numbers o x a b e h = h ∙ ap (λ y. leaves r s f g (giveCall p r s y f g)) (sym e)
 
-  pub made-close : (o : Step) (c : Call) → c ≡ call.Close → o ≡ leavesStep r s (closeCall p r s) → result o f g file ≡ step p r s c (lending f g file)
+  pub made-item : (o : Step) (f′ g′ : List ℕ) (c : Call) (x : Given) → c ≡ call.Give x → out o f′ g′ ≡ leaves r s f g (giveCall p r s x f g) → result o f′ g′ file ≡ step p r s c (lending f g file)
   unfolding step
-  made-close o c e h = at-call o f g file c call.Close e (ap (keepingStep (lending f g file)) h)
+  made-item o f′ g′ c x e h = at-call o f′ g′ file c (call.Give x) e (ap (leaving (lending f g file)) h)
+
+  pub made-close : (o : Step) (c : Call) → c ≡ call.Close → out o [] [] ≡ out (leavesStep r s (closeCall p r s)) [] [] → result o f g file ≡ step p r s c (lending f g file)
+  unfolding step
+  made-close o c e h = at-call o f g file c call.Close e (ap (keeping (lending f g file)) h)
 
   pub made-message : (o : Step) (c : Call) → c ≡ call.Message → out o f g ≡ leaves r s f g (messageCall p r s f g) → result o f g file ≡ step p r s c (lending f g file)
   unfolding step
@@ -71,6 +75,6 @@ module _ (p : ℕ) (r : Run) (s : Pass) (f g file : List ℕ) where
   unfolding step
   made-opening o c b e h = at-call o f g file c (call.Opening b) e (ap (leaving (lending f g file)) h)
 
-  pub made-write-proof : (o : Step) (file′ : List ℕ) (c : Call) → c ≡ call.WriteProof → o ≡ writtenStep r s (writeCall p r s file) → file′ ≡ writtenIn (writeCall p r s file) (proofOf r) file → result o f g file′ ≡ step p r s c (lending f g file)
+  pub made-write-proof : (o : Step) (file′ : List ℕ) (c : Call) → c ≡ call.WriteProof → out o [] [] ≡ out (writtenStep r s (writeCall p r s file)) [] [] → file′ ≡ writtenIn (writeCall p r s file) (proofOf r) file → result o f g file′ ≡ step p r s c (lending f g file)
   unfolding step
-  made-write-proof o file′ c e h h′ = at-call o f g file′ c call.WriteProof e (ap (λ x. result x f g file′) h ∙ ap (result (writtenStep r s (writeCall p r s file)) f g) h′)
+  made-write-proof o file′ c e h h′ = at-call o f g file′ c call.WriteProof e (ap (keeping (lending f g file′)) h ∙ ap (result (writtenStep r s (writeCall p r s file)) f g) h′)

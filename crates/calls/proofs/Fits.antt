@@ -23,13 +23,17 @@ use Rattle.prover.specs.declared.Kind.{Kind}
 use Rattle.prover.specs.declared.Kind.the-variants.{Shut}
 use Rattle.prover.specs.Order.{isTotal}
 use Rattle.prover.specs.WellFormed.{roundFits, kindFits, runFormed, wellFormed}
-use Rattle.runs.specs.Trip.{Raw, numbers, partsIn, Start, sumOf}
+use Rattle.item.specs.declared.Start.{Start}
+use Rattle.item.specs.declared.Given.{Given}
+use Rattle.item.specs.declared.Given.the-variants.{Numbers}
+use Rattle.item.specs.Item.{contributes}
+use Rattle.runs.specs.Trip.{sumOf}
 use Rattle.runs.specs.Items.{AllWithin}
 use Rattle.runs.proofs.PassRecord.{after-kind, after-taken}
 use Rattle.runs.proofs.PassTotal.{after-total}
 use Rattle.runs.proofs.PassFormed.{after-formed}
 use Rattle.calls.specs.State.{State}
-use Rattle.calls.proofs.Records.{inArray, runOf, passOf}
+use Rattle.calls.proofs.Records.{Notes, inArray, runOf, passOf}
 
 -- how many messages were given
 abbrev pub givenAt : ℕ → Next → ℕ
@@ -39,9 +43,9 @@ givenAt i next.Challenge = suc i
 givenAt i next.Ends = i
 givenAt i next.Openings = i
 
--- both numbers of an item are field numbers
-abbrev pub Fine : ℕ → Raw → Type 0
-Fine p x = (partsIn p x .f < p) × (partsIn p x .g < p)
+-- both Numbers of an item are field Numbers
+abbrev pub Fine : ℕ → Start → Given → Type 0
+Fine p s x = (contributes p s x .f < p) × (contributes p s x .g < p)
 
 pub record RunFits (p : ℕ) (s : Start) (t : Next) (cs : List ℕ) (z : ℤ) (ms : List ℕ) (a b : ℕ) : Type 0 where
   pub some : 1 ≤ s .items
@@ -54,16 +58,16 @@ pub record RunFits (p : ℕ) (s : Start) (t : Next) (cs : List ℕ) (z : ℤ) (m
   pub fend : a < p
   pub gend : b < p
 
-pub record PassFits (p : ℕ) (s : Start) (m : Mode) (t : Next) (k : Kind) (xs : List Raw) : Type 0 where
+pub record PassFits (p : ℕ) (s : Start) (m : Mode) (t : Next) (k : Kind) (xs : List Given) : Type 0 where
   pub kind : kindFits k m t ≡ true
   pub idle : k ≡ Shut → xs ≡ []
   pub count : length xs ≤ s .items
   pub within : AllWithin xs
-  pub fine : (q : ℕ) → Fine p (getD xs q (numbers 0 0))
+  pub fine : (q : ℕ) → Fine p s (getD xs q (Numbers 0 0))
 
-pub record Fits (p : ℕ) (a : State) : Type 0 where
-  pub run : RunFits p (a .start) (a .next) (a .challenges) (a .total) (a .messages) (a .fend) (a .gend)
-  pub pass : PassFits p (a .start) (a .mode) (a .next) (a .kind) (a .items)
+pub record Fits (p : ℕ) (a : State) (past : Notes) : Type 0 where
+  pub run : RunFits p (a .start) (a .turn .next) (a .turn .challenges) (past .total) (past .messages) (past .fend) (past .gend)
+  pub pass : PassFits p (a .start) (a .turn .mode) (a .turn .next) (a .pass .kind) (a .pass .items)
 
 pub lt-or-le : (j m : ℕ) → (j < m) ⊎ (m ≤ j)
 lt-or-le j m = by (ltb j m) refl
@@ -72,7 +76,7 @@ lt-or-le j m = by (ltb j m) refl
     by true e = inl (ltb-true j m e)
     by false e = inr (ltb-false j m e)
 
--- a list of field numbers in an array
+-- a list of field Numbers in an array
 zeros-at : (m j : ℕ) → at (replicate m 0) j ≡ 0
 zeros-at m j =
     ⊎-elim (λ (l : j < m). getD-replicate m j 0 0 l)
@@ -93,11 +97,11 @@ unfolding allBelow
 all-below p v h zero = refl
 all-below p v h (suc m) = rw (all-below p v h m, lt-ltb (v m) p (h m))
 
-module _ (p : ℕ) (a : State) (h : Fits p a) where
+module _ (p : ℕ) (a : State) {past : Notes} (h : Fits p a past) where
   pub few : a .start .rounds ≤ 15
   few = omega (arith, h .run .rounds, rounds-at-most (a .start .items) (h .run .most))
 
-  pub run-formed : runFormed p (runOf a) ≡ true
+  pub run-formed : runFormed p (runOf a past) ≡ true
   unfolding runFormed
   run-formed =
       rw (
@@ -109,18 +113,18 @@ module _ (p : ℕ) (a : State) (h : Fits p a) where
       )
 
   -- the records are well formed
-  pub formed : wellFormed p (runOf a) (passOf p a) ≡ true
+  pub formed : wellFormed p (runOf a past) (passOf p a past) ≡ true
   formed =
-      after-formed p (runOf a) (a .point) run-formed (a .kind) (a .items) (h .pass .kind) (h .pass .within) (h .pass .count) (h .pass .idle)
+      after-formed p (runOf a past) (a .pass .point) run-formed (a .pass .kind) (a .pass .items) (h .pass .kind) (h .pass .within) (h .pass .count) (h .pass .idle)
 
-  pub kind-is : passOf p a .kind ≡ a .kind
-  kind-is = after-kind p (runOf a) (a .kind) (a .point) (a .items)
+  pub kind-is : passOf p a past .kind ≡ a .pass .kind
+  kind-is = after-kind p (runOf a past) (a .pass .kind) (a .pass .point) (a .pass .items)
 
-  pub taken-is : passOf p a .taken ≡ length (a .items)
-  taken-is = after-taken p (runOf a) (a .kind) (a .point) (a .items)
+  pub taken-is : passOf p a past .taken ≡ length (a .pass .items)
+  taken-is = after-taken p (runOf a past) (a .pass .kind) (a .pass .point) (a .pass .items)
 
-  pub sum-is : isTotal (a .next) ≡ true → passOf p a .total ≡ sumOf (a .items)
-  sum-is e = after-total p (runOf a) (a .kind) (a .point) e (a .items) (h .pass .within) (omega (arith, h .pass .count, h .run .most))
+  pub sum-is : isTotal (a .turn .next) ≡ true → passOf p a past .total ≡ sumOf (a .pass .items)
+  sum-is e = after-total p (runOf a past) (a .pass .kind) (a .pass .point) e (a .pass .items) (h .pass .within) (omega (arith, h .pass .count, h .run .most))
 
-  pub messages-below : 0 < p → allBelow p (λ k. getD (runOf a .messages) k 0) (3 * a .start .rounds) ≡ true
-  messages-below some = all-below p (λ k. getD (runOf a .messages) k 0) (array-below p 45 (a .messages) some (h .run .below)) (3 * a .start .rounds)
+  pub messages-below : 0 < p → allBelow p (λ k. getD (runOf a past .messages) k 0) (3 * a .start .rounds) ≡ true
+  messages-below some = all-below p (λ k. getD (runOf a past .messages) k 0) (array-below p 45 (past .messages) some (h .run .below)) (3 * a .start .rounds)

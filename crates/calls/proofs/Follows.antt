@@ -3,13 +3,14 @@ use mathlib.Core.Path.{_≡_, refl, sym, ap, subst, _∙_}
 use mathlib.Core.Bool.{Bool, true, false, cond, not, _&&_, _||_, true≢false}
 use mathlib.Core.List.{List, [], _∷_, _++_}
 use mathlib.Core.Option.{none, some}
-use Prim.Native.Nat.{ℕ, zero, suc, _+_, _*_, _-_, _/_, _^_, _<_, _≤_}
+use Prim.Native.Nat.{ℕ, zero, suc, _+_, _*_, _/_, _^_, _<_, _≤_}
 use native.Mathlib.Numerals.{add-one}
 use native.Mathlib.Omega.{arith}
-use lib.Dec.{eqb, leb, ltb}
+use lib.Dec.{eqb, ltb}
 use lib.IntN.{ℤ, natAbs}
+use Rattle.refusal.specs.Outcome.{answered}
 use lib.ListN.{length, length-append, getD, set}
-use borrow.Author.Tests.{ltb-true, ltb-false, leb-true, eqb-true, eq-eqb}
+use borrow.Author.Tests.{ltb-true, ltb-false, eqb-true, eq-eqb}
 use Rattle.refusal.specs.Limit.{maxWeight}
 use Rattle.algebra.proofs.Congruence.{base-of}
 use Rattle.field.specs.Total.{inLimits}
@@ -29,6 +30,8 @@ use Rattle.prover.specs.declared.Kind.the-variants.{Shut, Asked, Change}
 use Rattle.prover.specs.declared.Run.{Run}
 use Rattle.prover.specs.declared.Pass.{Pass}
 use Rattle.prover.specs.declared.Answer.the-variants as answer
+use Rattle.prover.specs.Reply as reply
+use Rattle.prover.specs.Reply.{answerIn}
 use Rattle.prover.specs.Records.{answeredStep}
 use Rattle.prover.specs.Order.{isTotal, levelAt, foldSize, roundOrEnds}
 use Rattle.prover.specs.Close.{goneTo, withTotal, keptMessage, withMessage, shutPass}
@@ -37,30 +40,33 @@ use Rattle.prover.specs.WellFormed.{roundFits, kindFits}
 use Rattle.prover.specs.Take.{takes}
 use Rattle.prover.specs.Full.{messageGiven}
 use Rattle.prover.specs.Challenge.{keptChallenge, challengedFull}
-use Rattle.runs.specs.Trip.{Raw, reading, numbers, partsIn, Start}
+use Rattle.item.specs.declared.Start.{Start}
+use Rattle.item.specs.declared.Given.{Given}
+use Rattle.item.specs.declared.Given.the-variants.{Reading, Numbers}
+use Rattle.item.specs.Item.{contributes}
 use Rattle.runs.specs.Passes.{passAfter}
 use Rattle.runs.specs.Items.{Within, AllWithin}
 use Rattle.runs.proofs.PassTotal.{after-total}
 use Rattle.runs.proofs.PassRecord.{takes-run, after-item}
 use Rattle.calls.specs.declared.Call.the-variants as call
-use Rattle.calls.specs.Step.{Lent, Result, leaving, keepingStep}
-use Rattle.calls.specs.State as state
-use Rattle.calls.specs.State.{State, inPass, goesTo, withBuffers, takesChallenge, buffersIn, goesOn, closed, noted, isChange, isFull}
-use Rattle.calls.specs.Table.{isOpen, waits, levelNow, long, bothLong, totalFits, table}
-use Rattle.calls.proofs.Records.{inArray, runOf, passOf}
+use Rattle.calls.specs.Step.{Lent, Result, leaving}
+use Rattle.calls.specs.State.{isChange, isFull, isOpen, State, inPass, goesTo, withBuffers, takesChallenge, buffersIn, goesOn, closed}
+use Rattle.calls.specs.Table.{waits, levelNow, long, bothLong, totalFits, table}
+use Rattle.calls.proofs.Records.{Notes, noted, inArray, runOf, passOf}
 use Rattle.calls.proofs.Arrays as arrays
 use Rattle.calls.proofs.Arrays.{array-next}
 use Rattle.calls.proofs.Guards.{challengeDoes}
-use Rattle.calls.proofs.Steps.{row-passed, closeStep, does}
-use Rattle.calls.proofs.Turns.{both, row-at-passed, pass-kind, openings-kind, change-kind, waits-for, full-shut, challenge-shut}
+use Rattle.calls.proofs.Steps.{row-passed, keepingStep, closeStep, does}
+use Rattle.calls.proofs.Turns.{both, pass-kind, openings-kind, change-kind, waits-for, full-shut, challenge-shut}
+use Rattle.calls.proofs.ItemRows.{Limits, item-admitted}
 use Rattle.calls.proofs.Fits.{Fine, givenAt, RunFits, PassFits, Fits, few, run-formed, kind-is}
 use Rattle.calls.proofs.Numbers.{own-message, own-ends, slice-below}
 
 -- what holds of a result o, and of the state that follows
-pub record Follows (p : ℕ) (a : State) (o : Result) : Type 0 where
-  pub run : o .run ≡ runOf a
-  pub pass : o .pass ≡ passOf p a
-  pub fits : Fits p a
+pub record Follows (p : ℕ) (a : State) (past : Notes) (o : Result) : Type 0 where
+  pub run : o .run ≡ runOf a past
+  pub pass : o .pass ≡ passOf p a past
+  pub fits : Fits p a past
 
 module _ (p : ℕ) (large : maxWeight < p) where
   pub positive : 0 < p
@@ -72,91 +78,85 @@ module _ (p : ℕ) (large : maxWeight < p) where
   no-items s m t k h = record { kind = h; idle = λ e. refl; count = omega arith; within = tt; fine = λ q. (positive, positive) }
 
   -- A PASS IS OPENED
-  pub open-follows : (a : State) → Fits p a → (l : Lent) → table p a call.OpenPass l ≡ none
-      → (let o : Result = does p (runOf a) (passOf p a) call.OpenPass l in Follows p (inPass a Asked 0 []) o)
+  pub open-follows : (a : State) {past : Notes} → Fits p a past → (l : Lent) → table p a call.OpenPass l ≡ none
+      → (let o : Result = does p (runOf a past) (passOf p a past) call.OpenPass l in Follows p (inPass a Asked 0 []) past o)
   unfolding table passAfter
-  open-follows a h l e =
-      let q = pass-kind (a .mode) (a .next) (row-passed _ 10 none e .0) in
+  open-follows a {past} h l e =
+      let q = pass-kind (a .turn .mode) (a .turn .next) (row-passed _ 10 none e .0) in
       record {
         run = refl;
         pass = rw (q .1);
-        fits = record { run = h .run; pass = no-items (a .start) (a .mode) (a .next) Asked (q .0) };
+        fits = record { run = h .run; pass = no-items (a .start) (a .turn .mode) (a .turn .next) Asked (q .0) };
       }
 
-  pub open-at-follows : (a : State) → Fits p a → (b : ℕ) (l : Lent) → table p a (call.OpenAt b) l ≡ none
-      → (let o : Result = does p (runOf a) (passOf p a) (call.OpenAt b) l in Follows p (inPass a Asked b []) o)
+  pub open-at-follows : (a : State) {past : Notes} → Fits p a past → (b : ℕ) (l : Lent) → table p a (call.OpenAt b) l ≡ none
+      → (let o : Result = does p (runOf a past) (passOf p a past) (call.OpenAt b) l in Follows p (inPass a Asked b []) past o)
   unfolding table passAfter
-  open-at-follows a h b l e =
-      let q = openings-kind (a .mode) (a .next) (a .start .rounds) (row-passed _ 10 _ e .0) in
+  open-at-follows a {past} h b l e =
+      let q = openings-kind (a .turn .mode) (a .turn .next) (a .start .rounds) (row-passed _ 10 _ e .0) in
       record {
         run = refl;
         pass = rw (q .1);
-        fits = record { run = h .run; pass = no-items (a .start) (a .mode) (a .next) Asked (q .0) };
+        fits = record { run = h .run; pass = no-items (a .start) (a .turn .mode) (a .turn .next) Asked (q .0) };
       }
 
-  pub to-full-follows : (a : State) → Fits p a → (l : Lent) → table p a call.ToFull l ≡ none
-      → (let o : Result = does p (runOf a) (passOf p a) call.ToFull l in Follows p (withBuffers (inPass a Change 0 []) (o .lent)) o)
+  pub to-full-follows : (a : State) {past : Notes} → Fits p a past → (l : Lent) → table p a call.ToFull l ≡ none
+      → (let o : Result = does p (runOf a past) (passOf p a past) call.ToFull l in Follows p (withBuffers (inPass a Change 0 []) (o .lent)) past o)
   unfolding table passAfter
-  to-full-follows a h l e =
-      let q = change-kind (a .mode) (a .next) (a .start .rounds) (row-passed _ 10 _ e .0) in
+  to-full-follows a {past} h l e =
+      let q = change-kind (a .turn .mode) (a .turn .next) (a .start .rounds) (row-passed _ 10 _ e .0) in
       record {
         run = refl;
         pass = refl;
-        fits = record { run = h .run; pass = no-items (a .start) (a .mode) (a .next) Change q };
+        fits = record { run = h .run; pass = no-items (a .start) (a .turn .mode) (a .turn .next) Change q };
       }
 
   -- AN ITEM IS TAKEN
-  one-more : (s : Start) (m : Mode) (t : Next) (k : Kind) (xs : List Raw) (x : Raw) → PassFits p s m t k xs → isOpen k ≡ true → length xs < s .items
-      → Within x → Fine p x → PassFits p s m t k (x ∷ xs)
+  one-more : (s : Start) (m : Mode) (t : Next) (k : Kind) (xs : List Given) (x : Given) → PassFits p s m t k xs → isOpen k ≡ true → length xs < s .items
+      → Within x → Fine p s x → PassFits p s m t k (x ∷ xs)
   unfolding AllWithin
   one-more s m t k xs x h o l w f =
       record { kind = h .kind; idle = λ e. absurd (true≢false (sym o ∙ ap isOpen e)); count = omega arith; within = (w, h .within); fine = fines }
     where
-      fines : (q : ℕ) → Fine p (getD (x ∷ xs) q (numbers 0 0))
+      fines : (q : ℕ) → Fine p s (getD (x ∷ xs) q (Numbers 0 0))
       fines zero = f
       fines (suc q) = h .fine q
 
   -- with the buffers or without
-  with-or-without : (b : Bool) (a : State) (l : Lent) (o : Result) → Follows p a o → Follows p (buffersIn b a l) o
+  with-or-without : (b : Bool) (a : State) {past : Notes} (l : Lent) (o : Result) → Follows p a past o → Follows p (buffersIn b a l) past o
   with-or-without true a l o h = record { run = h .run; pass = h .pass; fits = record { run = h .fits .run; pass = h .fits .pass } }
   with-or-without false a l o h = h
 
-  take-follows : (a : State) → Fits p a → (x : Raw) (l m : Lent) → isOpen (a .kind) ≡ true → length (a .items) < a .start .items → Within x → Fine p x
-      → (o : Result) → o .run ≡ runOf a → o .pass ≡ takes p (runOf a) (passOf p a) (partsIn p x) (l .f) (l .g) .pass
-      → Follows p (buffersIn (isChange (a .kind)) (inPass a (a .kind) (a .point) (x ∷ a .items)) m) o
-  take-follows a h x l m op less w f o er ep =
-      with-or-without (isChange (a .kind)) (inPass a (a .kind) (a .point) (x ∷ a .items)) m o
+  take-follows : (a : State) {past : Notes} → Fits p a past → (x : Given) (l m : Lent) → isOpen (a .pass .kind) ≡ true → length (a .pass .items) < a .start .items → Within x → Fine p (a .start) x
+      → (o : Result) → o .run ≡ runOf a past → o .pass ≡ takes p (runOf a past) (passOf p a past) (contributes p (a .start) x) (l .f) (l .g) .pass
+      → Follows p (buffersIn (isChange (a .pass .kind)) (inPass a (a .pass .kind) (a .pass .point) (x ∷ a .pass .items)) m) past o
+  take-follows a {past} h x l m op less w f o er ep =
+      with-or-without (isChange (a .pass .kind)) (inPass a (a .pass .kind) (a .pass .point) (x ∷ a .pass .items)) m o
       (record {
         run = er;
-        pass = ep ∙ after-item p (runOf a) (a .kind) (a .point) (a .items) x (l .f) (l .g);
-        fits = record { run = h .run; pass = one-more (a .start) (a .mode) (a .next) (a .kind) (a .items) x (h .pass) op less w f };
+        pass = ep ∙ after-item p (runOf a past) (a .pass .kind) (a .pass .point) (a .pass .items) x (l .f) (l .g);
+        fits = record { run = h .run; pass = one-more (a .start) (a .turn .mode) (a .turn .next) (a .pass .kind) (a .pass .items) x (h .pass) op less w f };
       })
 
-  pub item-follows : (a : State) → Fits p a → (z : ℤ) (w : ℕ) (l : Lent) → natAbs z ≤ 32768 → table p a (call.Item z w) l ≡ none
-      → (let o : Result = does p (runOf a) (passOf p a) (call.Item z w) l in Follows p (goesOn a (call.Item z w) (o .lent)) o)
-  unfolding table
-  item-follows a h z w l size e =
-      let q = row-passed (isOpen (a .kind)) 10 _ e in
-      let u = row-passed (ltb (length (a .items)) (a .start .items)) 8 _ (q .1) in
-      let v = row-passed (a .start .plain) 10 _ (u .1) in
-      let x = row-at-passed (leb w maxWeight) 5 (a .start .items - 1 - length (a .items)) _ (v .1) in
-      let fits : w ≤ maxWeight = leb-true w maxWeight (x .0) in
-      take-follows a h (reading z w) l (does p (runOf a) (passOf p a) (call.Item z w) l .lent) (q .0) (ltb-true _ _ (u .0)) (size, fits) (omega (arith, image-lt p z, base-of p positive), omega arith)
-      (does p (runOf a) (passOf p a) (call.Item z w) l) (takes-run p (runOf a) (passOf p a) (partsIn p (reading z w)) (l .f) (l .g)) refl
+  -- an item within its limits
+  within : (x : Given) → ((z : ℤ) (w : ℕ) → x ≡ Reading z w → natAbs z ≤ 32768) → Limits p x → Within x
+  within (Reading z w) size h = (size z w refl, h)
+  within (Numbers a b) size h = tt
 
-  pub field-item-follows : (a : State) → Fits p a → (x y : ℕ) (l : Lent) → table p a (call.FieldItem x y) l ≡ none
-      → (let o : Result = does p (runOf a) (passOf p a) (call.FieldItem x y) l in Follows p (goesOn a (call.FieldItem x y) (o .lent)) o)
-  unfolding table
-  field-item-follows a h x y l e =
-      let q = row-passed (isOpen (a .kind)) 10 _ e in
-      let u = row-passed (ltb (length (a .items)) (a .start .items)) 8 _ (q .1) in
-      let v = row-passed (not (a .start .plain)) 10 _ (u .1) in
-      let z = both (ltb x p) (ltb y p) (row-passed _ 16 _ (v .1) .0) in
-      take-follows a h (numbers x y) l (does p (runOf a) (passOf p a) (call.FieldItem x y) l .lent) (q .0) (ltb-true _ _ (u .0)) tt (ltb-true x p (z .0), ltb-true y p (z .1))
-      (does p (runOf a) (passOf p a) (call.FieldItem x y) l) (takes-run p (runOf a) (passOf p a) (partsIn p (numbers x y)) (l .f) (l .g)) refl
+  fine : (s : Start) (x : Given) → Limits p x → Fine p s x
+  fine s (Reading z w) h = (omega (arith, image-lt p z, base-of p positive), omega (arith, h))
+  fine s (Numbers a b) h = h
+
+  pub item-follows : (a : State) {past : Notes} → Fits p a past → (x : Given) (l : Lent) → ((z : ℤ) (w : ℕ) → x ≡ Reading z w → natAbs z ≤ 32768)
+      → table p a (call.Give x) l ≡ none
+      → (let o : Result = does p (runOf a past) (passOf p a past) (call.Give x) l in Follows p (goesOn a (call.Give x) (o .lent)) past o)
+  item-follows a {past} h x l size e =
+      let q = item-admitted p a l x e in
+      take-follows a h x l (does p (runOf a past) (passOf p a past) (call.Give x) l .lent) (q .opened) (q .more) (within x size (q .limits)) (fine (a .start) x (q .limits))
+      (does p (runOf a past) (passOf p a past) (call.Give x) l) (takes-run p (runOf a past) (passOf p a past) (contributes p (a .start) x) (l .f) (l .g)) refl
 
   -- WHAT IS NEXT after the total and after a challenge
-  round-next : (i n : ℕ) → i ≤ n → (roundFits (state.roundOrEnds i n) i n ≡ true) × (givenAt i (state.roundOrEnds i n) ≡ i)
+  round-next : (i n : ℕ) → i ≤ n → (roundFits (roundOrEnds i n) i n ≡ true) × (givenAt i (roundOrEnds i n) ≡ i)
   round-next i n h = by (ltb i n) refl
     where
       by : (b : Bool) → ltb i n ≡ b → (roundFits (cond b next.Message next.Ends) i n ≡ true) × (givenAt i (cond b next.Message next.Ends) ≡ i)
@@ -167,12 +167,12 @@ module _ (p : ℕ) (large : maxWeight < p) where
   shut-items s m t = no-items s m t Shut refl
 
   -- THE TOTAL IS GIVEN
-  total-fits : (a : State) → Fits p a → a .next ≡ next.Total → (z : ℤ) → inLimits p z ≡ true
-      → RunFits p (a .start) (state.roundOrEnds 0 (a .start .rounds)) (a .challenges) z (a .messages) (a .fend) (a .gend)
-  total-fits a h e z fits =
+  total-fits : (a : State) {past : Notes} → Fits p a past → a .turn .next ≡ next.Total → (z : ℤ) → inLimits p z ≡ true
+      → RunFits p (a .start) (roundOrEnds 0 (a .start .rounds)) (a .turn .challenges) z (past .messages) (past .fend) (past .gend)
+  total-fits a {past} h e z fits =
       let r = h .run in
-      let none-yet : length (a .challenges) ≡ 0 = eqb-true _ _ (subst (λ t. roundFits t (length (a .challenges)) (a .start .rounds) ≡ true) e (r .round)) in
-      let no-message : length (a .messages) ≡ 0 = r .given ∙ ap (λ t. 3 * givenAt (length (a .challenges)) t) e in
+      let none-yet : length (a .turn .challenges) ≡ 0 = eqb-true _ _ (subst (λ t. roundFits t (length (a .turn .challenges)) (a .start .rounds) ≡ true) e (r .round)) in
+      let no-message : length (past .messages) ≡ 0 = r .given ∙ ap (λ t. 3 * givenAt (length (a .turn .challenges)) t) e in
       let q = round-next 0 (a .start .rounds) (omega arith) in
       record {
         some = r .some;
@@ -195,12 +195,12 @@ module _ (p : ℕ) (large : maxWeight < p) where
   message-below (m ∷ ms) x y z h lx ly lz zero = h 0
   message-below (m ∷ ms) x y z h lx ly lz (suc j) = message-below ms x y z (λ j. h (suc j)) lx ly lz j
 
-  message-fits : (a : State) → Fits p a → a .next ≡ next.Message → (x y z : ℕ) → x < p → y < p → z < p
-      → RunFits p (a .start) next.Challenge (a .challenges) (a .total) (a .messages ++ x ∷ y ∷ z ∷ []) (a .fend) (a .gend)
-  message-fits a h e x y z lx ly lz =
+  message-fits : (a : State) {past : Notes} → Fits p a past → a .turn .next ≡ next.Message → (x y z : ℕ) → x < p → y < p → z < p
+      → RunFits p (a .start) next.Challenge (a .turn .challenges) (past .total) (past .messages ++ x ∷ y ∷ z ∷ []) (past .fend) (past .gend)
+  message-fits a {past} h e x y z lx ly lz =
       let r = h .run in
-      let round : roundFits next.Message (length (a .challenges)) (a .start .rounds) ≡ true = subst (λ t. roundFits t (length (a .challenges)) (a .start .rounds) ≡ true) e (r .round) in
-      let given : length (a .messages) ≡ 3 * length (a .challenges) = r .given ∙ ap (λ t. 3 * givenAt (length (a .challenges)) t) e in
+      let round : roundFits next.Message (length (a .turn .challenges)) (a .start .rounds) ≡ true = subst (λ t. roundFits t (length (a .turn .challenges)) (a .start .rounds) ≡ true) e (r .round) in
+      let given : length (past .messages) ≡ 3 * length (a .turn .challenges) = r .given ∙ ap (λ t. 3 * givenAt (length (a .turn .challenges)) t) e in
       record {
         some = r .some;
         most = r .most;
@@ -209,14 +209,14 @@ module _ (p : ℕ) (large : maxWeight < p) where
         fend = r .fend;
         gend = r .gend;
         round = round;
-        given = omega (arith, length-append (a .messages) (x ∷ y ∷ z ∷ []));
-        below = message-below (a .messages) x y z (r .below) lx ly lz;
+        given = omega (arith, length-append (past .messages) (x ∷ y ∷ z ∷ []));
+        below = message-below (past .messages) x y z (r .below) lx ly lz;
       }
 
   -- THE ENDS ARE GIVEN
-  ends-fits : (a : State) → Fits p a → a .next ≡ next.Ends → (x y : ℕ) → x < p → y < p
-      → RunFits p (a .start) next.Openings (a .challenges) (a .total) (a .messages) x y
-  ends-fits a h e x y lx ly =
+  ends-fits : (a : State) {past : Notes} → Fits p a past → a .turn .next ≡ next.Ends → (x y : ℕ) → x < p → y < p
+      → RunFits p (a .start) next.Openings (a .turn .challenges) (past .total) (past .messages) x y
+  ends-fits a {past} h e x y lx ly =
       let r = h .run in
       record {
         some = r .some;
@@ -226,19 +226,19 @@ module _ (p : ℕ) (large : maxWeight < p) where
         below = r .below;
         fend = lx;
         gend = ly;
-        round = subst (λ t. roundFits t (length (a .challenges)) (a .start .rounds) ≡ true) e (r .round);
-        given = r .given ∙ ap (λ t. 3 * givenAt (length (a .challenges)) t) e;
+        round = subst (λ t. roundFits t (length (a .turn .challenges)) (a .start .rounds) ≡ true) e (r .round);
+        given = r .given ∙ ap (λ t. 3 * givenAt (length (a .turn .challenges)) t) e;
       }
 
   -- A CHALLENGE IS TAKEN
-  challenge-fits : (a : State) → Fits p a → a .next ≡ next.Challenge → (c : ℕ)
-      → RunFits p (a .start) (takesChallenge a c .next) (a .challenges ++ c ∷ []) (a .total) (a .messages) (a .fend) (a .gend)
-  challenge-fits a h e c =
+  challenge-fits : (a : State) {past : Notes} → Fits p a past → a .turn .next ≡ next.Challenge → (c : ℕ)
+      → RunFits p (a .start) (takesChallenge a c .turn .next) (a .turn .challenges ++ c ∷ []) (past .total) (past .messages) (past .fend) (past .gend)
+  challenge-fits a {past} h e c =
       let r = h .run in
-      let cs : List ℕ = a .challenges ++ c ∷ [] in
-      let less : length (a .challenges) < a .start .rounds = ltb-true _ _ (subst (λ t. roundFits t (length (a .challenges)) (a .start .rounds) ≡ true) e (r .round)) in
-      let given : length (a .messages) ≡ 3 * suc (length (a .challenges)) = r .given ∙ ap (λ t. 3 * givenAt (length (a .challenges)) t) e in
-      let long : length cs ≡ suc (length (a .challenges)) = length-append (a .challenges) (c ∷ []) ∙ add-one (length (a .challenges)) in
+      let cs : List ℕ = a .turn .challenges ++ c ∷ [] in
+      let less : length (a .turn .challenges) < a .start .rounds = ltb-true _ _ (subst (λ t. roundFits t (length (a .turn .challenges)) (a .start .rounds) ≡ true) e (r .round)) in
+      let given : length (past .messages) ≡ 3 * suc (length (a .turn .challenges)) = r .given ∙ ap (λ t. 3 * givenAt (length (a .turn .challenges)) t) e in
+      let long : length cs ≡ suc (length (a .turn .challenges)) = length-append (a .turn .challenges) (c ∷ []) ∙ add-one (length (a .turn .challenges)) in
       let q = round-next (length cs) (a .start .rounds) (omega arith) in
       record {
         some = r .some;
@@ -255,13 +255,10 @@ module _ (p : ℕ) (large : maxWeight < p) where
   -- A PASS IS CLOSED
   given-message : (r : Run) (even cross odd : ℕ) (messages : List ℕ) → keptMessage (r .messages) (r .round) even cross odd ≡ messages
       → withMessage r even cross odd ≡ record {
-        items = r .items;
-        rounds = r .rounds;
-        plain = r .plain;
+        start = r .start;
         mode = r .mode;
         next = next.Challenge;
         round = r .round;
-        twists = r .twists;
         challenges = r .challenges;
         messages = messages;
         total = r .total;
@@ -270,155 +267,155 @@ module _ (p : ℕ) (large : maxWeight < p) where
       }
   given-message r even cross odd messages e = rw e
 
-  message-round : (a : State) → Fits p a → a .next ≡ next.Message → (length (a .challenges) < a .start .rounds) × (length (a .messages) ≡ 3 * length (a .challenges))
-  message-round a h e = (
-    ltb-true _ _ (subst (λ t. roundFits t (length (a .challenges)) (a .start .rounds) ≡ true) e (h .run .round)),
-    h .run .given ∙ ap (λ t. 3 * givenAt (length (a .challenges)) t) e,
+  message-round : (a : State) {past : Notes} → Fits p a past → a .turn .next ≡ next.Message → (length (a .turn .challenges) < a .start .rounds) × (length (past .messages) ≡ 3 * length (a .turn .challenges))
+  message-round a {past} h e = (
+    ltb-true _ _ (subst (λ t. roundFits t (length (a .turn .challenges)) (a .start .rounds) ≡ true) e (h .run .round)),
+    h .run .given ∙ ap (λ t. 3 * givenAt (length (a .turn .challenges)) t) e,
   )
 
   -- the run after a message, in either mode
-  message-run : (a : State) → Fits p a → a .next ≡ next.Message → (even cross odd : ℕ)
-      → withMessage (runOf a) even cross odd ≡ runOf (noted (goesTo a next.Challenge) (answer.Message even cross odd))
-  message-run a h e even cross odd =
+  message-run : (a : State) {past : Notes} → Fits p a past → a .turn .next ≡ next.Message → (even cross odd : ℕ)
+      → withMessage (runOf a past) even cross odd ≡ runOf (goesTo a next.Challenge) (noted past (answered (reply.message even cross odd)))
+  message-run a {past} h e even cross odd =
       let q = message-round a h e in
-      given-message (runOf a) even cross odd (inArray 45 (a .messages ++ even ∷ cross ∷ odd ∷ []))
-      (arrays.message-next (a .messages) (length (a .challenges)) even cross odd (q .1) (omega (arith, q .0, few p a h)))
+      given-message (runOf a past) even cross odd (inArray 45 (past .messages ++ even ∷ cross ∷ odd ∷ []))
+      (arrays.message-next (past .messages) (length (a .turn .challenges)) even cross odd (q .1) (omega (arith, q .0, few p a h)))
 
-  module _ (a : State) (h : Fits p a) (l : Lent) (all : length (a .items) ≡ a .start .items) where
+  module _ (a : State) {past : Notes} (h : Fits p a past) (l : Lent) (all : length (a .pass .items) ≡ a .start .items) where
     abbrev R : Run
-    R = runOf a
+    R = runOf a past
 
     abbrev S : Kind → Pass
-    S k = passAfter p R k (a .point) (a .items)
+    S k = passAfter p R k (a .pass .point) (a .pass .items)
 
     enough : a .start .items ≤ 2 ^ a .start .rounds
     enough = subst (λ n. a .start .items ≤ 2 ^ n) (sym (h .run .rounds)) (rounds-enough (a .start .items) (h .run .most))
 
-    total-closed : (plain : Bool) → a .start .plain ≡ plain → a .next ≡ next.Total → (plain ≡ true → inLimits p (S Asked .total) ≡ true)
+    total-closed : (plain : Bool) → a .start .plain ≡ plain → a .turn .next ≡ next.Total → (plain ≡ true → inLimits p (S Asked .total) ≡ true)
         → (let st : Step = cond plain (answeredStep (withTotal R (S Asked .total)) shutPass (answer.Total (S Asked .total)))
-        (answeredStep (goneTo R (roundOrEnds 0 (R .rounds))) shutPass (answer.FieldTotal (S Asked .dot))) in
-        Follows p (noted (goesTo a (state.roundOrEnds 0 (a .start .rounds))) (st .answer)) (keepingStep l st))
+        (answeredStep (goneTo R (roundOrEnds 0 (R .start .rounds))) shutPass (answer.FieldTotal (S Asked .dot))) in
+        Follows p (goesTo a (roundOrEnds 0 (a .start .rounds))) (noted past (answerIn (st .answer))) (keepingStep l st))
     unfolding passAfter
     total-closed true e et fits =
-        record { run = refl; pass = refl; fits = record { run = total-fits a h et (S Asked .total) (fits refl); pass = shut-items (a .start) (a .mode) _ } }
+        record { run = refl; pass = refl; fits = record { run = total-fits a h et (S Asked .total) (fits refl); pass = shut-items (a .start) (a .turn .mode) _ } }
     total-closed false e et fits =
-        record { run = refl; pass = refl; fits = record { run = total-fits a h et (a .total) (h .run .total); pass = shut-items (a .start) (a .mode) _ } }
+        record { run = refl; pass = refl; fits = record { run = total-fits a h et (past .total) (h .run .total); pass = shut-items (a .start) (a .turn .mode) _ } }
 
-    close-core : (t : Next) (k : Kind) → a .next ≡ t → isOpen k ≡ true → kindFits k (a .mode) t ≡ true → (a .start .plain ≡ true → t ≡ next.Total → inLimits p (S Asked .total) ≡ true)
-        → (let st : Step = closeStep R (S k) t k in Follows p (noted (closed a t k) (st .answer)) (keepingStep l st))
+    close-core : (t : Next) (k : Kind) → a .turn .next ≡ t → isOpen k ≡ true → kindFits k (a .turn .mode) t ≡ true → (a .start .plain ≡ true → t ≡ next.Total → inLimits p (S Asked .total) ≡ true)
+        → (let st : Step = closeStep R (S k) t k in Follows p (closed a t k) (noted past (answerIn (st .answer))) (keepingStep l st))
     unfolding passAfter
     close-core t Shut et op fit fits = absurd (true≢false (sym op))
     close-core next.Total Asked et op fit fits = total-closed (a .start .plain) refl et (λ e. fits e refl)
     close-core next.Message Asked et op fit fits =
         let q = message-round a h et in
-        let b = own-message p positive R (a .items) (h .pass .fine) (a .point) (run-formed p a h) all (ap isTotal et) enough (length (a .challenges))
-        (ap (λ t. levelAt (a .start .rounds) (length (a .challenges)) t Asked) et) (q .0) in
+        let b = own-message p positive R (a .pass .items) (h .pass .fine) (a .pass .point) (run-formed p a h) all (ap isTotal et) enough (length (a .turn .challenges))
+        (ap (λ t. levelAt (a .start .rounds) (length (a .turn .challenges)) t Asked) et) (q .0) in
         record {
           run = message-run a h et (S Asked .even) (S Asked .cross) (S Asked .odd);
           pass = refl;
-          fits = record { run = message-fits a h et _ _ _ (b .0) (b .1) (b .2); pass = shut-items (a .start) (a .mode) _ };
+          fits = record { run = message-fits a h et _ _ _ (b .0) (b .1) (b .2); pass = shut-items (a .start) (a .turn .mode) _ };
         }
-    close-core next.Challenge Asked et op fit fits = absurd (no-pass (a .mode) fit)
+    close-core next.Challenge Asked et op fit fits = absurd (no-pass (a .turn .mode) fit)
       where
         no-pass : (m : Mode) → kindFits Asked m next.Challenge ≡ true → ⊥
         no-pass Small e = true≢false (sym e)
         no-pass Full e = true≢false (sym e)
     close-core next.Ends Asked et op fit fits =
-        let b = own-ends p positive R (a .items) (h .pass .fine) (a .point) (run-formed p a h) all (ap isTotal et) enough et in
-        record { run = refl; pass = refl; fits = record { run = ends-fits a h et _ _ (b .0) (b .1); pass = shut-items (a .start) (a .mode) _ } }
+        let b = own-ends p positive R (a .pass .items) (h .pass .fine) (a .pass .point) (run-formed p a h) all (ap isTotal et) enough et in
+        record { run = refl; pass = refl; fits = record { run = ends-fits a h et _ _ (b .0) (b .1); pass = shut-items (a .start) (a .turn .mode) _ } }
     close-core next.Openings Asked et op fit fits =
         record {
           run = ap (λ t. goneTo R t) et;
           pass = refl;
-          fits = record { run = subst (λ t. RunFits p (a .start) t (a .challenges) (a .total) (a .messages) (a .fend) (a .gend)) et (h .run); pass = shut-items (a .start) (a .mode) _ };
+          fits = record { run = subst (λ t. RunFits p (a .start) t (a .turn .challenges) (past .total) (past .messages) (past .fend) (past .gend)) et (h .run); pass = shut-items (a .start) (a .turn .mode) _ };
         }
     close-core t Change et op fit fits =
-        record { run = refl; pass = refl; fits = record { run = h .run; pass = shut-items (a .start) Full (a .next) } }
+        record { run = refl; pass = refl; fits = record { run = h .run; pass = shut-items (a .start) Full (a .turn .next) } }
 
   limit-of : (first plain inside : Bool) → (not (first && plain) || inside) ≡ true → first ≡ true → plain ≡ true → inside ≡ true
   limit-of true true inside e f g = e
   limit-of true false inside e f g = absurd (true≢false (sym g))
   limit-of false plain inside e f g = absurd (true≢false (sym f))
 
-  pub close-follows : (a : State) → Fits p a → (l : Lent) → table p a call.Close l ≡ none
-      → (let o : Result = does p (runOf a) (passOf p a) call.Close l in Follows p (noted (goesOn a call.Close (o .lent)) (o .answer)) o)
+  pub close-follows : (a : State) {past : Notes} → Fits p a past → (l : Lent) → table p a call.Close l ≡ none
+      → (let o : Result = does p (runOf a past) (passOf p a past) call.Close l in Follows p (goesOn a call.Close (o .lent)) (noted past (o .answer)) o)
   unfolding table
-  close-follows a h l e =
-      let q = row-passed (isOpen (a .kind)) 10 _ e in
-      let u = row-passed (eqb (length (a .items)) (a .start .items)) 8 _ (q .1) in
+  close-follows a {past} h l e =
+      let q = row-passed (isOpen (a .pass .kind)) 10 _ e in
+      let u = row-passed (eqb (length (a .pass .items)) (a .start .items)) 8 _ (q .1) in
       let v = row-passed (totalFits p a) 7 none (u .1) in
       let all = eqb-true _ _ (u .0) in
-      subst (λ k. (let st : Step = closeStep (runOf a) (passOf p a) (a .next) k in Follows p (noted (closed a (a .next) (a .kind)) (st .answer)) (keepingStep l st)))
+      subst (λ k. (let st : Step = closeStep (runOf a past) (passOf p a past) (a .turn .next) k in Follows p (closed a (a .turn .next) (a .pass .kind)) (noted past (answerIn (st .answer))) (keepingStep l st)))
       (sym (kind-is p a h))
-      (close-core a h l all (a .next) (a .kind) refl (q .0) (h .pass .kind)
+      (close-core a h l all (a .turn .next) (a .pass .kind) refl (q .0) (h .pass .kind)
       (λ plain first.
-      ap (inLimits p) (after-total p (runOf a) Asked (a .point) (ap isTotal first) (a .items) (h .pass .within) (omega (arith, h .pass .count, h .run .most)))
-      ∙ limit-of (waits next.Total (a .next)) (a .start .plain) _ (v .0) (ap (waits next.Total) first) plain))
+      ap (inLimits p) (after-total p (runOf a past) Asked (a .pass .point) (ap isTotal first) (a .pass .items) (h .pass .within) (omega (arith, h .pass .count, h .run .most)))
+      ∙ limit-of (waits next.Total (a .turn .next)) (a .start .plain) _ (v .0) (ap (waits next.Total) first) plain))
 
   -- the closed pass is the same of any run
-  shut-same : (r r′ : Run) (k : Kind) (b : ℕ) (xs : List Raw) → k ≡ Shut → xs ≡ [] → passAfter p r k b xs ≡ passAfter p r′ Shut 0 []
+  shut-same : (r r′ : Run) (k : Kind) (b : ℕ) (xs : List Given) → k ≡ Shut → xs ≡ [] → passAfter p r k b xs ≡ passAfter p r′ Shut 0 []
   unfolding passAfter
   shut-same r r′ k b xs ek ex = rw (ek, ex)
 
-  shut-pass : (a : State) → Fits p a → a .kind ≡ Shut → (r : Run) → passOf p a ≡ passAfter p r Shut 0 []
-  shut-pass a h e r = shut-same (runOf a) r (a .kind) (a .point) (a .items) e (h .pass .idle e)
+  shut-pass : (a : State) {past : Notes} → Fits p a past → a .pass .kind ≡ Shut → (r : Run) → passOf p a past ≡ passAfter p r Shut 0 []
+  shut-pass a {past} h e r = shut-same (runOf a past) r (a .pass .kind) (a .pass .point) (a .pass .items) e (h .pass .idle e)
 
-  pub message-follows : (a : State) → Fits p a → (l : Lent) → table p a call.Message l ≡ none
-      → (let o : Result = does p (runOf a) (passOf p a) call.Message l in Follows p (noted (goesOn a call.Message (o .lent)) (o .answer)) o)
+  pub message-follows : (a : State) {past : Notes} → Fits p a past → (l : Lent) → table p a call.Message l ≡ none
+      → (let o : Result = does p (runOf a past) (passOf p a past) call.Message l in Follows p (goesOn a call.Message (o .lent)) (noted past (o .answer)) o)
   unfolding table messageGiven
-  message-follows a h l e =
-      let q = both (isFull (a .mode)) (waits next.Message (a .next)) (row-passed _ 10 _ e .0) in
-      let et = waits-for next.Message (a .next) (q .1) in
-      let m : Message = messageSlice p (foldSize (runOf a) / 2) (l .f) (l .g) in
-      let b = slice-below p positive (foldSize (runOf a) / 2) (l .f) (l .g) in
+  message-follows a {past} h l e =
+      let q = both (isFull (a .turn .mode)) (waits next.Message (a .turn .next)) (row-passed _ 10 _ e .0) in
+      let et = waits-for next.Message (a .turn .next) (q .1) in
+      let m : Message = messageSlice p (foldSize (runOf a past) / 2) (l .f) (l .g) in
+      let b = slice-below p positive (foldSize (runOf a past) / 2) (l .f) (l .g) in
       record {
         run = message-run a h et (m .even) (m .cross) (m .odd);
-        pass = shut-pass a h (full-shut (a .kind) (a .mode) (a .next) (q .0) (h .pass .kind)) _;
-        fits = record { run = message-fits a h et (m .even) (m .cross) (m .odd) (b .0) (b .1) (b .2); pass = shut-items (a .start) (a .mode) next.Challenge };
+        pass = shut-pass a h (full-shut (a .pass .kind) (a .turn .mode) (a .turn .next) (q .0) (h .pass .kind)) _;
+        fits = record { run = message-fits a h et (m .even) (m .cross) (m .odd) (b .0) (b .1) (b .2); pass = shut-items (a .start) (a .turn .mode) next.Challenge };
       }
 
   -- the first place of a fold is a field number where all of its places are
   first-place : (a : State) (f : List ℕ) → 0 < long a → allReduced p (long a) f ≡ true → at f 0 < p
   first-place a f there e = all-reduced-iff p (long a) f .0 e 0 there
 
-  pub ends-follows : (a : State) → Fits p a → (l : Lent) → table p a call.Ends l ≡ none
-      → (let o : Result = does p (runOf a) (passOf p a) call.Ends l in Follows p (noted (goesOn a call.Ends (o .lent)) (o .answer)) o)
+  pub ends-follows : (a : State) {past : Notes} → Fits p a past → (l : Lent) → table p a call.Ends l ≡ none
+      → (let o : Result = does p (runOf a past) (passOf p a past) call.Ends l in Follows p (goesOn a call.Ends (o .lent)) (noted past (o .answer)) o)
   unfolding table
-  ends-follows a h l e =
-      let r = row-passed (isFull (a .mode) && waits next.Ends (a .next)) 10 _ e in
-      let q = both (isFull (a .mode)) (waits next.Ends (a .next)) (r .0) in
-      let et = waits-for next.Ends (a .next) (q .1) in
-      let one : long a ≡ 1 = ap (λ t. size (a .start .rounds) (levelNow (a .start .rounds) (length (a .challenges)) t)) et ∙ size-last (a .start .rounds) in
+  ends-follows a {past} h l e =
+      let r = row-passed (isFull (a .turn .mode) && waits next.Ends (a .turn .next)) 10 _ e in
+      let q = both (isFull (a .turn .mode)) (waits next.Ends (a .turn .next)) (r .0) in
+      let et = waits-for next.Ends (a .turn .next) (q .1) in
+      let one : long a ≡ 1 = ap (λ t. size (a .start .rounds) (levelNow (a .start .rounds) (length (a .turn .challenges)) 0 t)) et ∙ size-last (a .start .rounds) in
       let u = both (allReduced p (long a) (l .f)) (allReduced p (long a) (l .g)) (row-passed _ 16 none (row-passed (bothLong a l) 9 _ (r .1) .1) .0) in
       record {
         run = refl;
-        pass = shut-pass a h (full-shut (a .kind) (a .mode) (a .next) (q .0) (h .pass .kind)) _;
+        pass = shut-pass a h (full-shut (a .pass .kind) (a .turn .mode) (a .turn .next) (q .0) (h .pass .kind)) _;
         fits = record {
           run = ends-fits a h et (at (l .f) 0) (at (l .g) 0) (first-place a (l .f) (omega arith) (u .0)) (first-place a (l .g) (omega arith) (u .1));
-          pass = shut-items (a .start) (a .mode) next.Openings;
+          pass = shut-items (a .start) (a .turn .mode) next.Openings;
         };
       }
 
   -- the run after a challenge, in either mode
-  challenge-run : (a : State) → Fits p a → a .next ≡ next.Challenge → (c : ℕ) → keptChallenge (runOf a) c ≡ runOf (takesChallenge a c)
-  challenge-run a h e c =
-      let cs : List ℕ = a .challenges ++ c ∷ [] in
-      let less : length (a .challenges) < a .start .rounds = ltb-true _ _ (subst (λ t. roundFits t (length (a .challenges)) (a .start .rounds) ≡ true) e (h .run .round)) in
-      let long : length (a .challenges) + 1 ≡ length cs = sym (length-append (a .challenges) (c ∷ [])) in
-      let kept : set (inArray 15 (a .challenges)) (length (a .challenges)) c ≡ inArray 15 cs = array-next 15 (a .challenges) c (omega (arith, less, few p a h)) in
+  challenge-run : (a : State) {past : Notes} → Fits p a past → a .turn .next ≡ next.Challenge → (c : ℕ) → keptChallenge (runOf a past) c ≡ runOf (takesChallenge a c) past
+  challenge-run a {past} h e c =
+      let cs : List ℕ = a .turn .challenges ++ c ∷ [] in
+      let less : length (a .turn .challenges) < a .start .rounds = ltb-true _ _ (subst (λ t. roundFits t (length (a .turn .challenges)) (a .start .rounds) ≡ true) e (h .run .round)) in
+      let long : length (a .turn .challenges) + 1 ≡ length cs = sym (length-append (a .turn .challenges) (c ∷ [])) in
+      let kept : set (inArray 15 (a .turn .challenges)) (length (a .turn .challenges)) c ≡ inArray 15 cs = array-next 15 (a .turn .challenges) c (omega (arith, less, few p a h)) in
       rw (long, kept)
 
-  pub challenge-follows : (a : State) → Fits p a → (c : ℕ) (l : Lent) → table p a (call.Challenge c) l ≡ none
-      → (let o : Result = does p (runOf a) (passOf p a) (call.Challenge c) l in Follows p (noted (goesOn a (call.Challenge c) (o .lent)) (o .answer)) o)
+  pub challenge-follows : (a : State) {past : Notes} → Fits p a past → (c : ℕ) (l : Lent) → table p a (call.Challenge c) l ≡ none
+      → (let o : Result = does p (runOf a past) (passOf p a past) (call.Challenge c) l in Follows p (goesOn a (call.Challenge c) (o .lent)) (noted past (o .answer)) o)
   unfolding table challengedFull
-  challenge-follows a h c l e =
-      let et = waits-for next.Challenge (a .next) (row-passed (waits next.Challenge (a .next)) 10 _ e .0) in
-      let shut : a .kind ≡ Shut = challenge-shut (a .kind) (a .mode) (subst (λ t. kindFits (a .kind) (a .mode) t ≡ true) et (h .pass .kind)) in
-      by (a .mode) (challenge-run a h et c) (shut-pass a h shut (runOf (takesChallenge a c)))
-      (record { run = challenge-fits a h et c; pass = shut-items (a .start) (a .mode) (takesChallenge a c .next) })
+  challenge-follows a {past} h c l e =
+      let et = waits-for next.Challenge (a .turn .next) (row-passed (waits next.Challenge (a .turn .next)) 10 _ e .0) in
+      let shut : a .pass .kind ≡ Shut = challenge-shut (a .pass .kind) (a .turn .mode) (subst (λ t. kindFits (a .pass .kind) (a .turn .mode) t ≡ true) et (h .pass .kind)) in
+      by (a .turn .mode) (challenge-run a h et c) (shut-pass a h shut (runOf (takesChallenge a c) past))
+      (record { run = challenge-fits a h et c; pass = shut-items (a .start) (a .turn .mode) (takesChallenge a c .turn .next) })
     where
-      by : (m : Mode) → keptChallenge (runOf a) c ≡ runOf (takesChallenge a c) → passOf p a ≡ passAfter p (runOf (takesChallenge a c)) Shut 0 []
-          → Fits p (takesChallenge a c)
-          → (let o : Result = leaving l (challengeDoes p (runOf a) (passOf p a) c l m) in Follows p (noted (buffersIn (isFull m) (takesChallenge a c) (o .lent)) (o .answer)) o)
+      by : (m : Mode) → keptChallenge (runOf a past) c ≡ runOf (takesChallenge a c) past → passOf p a past ≡ passAfter p (runOf (takesChallenge a c) past) Shut 0 []
+          → Fits p (takesChallenge a c) past
+          → (let o : Result = leaving l (challengeDoes p (runOf a past) (passOf p a past) c l m) in Follows p (buffersIn (isFull m) (takesChallenge a c) (o .lent)) (noted past (o .answer)) o)
       by Small r s f = record { run = r; pass = s; fits = f }
       by Full r s f = record { run = r; pass = s; fits = record { run = f .run; pass = f .pass } }

@@ -1,20 +1,18 @@
 -- The checks of each call are the rows of the table: over any records that stand for a state.
-use mathlib.Core.Path.{_≡_, refl, sym, ap, ap₂, _∙_}
+use mathlib.Core.Path.{_≡_, refl, ap, ap₂, _∙_}
 use mathlib.Core.Bool.{Bool, true, false, cond, not, _&&_, _||_}
-use mathlib.Core.Option.{Option, none, some}
+use mathlib.Core.Option.{Option, none}
 use Prim.Native.Nat.{ℕ, _-_, _≤_}
 use native.Mathlib.Omega.{arith}
 use lib.Dec.{eqb, leb, ltb}
-use lib.IntN.{ℤ}
 use lib.ListN.{length}
-use borrow.Author.Tests.{le-leb, leb-true, ltb-true, ltb-false}
 use Rattle.refusal.specs.Limit.{maxWeight}
-use Rattle.refusal.specs.Outcome.{Outcome, answered, refused, refusedAt, require}
+use Rattle.refusal.specs.Outcome.{Outcome, answered, refusedAt, require, requireAt}
 use Rattle.field.specs.Total.{inLimits}
 use Rattle.vector.specs.Rounds.{size}
 use Rattle.vector.specs.Slice.{allReduced, isNonzero}
-use Rattle.vector.specs.Item.{plainParts, numberParts}
-use Rattle.vector.specs.declared.item.Item.{Item}
+use Rattle.item.specs.declared.Item.{Item}
+use Rattle.item.specs.declared.Given.{Given}
 use Rattle.prover.specs.declared.Mode.{Mode}
 use Rattle.prover.specs.declared.Mode.the-variants.{Small, Full}
 use Rattle.prover.specs.declared.Next.{Next}
@@ -24,13 +22,13 @@ use Rattle.prover.specs.declared.Kind.the-variants.{Shut, Asked, Change}
 use Rattle.prover.specs.declared.Run.{Run}
 use Rattle.prover.specs.declared.Pass.{Pass}
 use Rattle.prover.specs.Records as records
-use Rattle.prover.specs.Records.{Out}
+use Rattle.prover.specs.Records.{Out, out}
 use Rattle.prover.specs.Order.{isTotal, isMessage, isEnds, isOpenings, levelAt, foldSize}
 use Rattle.prover.specs.WellFormed.{wellFormed}
 use Rattle.prover.specs.Open.{openNext, opened, noPoints, pointsOf, openKernel, paddedKernel, openCall, openAtCall}
 use Rattle.prover.specs.Take.{takes}
 use Rattle.prover.specs.Calls as calls
-use Rattle.prover.specs.Calls.{withParts, itemPlaces, itemTurn, placesThere, itemCall, fieldItemCall}
+use Rattle.prover.specs.Calls.{withItem, itemPlaces, placesThere, giveCall}
 use Rattle.prover.specs.Change.{changeAt, changes, toFullCall}
 use Rattle.prover.specs.Close as close
 use Rattle.prover.specs.Close.{closing, closeCall}
@@ -38,22 +36,18 @@ use Rattle.prover.specs.Full.{bothReduced, lentFolds, messageGiven, messageCall
 use Rattle.prover.specs.Challenge.{isChallenge, challengedSmall, challengedFull, challenged, challengeCall}
 use Rattle.prover.specs.Opening.{openingGiven, openingCall}
 use Rattle.prover.proofs.Facts.{size-32}
-use Rattle.runs.specs.Trip.{reading, numbers, partsIn, sumOf}
+use Rattle.item.specs.declared.Given.the-variants.{Reading, Numbers}
+use Rattle.item.specs.Item.{contributes, partsOf}
+use Rattle.runs.specs.Trip.{sumOf}
 use Rattle.calls.specs.Step.{Lent}
-use Rattle.calls.specs.State.{State, isChange, isFull}
-use Rattle.calls.specs.Table.{Refusal, row, rowAt, isOpen, isSmall, waits, passNext, openingsNext, changeNext, levelNow, long, bothLong, readRows, itemRows, placeRow, totalFits, table}
+use Rattle.calls.specs.State.{isChange, isFull, isOpen, isSmall, State}
+use Rattle.calls.specs.Table.{Refusal, decided, row, rowAt, waits, passNext, openingsNext, changeNext, levelNow, long, bothLong, readRows, givenRows, placeRow, totalFits, table}
 use Rattle.calls.specs.declared.Call.the-variants as call
-use Rattle.calls.proofs.Records.{runOf}
-
--- what a call comes to where the table decides
-abbrev pub decided : {A : Type 0} → Option Refusal → Outcome A → Outcome A
-decided none o = o
-decided (some (k, none)) o = refused k
-decided (some (k, some i)) o = refusedAt k i
+use Rattle.calls.proofs.Records.{Notes, runOf}
 
 -- in full mode a challenge has the buffers
 abbrev pub challengeDoes : ℕ → Run → Pass → ℕ → Lent → Mode → Out
-challengeDoes p r s c l Small = records.out (challengedSmall r s c) (l .f) (l .g)
+challengeDoes p r s c l Small = out (challengedSmall r s c) (l .f) (l .g)
 challengeDoes p r s c l Full = challengedFull p r s c (l .f) (l .g)
 
 -- a check beside a row with the same test
@@ -66,15 +60,26 @@ pub like-row : {A : Type 0} (b c : Bool) (k : ℕ) (rest : Outcome A) (t : Optio
     → require b k rest ≡ decided (row c k t) o
 like-row b c k rest t o e r = ap (λ x. require x k rest) e ∙ same-row c k rest t o r
 
--- the tests of what is next, one against the other
+-- the tests of the code beside the table's
 modes : (m : Mode) → records.isSmall m ≡ isSmall m
 modes Small = refl
 modes Full = refl
 
-pub fulls : (m : Mode) → records.isFull m ≡ isFull m
+fulls : (m : Mode) → records.isFull m ≡ isFull m
 fulls Small = refl
 fulls Full = refl
 
+opens : (k : Kind) → records.isOpen k ≡ isOpen k
+opens Shut = refl
+opens Asked = refl
+opens Change = refl
+
+changing : (k : Kind) → records.isChange k ≡ isChange k
+changing Shut = refl
+changing Asked = refl
+changing Change = refl
+
+-- the tests of what is next, one against the other
 pass-next : (m : Mode) (t : Next) → cond (records.isSmall m) (openNext t) false ≡ passNext m t
 pass-next Full t = refl
 pass-next Small next.Total = refl
@@ -130,17 +135,7 @@ proof-next true next.Challenge = refl
 proof-next true next.Ends = refl
 proof-next true next.Openings = refl
 
-opens : (k : Kind) → records.isOpen k ≡ isOpen k
-opens Shut = refl
-opens Asked = refl
-opens Change = refl
-
-changing : (k : Kind) → records.isChange k ≡ isChange k
-changing Shut = refl
-changing Asked = refl
-changing Change = refl
-
-pub level-now : (n i : ℕ) (t : Next) → levelAt n i t Shut ≡ levelNow n i t
+pub level-now : (n i : ℕ) (t : Next) → levelAt n i t Shut ≡ levelNow n i 0 t
 level-now n i next.Total = refl
 level-now n i next.Message = refl
 level-now n i next.Challenge = refl
@@ -167,12 +162,12 @@ fits-test false plain inside = refl
 fits-test true false inside = refl
 fits-test true true inside = refl
 
-module _ (p : ℕ) (a : State) (few : a .start .rounds ≤ 15) where
+module _ (p : ℕ) (a : State) (past : Notes) (few : a .start .rounds ≤ 15) where
   abbrev R : Run
-  R = runOf a
+  R = runOf a past
 
   pub fold-long : foldSize R ≡ long a
-  fold-long = size-32 (a .start .rounds) _ few ∙ ap (size (a .start .rounds)) (level-now (a .start .rounds) (length (a .challenges)) (a .next))
+  fold-long = size-32 (a .start .rounds) _ few ∙ ap (size (a .start .rounds)) (level-now (a .start .rounds) (length (a .turn .challenges)) (a .turn .next))
 
   long-test : (l : Lent) → calls.bothLong R (length (l .f)) (length (l .g)) ≡ bothLong a l
   long-test l =
@@ -192,40 +187,40 @@ module _ (p : ℕ) (a : State) (few : a .start .rounds ≤ 15) where
     formed-and : (x y : Bool) → x ≡ y → cond (wellFormed p R s) x false ≡ y
     formed-and x y e = ap (λ b. cond b x false) wf ∙ e
 
-    full-and : (x y : Bool) → cond (isFull (a .mode)) x false ≡ y → cond (cond (wellFormed p R s) (records.isFull (a .mode)) false) x false ≡ y
-    full-and x y e = ap (λ b. cond b x false) (formed-and _ _ (fulls (a .mode))) ∙ e
+    full-and : (x y : Bool) → cond (isFull (a .turn .mode)) x false ≡ y → cond (cond (wellFormed p R s) (records.isFull (a .turn .mode)) false) x false ≡ y
+    full-and x y e = ap (λ b. cond b x false) (formed-and _ _ (fulls (a .turn .mode))) ∙ e
 
     pub open-decided : (l : Lent) → openCall p R s ≡ decided (table p a call.OpenPass l) (answered (opened R noPoints (openKernel R)))
     unfolding openCall table
-    open-decided l = like-row _ _ 10 _ none _ (formed-and _ _ (pass-next (a .mode) (a .next))) refl
+    open-decided l = like-row _ _ 10 _ none _ (formed-and _ _ (pass-next (a .turn .mode) (a .turn .next))) refl
 
     pub open-at-decided : (b : ℕ) (l : Lent) → openAtCall p R s b ≡ decided (table p a (call.OpenAt b) l) (answered (opened R (pointsOf p b) (paddedKernel R)))
     unfolding openAtCall table
     open-at-decided b l =
         like-row _ _ 10 _ _ _
-        (formed-and _ _ (openings-next (records.isSmall (a .mode)) (a .next) (a .start .rounds) ∙ ap (λ m. m && openingsNext (a .next) (a .start .rounds)) (modes (a .mode))))
+        (formed-and _ _ (openings-next (records.isSmall (a .turn .mode)) (a .turn .next) (a .start .rounds) ∙ ap (λ m. m && openingsNext (a .turn .next) (a .start .rounds)) (modes (a .turn .mode))))
         (same-row (isNonzero p b) 6 _ none _ refl)
 
     pub to-full-decided : (l : Lent) → toFullCall p R s (l .f) (l .g) ≡ decided (table p a call.ToFull l) (answered (changes R (l .f) (l .g)))
     unfolding toFullCall table
     to-full-decided l =
-        like-row _ _ 10 _ _ _ (formed-and _ _ (change-next (a .mode) (a .next) (a .start .rounds)))
+        like-row _ _ 10 _ _ _ (formed-and _ _ (change-next (a .turn .mode) (a .turn .next) (a .start .rounds)))
         (like-row _ _ 9 _ none _ (long-test l) refl)
 
     pub message-decided : (l : Lent) → messageCall p R s (l .f) (l .g) ≡ decided (table p a call.Message l) (answered (messageGiven p R s (l .f) (l .g)))
     unfolding messageCall table
     message-decided l =
-        like-row _ _ 10 _ _ _ (full-and _ _ (message-next (isFull (a .mode)) (a .next))) (reads l (messageGiven p R s (l .f) (l .g)))
+        like-row _ _ 10 _ _ _ (full-and _ _ (message-next (isFull (a .turn .mode)) (a .turn .next))) (reads l (messageGiven p R s (l .f) (l .g)))
 
     pub ends-decided : (l : Lent) → endsCall p R s (l .f) (l .g) ≡ decided (table p a call.Ends l) (answered (endsGiven R s (l .f) (l .g)))
     unfolding endsCall table
     ends-decided l =
-        like-row _ _ 10 _ _ _ (full-and _ _ (ends-next (isFull (a .mode)) (a .next))) (reads l (endsGiven R s (l .f) (l .g)))
+        like-row _ _ 10 _ _ _ (full-and _ _ (ends-next (isFull (a .turn .mode)) (a .turn .next))) (reads l (endsGiven R s (l .f) (l .g)))
 
     pub opening-decided : (b : ℕ) (l : Lent) → openingCall p R s b (l .f) (l .g) ≡ decided (table p a (call.Opening b) l) (answered (openingGiven p R s b (l .f) (l .g)))
     unfolding openingCall table
     opening-decided b l =
-        like-row _ _ 10 _ _ _ (full-and _ _ (openings-next (isFull (a .mode)) (a .next) (a .start .rounds)))
+        like-row _ _ 10 _ _ _ (full-and _ _ (openings-next (isFull (a .turn .mode)) (a .turn .next) (a .start .rounds)))
         (same-row (isNonzero p b) 6 _ _ _ (reads l (openingGiven p R s b (l .f) (l .g))))
 
     challenge-mode : (c : ℕ) (l : Lent) (m : Mode)
@@ -234,87 +229,66 @@ module _ (p : ℕ) (a : State) (few : a .start .rounds ≤ 15) where
     challenge-mode c l Full = reads l (challengedFull p R s c (l .f) (l .g))
 
     pub challenge-decided : (c : ℕ) (l : Lent)
-        → challengeCall p R s c (l .f) (l .g) ≡ decided (table p a (call.Challenge c) l) (answered (challengeDoes p R s c l (a .mode)))
+        → challengeCall p R s c (l .f) (l .g) ≡ decided (table p a (call.Challenge c) l) (answered (challengeDoes p R s c l (a .turn .mode)))
     unfolding challengeCall table
     challenge-decided c l =
-        like-row _ _ 10 _ _ _ (formed-and _ _ (challenge-next (a .next)))
-        (same-row (isNonzero p c) 6 _ _ _ (challenge-mode c l (a .mode)))
+        like-row _ _ 10 _ _ _ (formed-and _ _ (challenge-next (a .turn .next)))
+        (same-row (isNonzero p c) 6 _ _ _ (challenge-mode c l (a .turn .mode)))
 
     -- the open pass is the state's
-    module _ (kind : s .kind ≡ a .kind) (count : s .taken ≡ length (a .items)) where
-      open-test : cond (wellFormed p R s) (records.isOpen (s .kind)) false ≡ isOpen (a .kind)
-      open-test = formed-and _ _ (ap records.isOpen kind ∙ opens (a .kind))
+    module _ (kind : s .kind ≡ a .pass .kind) (count : s .taken ≡ length (a .pass .items)) where
+      open-test : cond (wellFormed p R s) (records.isOpen (s .kind)) false ≡ isOpen (a .pass .kind)
+      open-test = formed-and _ _ (opens (s .kind) ∙ ap isOpen kind)
 
-      wanted-test : ltb (s .taken) (a .start .items) ≡ ltb (length (a .items)) (a .start .items)
+      wanted-test : ltb (s .taken) (a .start .items) ≡ ltb (length (a .pass .items)) (a .start .items)
       wanted-test = ap (λ n. ltb n (a .start .items)) count
 
-      place-there : (l : Lent) → placesThere R s (length (l .f)) (length (l .g)) ≡ (not (isChange (a .kind)) || bothLong a l)
+      place-there : (l : Lent) → placesThere R s (length (l .f)) (length (l .g)) ≡ (not (isChange (a .pass .kind)) || bothLong a l)
       place-there l =
-          ap₂ (λ b here. cond b here true) (ap records.isChange kind ∙ changing (a .kind)) (long-test l)
-          ∙ place-test (isChange (a .kind)) (bothLong a l)
+          ap₂ (λ b here. cond b here true) (changing (s .kind) ∙ ap isChange kind) (long-test l)
+          ∙ place-test (isChange (a .pass .kind)) (bothLong a l)
 
       places : (l : Lent) (x : Item) → itemPlaces p R s (l .f) (l .g) x ≡ decided (placeRow a l) (answered (takes p R s x (l .f) (l .g)))
       places l x = like-row _ _ 9 _ none _ (place-there l) refl
 
-      turn : (same : Bool) (rest : Outcome Out) (t : Option Refusal) (o : Outcome Out) → rest ≡ decided t o
-          → itemTurn p R s same rest ≡ decided (itemRows a same t) o
-      turn same rest t o e =
-          like-row _ _ 10 _ _ _ open-test (like-row _ _ 8 _ _ _ wanted-test (same-row same 10 rest t o e))
-
-      plain-item : (z : ℤ) (w : ℕ) (l : Lent)
-          → withParts (plainParts p z w) (refusedAt 5 (a .start .items - 1 - s .taken)) (itemPlaces p R s (l .f) (l .g))
-          ≡ decided (rowAt (leb w maxWeight) 5 (a .start .items - 1 - length (a .items)) (placeRow a l)) (answered (takes p R s (partsIn p (reading z w)) (l .f) (l .g)))
-      unfolding plainParts
-      plain-item z w l = by (ltb maxWeight w) (leb w maxWeight) refl refl
+      own-rows : (x : Given) (l : Lent)
+          → withItem (partsOf p (a .start) (a .start .items - 1 - s .taken) x) (itemPlaces p R s (l .f) (l .g))
+          ≡ decided (givenRows p (a .start) (a .start .items - 1 - length (a .pass .items)) x (placeRow a l)) (answered (takes p R s (contributes p (a .start) x) (l .f) (l .g)))
+      unfolding partsOf
+      own-rows (Reading z w) l = by (a .start .plain) (leb w maxWeight)
         where
-          by : (over fits : Bool) → ltb maxWeight w ≡ over → leb w maxWeight ≡ fits
-              → withParts (cond over none (some (partsIn p (reading z w)))) (refusedAt 5 (a .start .items - 1 - s .taken)) (itemPlaces p R s (l .f) (l .g))
-              ≡ decided (rowAt fits 5 (a .start .items - 1 - length (a .items)) (placeRow a l)) (answered (takes p R s (partsIn p (reading z w)) (l .f) (l .g)))
-          by true true o f = absurd (omega (arith, ltb-true maxWeight w o, leb-true w maxWeight f))
-          by true false o f = ap (λ n. refusedAt 5 (a .start .items - 1 - n)) count
-          by false true o f = places l (partsIn p (reading z w))
-          by false false o f = let z : _≡_ {A = Bool} true false = sym (le-leb w maxWeight (ltb-false maxWeight w o)) ∙ f in cc
-
-      pub item-decided : (z : ℤ) (w : ℕ) (l : Lent)
-          → itemCall p R s z w (l .f) (l .g) ≡ decided (table p a (call.Item z w) l) (answered (takes p R s (partsIn p (reading z w)) (l .f) (l .g)))
-      unfolding itemCall table
-      item-decided z w l = turn (a .start .plain) _ _ _ (plain-item z w l)
-
-      field-parts : (x y : ℕ) (l : Lent)
-          → withParts (numberParts p x y) (refused 16) (itemPlaces p R s (l .f) (l .g))
-          ≡ decided (row (ltb x p && ltb y p) 16 (placeRow a l)) (answered (takes p R s (partsIn p (numbers x y)) (l .f) (l .g)))
-      unfolding numberParts
-      field-parts x y l = by (leb p x) (leb p y) (ltb x p) (ltb y p) refl refl refl refl
+          by : (plain fits : Bool)
+              → withItem (require plain 10 (requireAt fits 5 (a .start .items - 1 - s .taken) (answered (contributes p (a .start) (Reading z w))))) (itemPlaces p R s (l .f) (l .g))
+              ≡ decided (row plain 10 (rowAt fits 5 (a .start .items - 1 - length (a .pass .items)) (placeRow a l))) (answered (takes p R s (contributes p (a .start) (Reading z w)) (l .f) (l .g)))
+          by false fits = refl
+          by true false = ap (λ n. refusedAt 5 (a .start .items - 1 - n)) count
+          by true true = places l (contributes p (a .start) (Reading z w))
+      own-rows (Numbers x y) l = by (not (a .start .plain)) (ltb x p && ltb y p)
         where
-          by : (big bad fine good : Bool) → leb p x ≡ big → leb p y ≡ bad → ltb x p ≡ fine → ltb y p ≡ good
-              → withParts (cond big none (cond bad none (some (partsIn p (numbers x y))))) (refused 16) (itemPlaces p R s (l .f) (l .g))
-              ≡ decided (row (fine && good) 16 (placeRow a l)) (answered (takes p R s (partsIn p (numbers x y)) (l .f) (l .g)))
-          by true bad true good b d f g = absurd (omega (arith, leb-true p x b, ltb-true x p f))
-          by true bad false good b d f g = refl
-          by false true true true b d f g = absurd (omega (arith, leb-true p y d, ltb-true y p g))
-          by false true true false b d f g = refl
-          by false true false good b d f g = refl
-          by false false true true b d f g = places l (partsIn p (numbers x y))
-          by false false true false b d f g = let z : _≡_ {A = Bool} true false = sym (le-leb p y (ltb-false y p g)) ∙ d in cc
-          by false false false good b d f g = let z : _≡_ {A = Bool} true false = sym (le-leb p x (ltb-false x p f)) ∙ b in cc
+          by : (twisted fine : Bool)
+              → withItem (require twisted 10 (require fine 16 (answered (contributes p (a .start) (Numbers x y))))) (itemPlaces p R s (l .f) (l .g))
+              ≡ decided (row twisted 10 (row fine 16 (placeRow a l))) (answered (takes p R s (contributes p (a .start) (Numbers x y)) (l .f) (l .g)))
+          by false fine = refl
+          by true false = refl
+          by true true = places l (contributes p (a .start) (Numbers x y))
 
-      pub field-item-decided : (x y : ℕ) (l : Lent)
-          → fieldItemCall p R s x y (l .f) (l .g) ≡ decided (table p a (call.FieldItem x y) l) (answered (takes p R s (partsIn p (numbers x y)) (l .f) (l .g)))
-      unfolding fieldItemCall table
-      field-item-decided x y l = turn (not (a .start .plain)) _ _ _ (field-parts x y l)
+      pub item-decided : (x : Given) (l : Lent)
+          → giveCall p R s x (l .f) (l .g) ≡ decided (table p a (call.Give x) l) (answered (takes p R s (contributes p (a .start) x) (l .f) (l .g)))
+      unfolding giveCall table
+      item-decided x l = like-row _ _ 10 _ _ _ open-test (like-row _ _ 8 _ _ _ wanted-test (own-rows x l))
 
-      total-test : (isTotal (a .next) ≡ true → s .total ≡ sumOf (a .items)) → close.totalFits p R s ≡ totalFits p a
-      total-test sums = by (isTotal (a .next)) refl (totals (a .next))
+      total-test : (isTotal (a .turn .next) ≡ true → s .total ≡ sumOf (a .pass .items)) → close.totalFits p R s ≡ totalFits p a
+      total-test sums = by (isTotal (a .turn .next)) refl (totals (a .turn .next))
         where
-          by : (first : Bool) → isTotal (a .next) ≡ first → first ≡ waits next.Total (a .next)
+          by : (first : Bool) → isTotal (a .turn .next) ≡ first → first ≡ waits next.Total (a .turn .next)
               → cond first (cond (a .start .plain) (inLimits p (s .total)) true) true ≡ totalFits p a
           by true e w =
               ap (λ z. cond (a .start .plain) (inLimits p z) true) (sums e)
-              ∙ fits-test true (a .start .plain) (inLimits p (sumOf (a .items)))
-              ∙ ap (λ first. not (first && a .start .plain) || inLimits p (sumOf (a .items))) w
-          by false e w = ap (λ first. not (first && a .start .plain) || inLimits p (sumOf (a .items))) w
+              ∙ fits-test true (a .start .plain) (inLimits p (sumOf (a .pass .items)))
+              ∙ ap (λ first. not (first && a .start .plain) || inLimits p (sumOf (a .pass .items))) w
+          by false e w = ap (λ first. not (first && a .start .plain) || inLimits p (sumOf (a .pass .items))) w
 
-      pub close-decided : (isTotal (a .next) ≡ true → s .total ≡ sumOf (a .items)) → (l : Lent)
+      pub close-decided : (isTotal (a .turn .next) ≡ true → s .total ≡ sumOf (a .pass .items)) → (l : Lent)
           → closeCall p R s ≡ decided (table p a call.Close l) (closing R s (s .kind))
       unfolding closeCall table
       close-decided sums l =

@@ -1,5 +1,5 @@
 -- What an answered call says where the calls bring the trip's, and that the verifier goes on with the trip.
-use mathlib.Core.Path.{_≡_, refl, sym, ap, ap₂, subst, _∙_}
+use mathlib.Core.Path.{_≡_, refl, sym, ap, subst, _∙_}
 use mathlib.Core.Bool.{Bool, true, false, cond, _||_}
 use mathlib.Core.List.{List}
 use mathlib.Core.Option.{none}
@@ -7,38 +7,39 @@ use Prim.Native.Nat.{ℕ, zero, suc, _+_, _*_, _%_, _^_, _≤_, _<_}
 use native.Mathlib.Omega.{arith}
 use lib.Dec.{eqb, ltb}
 use lib.ListN.{length}
-use borrow.Author.Tests.{eq-eqb, eqb-true, leb-true, ltb-true}
+use borrow.Author.Tests.{eq-eqb, eqb-true, ltb-true}
 use Rattle.algebra.specs.Mod.{residue}
 use Rattle.algebra.specs.Prime.{Prime}
 use Rattle.algebra.proofs.Congruence.{residue-small}
 use Rattle.refusal.specs.Limit.{maxWeight}
-use Rattle.refusal.specs.Outcome.{answered}
 use Rattle.refusal.proofs.Outcome.{both}
 use Rattle.field.specs.Integer.{image}
 use Rattle.wire.specs.Proof.{proofTotal, proofNumber}
 use Rattle.vector.specs.Rounds.{roundsOf}
 use Rattle.vector.specs.Vector.{at}
+use Rattle.vector.specs.Slice.{isNonzero}
 use Rattle.vector.specs.Message.{Message}
 use Rattle.vector.specs.Opening.{opening}
 use Rattle.vector.proofs.Rounds.{rounds-at-most, rounds-enough}
 use Rattle.vector.proofs.Overwrite.{fifteen-at}
 use Rattle.verifier.specs.declared.Verifier.{Verifier}
-use Rattle.verifier.specs.declared.Step.{Step}
-use Rattle.verifier.specs.Records.{yes, holds}
+use Rattle.verifier.specs.Records.{Replied, yes, holds}
 use Rattle.verifier.specs.Claims.{messageOf3, closedWith, passedWith, failedNow, hears, finds}
 use Rattle.verifier.specs.Openings.{openingFinds}
 use Rattle.verifier.specs.ProofFile.{fileMessage, hearsNext, hearsFirst, endsAgree, compares, afterFile}
-use Rattle.verifier.proofs.Invariant.{not-true}
 use Rattle.verifier.proofs.TrueOpenings.{true-opening-holds}
-use Rattle.runs.specs.Trip.{reading, numbers, Trip, itemOf, vectorF, vectorG}
+use Rattle.item.specs.declared.Start.{Start}
+use Rattle.runs.specs.Trip.{Trip, itemOf, vectorF, vectorG}
 use Rattle.calls.specs.declared.query.Query.{Query}
 use Rattle.calls.specs.declared.query.Query.the-variants as query
-use Rattle.calls.specs.QueryStep.{Shown, toldOf, toldVerdict, toldOpening}
-use Rattle.calls.specs.QueryState.{VerifierState, atRound, hearing, hears as goesOn, isWhole, verifierTable, Brings, Says}
+use Rattle.calls.specs.QueryStep.{Shown, replies}
+use Rattle.calls.specs.QueryStep as said
+use Rattle.calls.specs.QueryState.{VerifierState, atRound, hearing, hears as goesOn, isWhole, verifierTable}
 use Rattle.calls.specs.Meaning.{messageAt, proofOfTrip}
-use Rattle.calls.proofs.QueryStands.{verdict-turn}
-use Rattle.calls.proofs.QueryTurns.{item-rows, item-weight, field-rows, field-numbers, close-rows, claim-rows, file-rows, message-rows, verdict-row, opening-point}
-use Rattle.calls.proofs.QuerySteps.{heardAs, answers}
+use Rattle.calls.proofs.HeardMeaning.{BringsTrip, SaysTrip}
+use Rattle.calls.proofs.QueryStands.{Carries, verdict-turn}
+use Rattle.calls.proofs.QueryTurns.{item-rows, close-rows, claim-rows, file-rows, message-rows, verdict-row, opening-point}
+use Rattle.calls.proofs.QuerySteps.{heardAs, goesTo, saysSo}
 use Rattle.calls.proofs.QueryKeeps.{stands-after}
 use Rattle.calls.proofs.HeardTrip.{Fine, total-product}
 use Rattle.calls.proofs.HeardFollows.{Follows, carries, item-follows, no-message, close-follows, message-follows, ends-own, verdict-yes, verdict-follows}
@@ -46,7 +47,7 @@ use Rattle.calls.proofs.HeardFile.{ReadsTrip, file-reads}
 
 next-passed : (p : ℕ) (w : Verifier) (m : Message) → w .failed ≡ false → hears p w m ≡ heardAs p w m true → hearsNext p w m ≡ passedWith p w m
 unfolding hearsNext
-next-passed p w m going heard = ap (λ b. cond b w (hears p w m .verifier)) going ∙ ap (λ (s : Step). s .verifier) heard
+next-passed p w m going heard = ap (λ b. cond b w (hears p w m .verifier)) going ∙ ap (λ (s : Replied). s .verifier) heard
 
 -- a modulus such as 2147483647
 module _ (p : ℕ) (large : maxWeight < p) (prime : Prime p) (odd : p % 2 ≡ 1) (word : p ≤ 2 ^ 32) (T : Trip) (most : T .start .items ≤ 32768)
@@ -60,6 +61,21 @@ module _ (p : ℕ) (large : maxWeight < p) (prime : Prime p) (odd : p % 2 ≡ 1)
 
   enough : T .start .items ≤ 2 ^ n
   enough = rw rounds (rounds-enough (T .start .items) most)
+
+  -- an opening of the trip, whatever the verifier was asked before
+  nonzero : (b : ℕ) → (ltb 0 b ≡ true) × (ltb b p ≡ true) → residue p b ≡ 0 → ⊥
+  nonzero b h e =
+      let least = ltb-true 0 b (h .0) in
+      let below = ltb-true b p (h .1) in
+      omega (arith, residue-small p b (omega arith))
+
+  pub opening-holds : (k : ℕ) (v : Verifier) → Carries (T .start) cs k v → (b : ℕ) → isNonzero p b ≡ true
+      → openingFinds p v b (opening p n (at cs) (vectorF p T) (vectorG p T) b) ≡ holds
+  opening-holds k v c b ok =
+      ap (λ k. openingFinds p v b (opening p k (at cs) (vectorF p T) (vectorG p T) b)) (sym (ap (λ s. s .rounds) (c .start)))
+      ∙ true-opening-holds prime odd b (nonzero b (both (ltb 0 b) (ltb b p) ok)) v (at cs)
+      (λ k h. ap (λ xs. at xs k) (c .challenges) ∙ fifteen-at n cs few (omega (arith, listed)) k (omega (arith, ap (λ s. s .rounds) (c .start))))
+      (vectorF p T) (vectorG p T)
 
   module _ (a : VerifierState) (v : Verifier) (f : Follows p T cs a v) where
     kind : {b : Bool} → a .start .plain ≡ b → T .start .plain ≡ b
@@ -98,16 +114,16 @@ module _ (p : ℕ) (large : maxWeight < p) (prime : Prime p) (odd : p % 2 ≡ 1)
         ends-agree : endsAgree last file ≡ true
         unfolding endsAgree
         ends-agree =
-            let r = carries p T cs (atRound a n false) last last-follows .rounds in
+            let r = carries p T cs (atRound a n false) last last-follows .start in
             let ends = ends-own p T cs (atRound a n false) last last-follows few listed large enough whole-length in
-            let first = eq-eqb _ _ (ap (λ k. proofNumber file (3 * k)) r ∙ reads .end-f ∙ sym (ends .0)) in
-            let second = eq-eqb _ _ (ap (λ k. proofNumber file (3 * k + 1)) r ∙ reads .end-g ∙ sym (ends .1)) in
+            let first = eq-eqb _ _ (ap (λ (s : Start). proofNumber file (3 * s .rounds)) r ∙ reads .end-f ∙ sym (ends .0)) in
+            let second = eq-eqb _ _ (ap (λ (s : Start). proofNumber file (3 * s .rounds + 1)) r ∙ reads .end-g ∙ sym (ends .1)) in
             rw (first, second)
 
         file-last : afterFile p v (proofTotal file) file ≡ last
         unfolding afterFile compares
         file-last =
-            ap (λ k. compares (hearsFirst p closed (fileMessage file) k) file) (carries p T cs a v f .rounds)
+            ap (λ (s : Start). compares (hearsFirst p closed (fileMessage file) (s .rounds)) file) (carries p T cs a v f .start)
             ∙ ap (λ b. cond b last (failedNow last)) ends-agree
 
         pub file-follows : Follows p T cs (atRound a n false) (afterFile p v (proofTotal file) file)
@@ -116,45 +132,19 @@ module _ (p : ℕ) (large : maxWeight < p) (prime : Prime p) (odd : p % 2 ≡ 1)
         pub file-yes : finds p (afterFile p v (proofTotal file) file) ≡ yes
         file-yes = verdict-yes p T cs (atRound a n false) _ file-follows few listed large enough refl refl
 
-    -- an opening of the trip
-    nonzero : (b : ℕ) → (ltb 0 b ≡ true) × (ltb b p ≡ true) → residue p b ≡ 0 → ⊥
-    nonzero b h e =
-        let least = ltb-true 0 b (h .0) in
-        let below = ltb-true b p (h .1) in
-        omega (arith, residue-small p b (omega arith))
-
-    opening-holds : (b : ℕ) (l : Shown) → verifierTable p a (query.CheckOpening b) l ≡ none
-        → l .values ≡ opening p n (at (a .challenges)) (vectorF p T) (vectorG p T) b → openingFinds p v b (l .values) ≡ holds
-    opening-holds b l e values =
-        let c = carries p T cs a v f in
-        ap (openingFinds p v b)
-        (values ∙ ap₂ (λ k xs. opening p k (at xs) (vectorF p T) (vectorG p T) b) (sym (c .rounds)) (f .challenges))
-        ∙ true-opening-holds prime odd b (nonzero b (both (ltb 0 b) (ltb b p) (opening-point p a l b e))) v (at cs)
-        (λ k h. ap (λ xs. at xs k) (c .challenges) ∙ fifteen-at n cs few (omega (arith, listed)) k (omega (arith, c .rounds)))
-        (vectorF p T) (vectorG p T)
-
     closed-at : (w : Verifier) → a .closed ≡ false → Follows p T cs (atRound a 0 false) w → Follows p T cs (atRound a (a .round) (a .refuted)) w
     closed-at w unclosed g =
         subst (λ i. Follows p T cs (atRound a i (a .refuted)) w) (sym (no-message p T cs a v f unclosed))
         (subst (λ b. Follows p T cs (atRound a 0 b) w) (sym (f .going)) g)
 
     -- THE ANSWER, and the state after it
-    pub answers-right : (c : Query) (l : Shown) → verifierTable p a c l ≡ none → Brings p T a c l
-        → Says p T a c l (answers p v c l .told) × Follows p T cs (goesOn a c (answers p v c l .told)) (answers p v c l .verifier)
-    answers-right (query.Item z w) l e brings =
-        let rows = item-rows p a l z w e in (
+    pub answers-right : (c : Query) (l : Shown) → verifierTable p a c l ≡ none → BringsTrip p T a c l
+        → SaysTrip p T a c l (saysSo p v c l) × Follows p T cs (goesOn a c (saysSo p v c l)) (goesTo p v c l)
+    answers-right (query.Give x) l e brings =
+        let rows = item-rows p a l x e in (
           refl,
-          item-follows p T cs a v f (reading z w) brings
-              (subst (λ b. Fine p b (reading z w)) (sym (kind (rows .same))) (leb-true w maxWeight (item-weight p a l z w e)))
-              (rows .unclosed) (stands-after p a v (f .stands) (query.Item z w) l e),
-        )
-    answers-right (query.FieldItem x y) l e brings =
-        let rows = field-rows p a l x y e in
-        let below = field-numbers p a l x y e in (
-          refl,
-          item-follows p T cs a v f (numbers x y) brings
-              (subst (λ b. Fine p b (numbers x y)) (sym (kind (not-true (a .start .plain) (rows .same)))) (ltb-true x p (below .0), ltb-true y p (below .1)))
-              (rows .unclosed) (stands-after p a v (f .stands) (query.FieldItem x y) l e),
+          item-follows p T cs a v f x brings (subst (λ s. Fine p (s .plain) x) (f .start) (rows .fine)) (rows .unclosed)
+              (stands-after p a v (f .stands) (query.Give x) l e),
         )
     answers-right (query.Close t) l e brings =
         let rows = close-rows p a l t e in (
@@ -171,8 +161,8 @@ module _ (p : ℕ) (large : maxWeight < p) (prime : Prime p) (odd : p % 2 ≡ 1)
         let rows = message-rows p a l even cross odd e in
         let less : a .round < n = omega (arith, ltb-true (a .round) (a .start .rounds) (rows .2), ap (λ s. s .rounds) (f .start)) in
         let next = message-follows p T cs a v f few listed m (brings ∙ ap (λ xs. messageAt p T xs (a .round)) (f .challenges)) (rows .0) less in (
-          ap (λ (s : Step). toldOf (s .answer)) (next .0),
-          subst (λ (s : Step). Follows p T cs (hearing a (toldOf (s .answer))) (s .verifier)) (sym (next .0)) (next .1),
+          ap (λ (s : Replied). replies (s .reply)) (next .0),
+          subst (λ (s : Replied). Follows p T cs (hearing a (replies (s .reply))) (s .verifier)) (sym (next .0)) (next .1),
         )
     answers-right query.Verdict l e brings =
         let row = verdict-row p a l e in
@@ -180,7 +170,7 @@ module _ (p : ℕ) (large : maxWeight < p) (prime : Prime p) (odd : p % 2 ≡ 1)
         let last : a .round ≡ n =
         eqb-true (a .round) (a .start .rounds) (ap (λ b. b || eqb (a .round) (a .start .rounds)) (sym (f .going)) ∙ parts .1)
         ∙ ap (λ s. s .rounds) (f .start) in (
-          ap (λ d. toldVerdict (answered d)) (verdict-yes p T cs a v f few listed large enough (parts .0) last),
+          ap said.finds (verdict-yes p T cs a v f few listed large enough (parts .0) last),
           verdict-follows p T cs a v f few listed large enough (parts .0) last (verdict-turn p a v (f .stands) ∙ row),
         )
     answers-right query.Proof l e brings =
@@ -189,10 +179,16 @@ module _ (p : ℕ) (large : maxWeight < p) (prime : Prime p) (odd : p % 2 ≡ 1)
         let reads : ReadsTrip p T cs file =
         subst (ReadsTrip p T cs) (sym (brings .0 ∙ ap (proofOfTrip p T) (f .challenges)))
         (file-reads p T cs large word few enough listed (whole-fine (rows .counted)) (brings .1)) in
-        let said = file-yes (rows .counted) (rows .unclosed) (kind (rows .same)) file reads in (
-          ap (λ d. toldVerdict (answered d)) said,
-          subst (λ d. Follows p T cs (hearing a (toldVerdict (answered d))) (afterFile p v (proofTotal file) file)) (sym said)
+        let found = file-yes (rows .counted) (rows .unclosed) (kind (rows .same)) file reads in (
+          ap said.finds found,
+          subst (λ d. Follows p T cs (hearing a (said.finds d)) (afterFile p v (proofTotal file) file)) (sym found)
               (subst (λ s. Follows p T cs (atRound a (s .rounds) false) (afterFile p v (proofTotal file) file)) (sym (f .start))
               (file-follows (rows .counted) (rows .unclosed) (kind (rows .same)) file reads)),
         )
-    answers-right (query.CheckOpening b) l e brings = ((λ values. ap (λ d. toldOpening (answered d)) (opening-holds b l e values)), f)
+    answers-right (query.CheckOpening b) l e brings = (
+      λ values.
+          ap (λ xs. said.opens (openingFinds p v b xs))
+          (values ∙ ap (λ ds. opening p n (at ds) (vectorF p T) (vectorG p T) b) (f .challenges))
+          ∙ ap said.opens (opening-holds (length (a .items)) v (carries p T cs a v f) b (opening-point p a l b e)),
+      f,
+    )

@@ -8,10 +8,10 @@ use lib.ListN.{length, getD, List·getD-append}
 use lib.Seq.{take-all, getD-append-add}
 use borrow.Author.Tests.{leb-true}
 use Rattle.algebra.specs.Mod.{residue}
-use Rattle.algebra.proofs.Congruence.{base-of, residue-lt}
 use Rattle.refusal.specs.Limit.{maxWeight}
 use Rattle.field.specs.Total.{inLimits}
 use Rattle.wire.specs.Proof.{proofTotal, proofNumber, proofFile}
+use Rattle.wire.proofs.ProofSays.{GoodProof}
 use Rattle.wire.proofs.RoundTrip.{thirds, Writable, ReadsAs, reads-back, good, messages-same, ends-same}
 use Rattle.vector.specs.Vector.{at}
 use Rattle.vector.specs.Fold.{endValue}
@@ -20,6 +20,7 @@ use Rattle.verifier.specs.Claims.{messageOf3}
 use Rattle.verifier.specs.ProofFile.{fileMessage}
 use Rattle.verifier.proofs.PlainFiles.{Lists}
 use Rattle.runs.specs.Trip.{Trip, itemOf, vectorF, vectorG, totalOf}
+use Rattle.runs.proofs.CloseLaws.{residue-below}
 use Rattle.calls.specs.Meaning.{messageAt, messagesTo, proofOfTrip}
 use Rattle.calls.proofs.HeardTrip.{Fine, below-suc, end-f, end-g}
 use Rattle.calls.proofs.Agrees.{length-messages}
@@ -87,7 +88,7 @@ module _ (p : ℕ) (T : Trip) (cs : List ℕ) where
     endG = endValue p (at cs) n (vectorG p T)
 
     below : (a : ℕ) → residue p a < p
-    below a = let e = base-of p (omega arith) in omega (arith, residue-lt p a)
+    below = residue-below p (omega arith)
 
     numbers-below : (k : ℕ) → k < 3 * n → getD ms k 0 < p
     numbers-below =
@@ -113,12 +114,15 @@ module _ (p : ℕ) (T : Trip) (cs : List ℕ) where
         subst (λ xs. ReadsAs p (proofFile n (totalOf T) (xs ++ endF ∷ endG ∷ [])) n (totalOf T) ms endF endG)
         (take-all (3 * n) ms (omega (arith, length-messages p T cs n))) (reads-back p n (totalOf T) ms endF endG writable)
 
+    pub file-good : GoodProof p (proofOfTrip p T cs) (record { rounds = n; total = totalOf T })
+    file-good = good p (proofOfTrip p T cs) n (totalOf T) ms endF endG reads
+
     pub file-reads : ReadsTrip p T cs (proofOfTrip p T cs)
     file-reads =
         let file = proofOfTrip p T cs in
         let ends = ends-same p file n (totalOf T) ms endF endG reads in
         record {
-          total = good p file n (totalOf T) ms endF endG reads .total;
+          total = file-good .total;
           messages = λ i h.
               let e = messages-same p file n (totalOf T) ms endF endG reads i h in
               let x = lists-messages n i h in

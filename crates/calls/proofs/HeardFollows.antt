@@ -1,7 +1,7 @@
 -- The verifier while its answered calls bring the trip's: its sums are those of the items so far, and its claim is the scalar product of
 -- the current folds.
 use mathlib.Core.Path.{_≡_, refl, sym, ap, ap₂, subst, _∙_}
-use mathlib.Core.Bool.{Bool, true, false, cond, true≢false}
+use mathlib.Core.Bool.{true, false, cond, true≢false}
 use mathlib.Core.List.{List}
 use Prim.Native.Nat.{ℕ, suc, _^_, _≤_, _<_}
 use native.Mathlib.Omega.{arith}
@@ -20,16 +20,19 @@ use Rattle.vector.proofs.Overwrite.{fifteen-at}
 use Rattle.vector.proofs.EndValues.{weighted, weighted-step}
 use Rattle.vector.proofs.Messages.{message-passes, message-next, first-claim, last-claim}
 use Rattle.verifier.specs.declared.Verifier.{Verifier}
-use Rattle.verifier.specs.declared.Step.{Step}
-use Rattle.verifier.specs.Records.{yes, no}
+use Rattle.verifier.specs.Records.{Replied, yes, no}
 use Rattle.verifier.specs.WellFormed.{wellFormed}
 use Rattle.verifier.specs.Sums.{entering, oneMore}
 use Rattle.verifier.specs.Claims.{closedWith, passedWith, hears, finds}
 use Rattle.verifier.specs.Calls.{verdictTurn}
 use Rattle.verifier.proofs.Invariant.{parts-of, formed-of, open-turn, closed-taken, closed-turn}
-use Rattle.runs.specs.Trip.{Raw, partsIn, Start, Trip, itemOf, entersAs, vectorF, vectorG}
+use Rattle.item.specs.declared.Start.{Start}
+use Rattle.item.specs.declared.Given.{Given}
+use Rattle.item.specs.Item.{contributes}
+use Rattle.runs.specs.Trip.{Trip, itemOf, entersAs, vectorF, vectorG}
 use Rattle.calls.specs.Meaning.{messageAt}
-use Rattle.calls.specs.QueryStep.{toldOf, toldVerdict}
+use Rattle.calls.specs.QueryStep.{replies}
+use Rattle.calls.specs.QueryStep as said
 use Rattle.calls.specs.QueryState.{VerifierState, takesItem, atRound, hearing, isWhole}
 use Rattle.calls.proofs.QueryStands.{Carries, Stands}
 use Rattle.calls.proofs.QuerySteps.{heardAs}
@@ -56,19 +59,19 @@ pub record Follows (p : ℕ) (T : Trip) (cs : List ℕ) (a : VerifierState) (v :
   pub claim : a .closed ≡ true → v .claim ≡ claimOf p T cs (a .round)
 
 -- the sums with one item more, field by field
-more-f : (p : ℕ) (s : Start) (cs : List ℕ) (k x sum now : ℕ) (plain : Bool) (twists challenges : List ℕ) (rounds taken : ℕ)
-    → sum ≡ now → plain ≡ s .plain → twists ≡ s .twists → challenges ≡ fifteen (s .rounds) cs → rounds ≡ s .rounds → taken ≡ k
-    → addMod p sum (mulMod p (cond plain x (mulMod p x (weight p (at twists) rounds taken))) (weight p (at challenges) rounds taken))
+pub more-f : (p : ℕ) (s : Start) (cs : List ℕ) (k x sum now : ℕ) (start : Start) (challenges : List ℕ) (taken : ℕ)
+    → sum ≡ now → start ≡ s → challenges ≡ fifteen (s .rounds) cs → taken ≡ k
+    → addMod p sum (mulMod p (entersAs p start taken x) (weight p (at challenges) (start .rounds) taken))
     ≡ addMod p now (mulMod p (entersAs p s k x) (weight p (at (fifteen (s .rounds) cs)) (s .rounds) k))
-more-f p s cs k x sum now plain twists challenges rounds taken a b c d e f = rw (a, b, c, d, e, f)
+more-f p s cs k x sum now start challenges taken a b c d = rw (a, b, c, d)
 
-more-g : (p : ℕ) (s : Start) (cs : List ℕ) (k x sum now : ℕ) (challenges : List ℕ) (rounds taken : ℕ)
-    → sum ≡ now → challenges ≡ fifteen (s .rounds) cs → rounds ≡ s .rounds → taken ≡ k
-    → addMod p sum (mulMod p x (weight p (at challenges) rounds taken))
+pub more-g : (p : ℕ) (s : Start) (cs : List ℕ) (k x sum now : ℕ) (start : Start) (challenges : List ℕ) (taken : ℕ)
+    → sum ≡ now → start ≡ s → challenges ≡ fifteen (s .rounds) cs → taken ≡ k
+    → addMod p sum (mulMod p x (weight p (at challenges) (start .rounds) taken))
     ≡ addMod p now (mulMod p x (weight p (at (fifteen (s .rounds) cs)) (s .rounds) k))
-more-g p s cs k x sum now challenges rounds taken a b c d = rw (a, b, c, d)
+more-g p s cs k x sum now start challenges taken a b c d = rw (a, b, c, d)
 
-closed-formed : (v : Verifier) (claim : ℕ) → wellFormed v ≡ true → v .closed ≡ false → eqb (v .taken) (v .items) ≡ true
+closed-formed : (v : Verifier) (claim : ℕ) → wellFormed v ≡ true → v .closed ≡ false → eqb (v .taken) (v .start .items) ≡ true
     → wellFormed (closedWith v claim) ≡ true
 unfolding closedWith
 closed-formed v claim formed unclosed whole =
@@ -77,7 +80,7 @@ closed-formed v claim formed unclosed whole =
     formed-of (closedWith v claim)
     (record { count = parts .count; rounds = parts .rounds; turn = closed-turn (closedWith v claim) refl whole (omega arith) })
 
-passed-formed : (p : ℕ) (v : Verifier) (m : Message) → wellFormed v ≡ true → v .closed ≡ true → v .round < v .rounds
+passed-formed : (p : ℕ) (v : Verifier) (m : Message) → wellFormed v ≡ true → v .closed ≡ true → v .round < v .start .rounds
     → wellFormed (passedWith p v m) ≡ true
 unfolding passedWith
 passed-formed p v m formed closed less =
@@ -96,8 +99,8 @@ passes-heard p v m e = ap (heardAs p v m) (eq-eqb (passes p m) (v .claim) e)
 finds-yes : (p : ℕ) (v : Verifier) → v .failed ≡ false → v .claim ≡ mulMod p (v .fsum) (v .gsum) → finds p v ≡ yes
 unfolding finds
 finds-yes p v going e =
-    ap (λ b. cond b (no (v .round)) (cond (eqb (v .claim) (mulMod p (v .fsum) (v .gsum))) yes (no (v .rounds)))) going
-    ∙ ap (λ b. cond b yes (no (v .rounds))) (eq-eqb (v .claim) (mulMod p (v .fsum) (v .gsum)) e)
+    ap (λ b. cond b (no (v .round)) (cond (eqb (v .claim) (mulMod p (v .fsum) (v .gsum))) yes (no (v .start .rounds)))) going
+    ∙ ap (λ b. cond b yes (no (v .start .rounds))) (eq-eqb (v .claim) (mulMod p (v .fsum) (v .gsum)) e)
 
 module _ (p : ℕ) (T : Trip) (cs : List ℕ) where
   abbrev n : ℕ
@@ -108,9 +111,9 @@ module _ (p : ℕ) (T : Trip) (cs : List ℕ) where
     carries = rw (f .start, f .challenges) at (f .stands .carries)
 
     -- AN ITEM
-    pub item-follows : (x : Raw) → x ≡ itemOf T (length (a .items)) → Fine p (T .start .plain) x → a .closed ≡ false
-        → Stands p (takesItem a x) (oneMore p v (partsIn p x .f) (partsIn p x .g))
-        → Follows p T cs (takesItem a x) (oneMore p v (partsIn p x .f) (partsIn p x .g))
+    pub item-follows : (x : Given) → x ≡ itemOf T (length (a .items)) → Fine p (T .start .plain) x → a .closed ≡ false
+        → Stands p (takesItem a x) (oneMore p v (contributes p (v .start) x .f) (contributes p (v .start) x .g))
+        → Follows p T cs (takesItem a x) (oneMore p v (contributes p (v .start) x .f) (contributes p (v .start) x .g))
     unfolding oneMore entering
     item-follows x e fits unclosed stands =
         let c = carries in
@@ -121,14 +124,12 @@ module _ (p : ℕ) (T : Trip) (cs : List ℕ) where
           challenges = f .challenges;
           fine = below-suc (λ i. Fine p (T .start .plain) (itemOf T i)) k (f .fine) (subst (Fine p (T .start .plain)) e fits);
           fsum =
-              more-f p (T .start) cs k (partsIn p x .f) (v .fsum) _ (v .plain) (v .twists) (v .challenges) (v .rounds) (v .taken) (f .fsum) (c .plain)
-              (c .twists) (c .challenges) (c .rounds) (c .taken)
-              ∙ ap (λ y. addMod p (weighted p (kept T cs) n (entersF p T) k) (mulMod p (entersAs p (T .start) k (partsIn p y .f)) (weight p (kept T cs) n k))) e
+              more-f p (T .start) cs k (contributes p (v .start) x .f) (v .fsum) _ (v .start) (v .challenges) (v .taken) (f .fsum) (c .start) (c .challenges) (c .taken)
+              ∙ ap₂ (λ st y. addMod p (weighted p (kept T cs) n (entersF p T) k) (mulMod p (entersAs p (T .start) k (contributes p st y .f)) (weight p (kept T cs) n k))) (c .start) e
               ∙ weighted-step p (kept T cs) n (entersF p T) k;
           gsum =
-              more-g p (T .start) cs k (partsIn p x .g) (v .gsum) _ (v .challenges) (v .rounds) (v .taken) (f .gsum) (c .challenges) (c .rounds)
-              (c .taken)
-              ∙ ap (λ y. addMod p (weighted p (kept T cs) n (entersG p T) k) (mulMod p (partsIn p y .g) (weight p (kept T cs) n k))) e
+              more-g p (T .start) cs k (contributes p (v .start) x .g) (v .gsum) _ (v .start) (v .challenges) (v .taken) (f .gsum) (c .start) (c .challenges) (c .taken)
+              ∙ ap₂ (λ st y. addMod p (weighted p (kept T cs) n (entersG p T) k) (mulMod p (contributes p st y .g) (weight p (kept T cs) n k))) (c .start) e
               ∙ weighted-step p (kept T cs) n (entersG p T) k;
           going = f .going;
           claim = λ closed. absurd (true≢false (sym closed ∙ unclosed));
@@ -162,7 +163,7 @@ module _ (p : ℕ) (T : Trip) (cs : List ℕ) where
     close-follows claim e unclosed whole =
         let s = f .stands in
         let c = s .carries in
-        let formed = closed-formed v claim (c .formed) (s .closed ∙ unclosed) (ap₂ eqb (c .taken) (c .items) ∙ whole) in
+        let formed = closed-formed v claim (c .formed) (s .closed ∙ unclosed) (ap₂ eqb (c .taken) (ap (λ s. s .items) (c .start)) ∙ whole) in
         follows-at (closedWith v claim) 0
         (subst (λ b. Stands p (atRound a 0 b) (closedWith v claim)) (f .going)
         (subst (λ i. Stands p (atRound a i (a .refuted)) (closedWith v claim)) (no-message unclosed)
@@ -184,12 +185,12 @@ module _ (p : ℕ) (T : Trip) (cs : List ℕ) where
           let c = carries in
           let same = s .going (f .going) .1 in
           let heard = message-passed m e closed less in
-          let formed : wellFormed (passedWith p v m) ≡ true = passed-formed p v m (c .formed) (s .closed ∙ closed) (omega (arith, same, c .rounds)) in
-          let stands : Stands p (hearing a (toldOf (hears p v m .answer))) (hears p v m .verifier) =
-          message-stands p a v s m closed (f .going) (subst (λ (x : Step). wellFormed (x .verifier) ≡ true) (sym heard) formed) in (
+          let formed : wellFormed (passedWith p v m) ≡ true = passed-formed p v m (c .formed) (s .closed ∙ closed) (omega (arith, same, ap (λ s. s .rounds) (c .start))) in
+          let stands : Stands p (hearing a (replies (hears p v m .reply))) (hears p v m .verifier) =
+          message-stands p a v s m closed (f .going) (subst (λ (x : Replied). wellFormed (x .verifier) ≡ true) (sym heard) formed) in (
             heard,
             follows-at (passedWith p v m) (suc (a .round))
-                (subst (λ (x : Step). Stands p (hearing a (toldOf (x .answer))) (x .verifier)) heard stands) refl refl
+                (subst (λ (x : Replied). Stands p (hearing a (replies (x .reply))) (x .verifier)) heard stands) refl refl
                 (ap₂ (nextClaim p) e (ap₂ at (c .challenges) same ∙ fifteen-at n cs few (omega arith) (a .round) less)
                 ∙ message-next p n (at cs) (vectorF p T) (vectorG p T) (a .round)),
           )
@@ -199,7 +200,7 @@ module _ (p : ℕ) (T : Trip) (cs : List ℕ) where
         pub all-taken : a .closed ≡ true → length (a .items) ≡ T .start .items
         all-taken closed =
             let c = carries in
-            sym (c .taken) ∙ eqb-true (v .taken) (v .items) (closed-taken v (parts-of v (c .formed) .turn) (f .stands .closed ∙ closed)) ∙ c .items
+            sym (c .taken) ∙ eqb-true (v .taken) (v .start .items) (closed-taken v (parts-of v (c .formed) .turn) (f .stands .closed ∙ closed)) ∙ ap (λ s. s .items) (c .start)
 
         pub ends-own : length (a .items) ≡ T .start .items
             → (v .fsum ≡ endValue p (at cs) n (vectorF p T)) × (v .gsum ≡ endValue p (at cs) n (vectorG p T))
@@ -217,10 +218,10 @@ module _ (p : ℕ) (T : Trip) (cs : List ℕ) where
             ∙ sym (ap₂ (mulMod p) (ends .0) (ends .1)))
 
         pub verdict-follows : a .closed ≡ true → a .round ≡ n → verdictTurn v ≡ true
-            → Follows p T cs (hearing a (toldVerdict (answered (finds p v)))) v
+            → Follows p T cs (hearing a (said.finds (finds p v))) v
         verdict-follows closed last turn =
             let yes-said = verdict-yes closed last in
             let stands = verdict-stands p a v (f .stands .carries) turn in
-            subst (λ d. Follows p T cs (hearing a (toldVerdict (answered d))) v) (sym yes-said)
-            (follows-at v (a .start .rounds) (subst (λ d. Stands p (hearing a (toldVerdict (answered d))) v) yes-said stands) refl refl
+            subst (λ d. Follows p T cs (hearing a (said.finds d)) v) (sym yes-said)
+            (follows-at v (a .start .rounds) (subst (λ d. Stands p (hearing a (said.finds d)) v) yes-said stands) refl refl
             (f .claim closed ∙ ap (claimOf p T cs) (last ∙ ap (λ s. s .rounds) (sym (f .start)))))

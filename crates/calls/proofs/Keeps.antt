@@ -14,7 +14,6 @@ use Rattle.refusal.specs.Limit.{maxWeight}
 use Rattle.vector.specs.Vector.{Vector, at}
 use Rattle.vector.specs.Rounds.{size}
 use Rattle.vector.specs.Fold.{fold, endValue}
-use Rattle.vector.specs.Message.{Message}
 use Rattle.prover.specs.declared.Mode.{Mode}
 use Rattle.prover.specs.declared.Mode.the-variants.{Small, Full}
 use Rattle.prover.specs.declared.Next.{Next}
@@ -24,24 +23,26 @@ use Rattle.prover.specs.declared.Kind.the-variants.{Shut, Asked, Change}
 use Rattle.prover.specs.declared.Run.{Run}
 use Rattle.prover.specs.declared.Pass.{Pass}
 use Rattle.prover.specs.declared.Step.{Step}
-use Rattle.prover.specs.declared.Answer.{Answer}
-use Rattle.prover.specs.declared.Answer.the-variants as answer
+use Rattle.refusal.specs.Outcome.{Outcome, answered}
+use Rattle.prover.specs.Reply.{Reply, answerIn}
+use Rattle.prover.specs.Reply as reply
+use Rattle.prover.specs.Order.{roundOrEnds}
 use Rattle.prover.specs.WellFormed.{roundFits, kindFits}
-use Rattle.runs.specs.Trip.{Raw, Trip, itemOf, vectorF, vectorG, totalOf}
+use Rattle.item.specs.declared.Given.{Given}
+use Rattle.runs.specs.Trip.{Trip, itemOf, vectorF, vectorG, totalOf}
 use Rattle.runs.specs.Passes.{passAfter, Gives}
 use Rattle.runs.specs.Buffers.{Written}
 use Rattle.calls.specs.declared.Call.the-variants as call
 use Rattle.calls.specs.Step.{Lent, Result}
-use Rattle.calls.specs.State as state
-use Rattle.calls.specs.State.{State, inPass, goesTo, withBuffers, inFullMode, takesChallenge, buffersIn, closed, noting, noted, isChange, isFull}
-use Rattle.calls.specs.Table.{isOpen, isSmall, waits, changeNext, levelNow, level, long, table}
-use Rattle.calls.specs.Meaning.{reply, roundMessage, ends, closeAsks, messagesTo, foldF, foldG, completed, pairsTaken, AsLeft, itemWrites}
-use Rattle.calls.specs.Statement.{taken, knownIn, known}
-use Rattle.calls.proofs.Records.{runOf, passOf}
+use Rattle.calls.specs.State.{isChange, isFull, isOpen, isSmall, State, inPass, goesTo, withBuffers, inFullMode, takesChallenge, buffersIn, closed}
+use Rattle.calls.specs.Table.{waits, changeNext, levelNow, level, long, taken, completed, table}
+use Rattle.calls.specs.Meaning.{meant, roundMessage, ends, closeAsks, messagesTo, foldF, foldG, AsLeft, itemWrites}
+use Rattle.calls.specs.Statement.{known}
+use Rattle.calls.proofs.Records.{Notes, noted, runOf, passOf}
 use Rattle.calls.proofs.Steps.{row-passed, closeStep, does}
 use Rattle.calls.proofs.Fits.{givenAt, Fits}
 use Rattle.calls.proofs.Turns.{both}
-use Rattle.calls.proofs.Agrees.{tripAt, Agrees, messages-before, old-challenges, enough}
+use Rattle.calls.proofs.Agrees.{tripAt, knownIn, Agrees, messages-before, old-challenges, enough}
 use Rattle.calls.proofs.AnswerParts.{numbersIn, totalIn}
 use Rattle.calls.proofs.Rights.{right, challenge-level}
 
@@ -73,7 +74,7 @@ from-where false h low f j lo hi = absurd (omega arith)
 no-place : (h k j : ℕ) → k ≡ h → k ≤ j → j < h → ⊥
 no-place h k j e lo hi = omega arith
 
-given-round : (i n : ℕ) → (givenAt i (state.roundOrEnds i n) ≡ i) × (waits next.Openings (state.roundOrEnds i n) ≡ false)
+given-round : (i n : ℕ) → (givenAt i (roundOrEnds i n) ≡ i) × (waits next.Openings (roundOrEnds i n) ≡ false)
 given-round i n = by (ltb i n)
   where
     by : (b : Bool) → (givenAt i (cond b next.Message next.Ends) ≡ i) × (waits next.Openings (cond b next.Message next.Ends) ≡ false)
@@ -92,20 +93,20 @@ no-items-given : (T : Trip) → Gives T []
 no-items-given T q h = absurd (omega arith)
 
 -- one item more of the trip
-one-given : (T : Trip) (x : Raw) (xs : List Raw) → length xs < T .start .items → x ≡ itemOf T (T .start .items - 1 - length xs) → Gives T xs → Gives T (x ∷ xs)
+one-given : (T : Trip) (x : Given) (xs : List Given) → length xs < T .start .items → x ≡ itemOf T (T .start .items - 1 - length xs) → Gives T xs → Gives T (x ∷ xs)
 one-given T x xs l e gives zero h = e ∙ ap (itemOf T) (let q : T .start .items - 1 - length xs ≡ T .start .items - suc (length xs) + 0 = omega arith in q)
 one-given T x xs l e gives (suc q) h =
     gives q (omega arith) ∙ ap (itemOf T) (let r : T .start .items - length xs + q ≡ T .start .items - suc (length xs) + suc q = omega arith in r)
 
-module _ (p : ℕ) (large : maxWeight < p) (through : Bool) (its : List Raw) (a : State) (h : Fits p a) (g : Agrees p through its a)
+module _ (p : ℕ) (large : maxWeight < p) (through : Bool) (its : List Given) (a : State) {past : Notes} (h : Fits p a past) (g : Agrees p through its a past)
     (whole : length its ≡ a .start .items) (l : Lent) where
   abbrev T : Trip
   T = tripAt its a
 
   -- A PASS IS OPENED
-  pub opened-agrees : (b : ℕ) → isSmall (a .mode) ≡ true → Agrees p through its (inPass a Asked b [])
+  pub opened-agrees : (b : ℕ) → isSmall (a .turn .mode) ≡ true → Agrees p through its (inPass a Asked b []) past
   opened-agrees b s =
-      let none = small-none (long a) (taken (inPass a Asked b []) / 2 ^ level a) (a .mode) Asked (waits next.Openings (a .next)) through s refl in
+      let none = small-none (long a) (taken (inPass a Asked b []) / 2 ^ level a) (a .turn .mode) Asked (waits next.Openings (a .turn .next)) through s refl in
       record {
         gives = no-items-given T;
         placesF = λ j lo hi. absurd (no-place (long a) _ j none lo hi);
@@ -115,20 +116,20 @@ module _ (p : ℕ) (large : maxWeight < p) (through : Bool) (its : List Raw) (a 
         ends = g .ends;
       }
 
-  pub to-full-agrees : table p a call.ToFull l ≡ none → (let o : Result = does p (runOf a) (passOf p a) call.ToFull l in Agrees p through its (withBuffers (inPass a Change 0 []) (o .lent)))
+  pub to-full-agrees : table p a call.ToFull l ≡ none → (let o : Result = does p (runOf a past) (passOf p a past) call.ToFull l in Agrees p through its (withBuffers (inPass a Change 0 []) (o .lent)) past)
   unfolding table
   to-full-agrees e =
-      let o : Result = does p (runOf a) (passOf p a) call.ToFull l in
+      let o : Result = does p (runOf a past) (passOf p a past) call.ToFull l in
       let b : State = withBuffers (inPass a Change 0 []) (o .lent) in
-      let s = both (isSmall (a .mode)) _ (row-passed (changeNext (a .mode) (a .next) (a .start .rounds)) 10 _ e .0) .0 in
+      let s = both (isSmall (a .turn .mode)) _ (row-passed (changeNext (a .turn .mode) (a .turn .next) (a .start .rounds)) 10 _ e .0) .0 in
       let r = right p large through its a h g whole l call.ToFull e tt in
-      let k = small-change (long a) (taken b / 2 ^ level a) (a .mode) (waits next.Openings (a .next)) through s in
-      let low : long a - taken b / 2 ^ level a ≡ long a - completed p T a (2 ^ a .start .rounds - a .start .items) =
+      let k = small-change (long a) (taken b / 2 ^ level a) (a .turn .mode) (waits next.Openings (a .turn .next)) through s in
+      let low : long a - taken b / 2 ^ level a ≡ long a - completed a (2 ^ a .start .rounds - a .start .items) =
       ap (λ t. long a - t / 2 ^ level a) (let q : taken b ≡ 2 ^ a .start .rounds - a .start .items = omega arith in q) in
       record {
         gives = no-items-given T;
-        placesF = λ j lo hi. from-where {P = λ j. at (b .f) j ≡ foldF p T b j} (through || not (waits next.Openings (a .next))) (long a) (long a - taken b / 2 ^ level a) (λ t j lo hi. r .f .wrote j (omega (arith, low)) hi) j (omega (arith, k)) hi;
-        placesG = λ j lo hi. from-where {P = λ j. at (b .g) j ≡ foldG p T b j} (through || not (waits next.Openings (a .next))) (long a) (long a - taken b / 2 ^ level a) (λ t j lo hi. r .g .wrote j (omega (arith, low)) hi) j (omega (arith, k)) hi;
+        placesF = λ j lo hi. from-where {P = λ j. at (b .buffers .f) j ≡ foldF p T b j} (through || not (waits next.Openings (a .turn .next))) (long a) (long a - taken b / 2 ^ level a) (λ t j lo hi. r .f .wrote j (omega (arith, low)) hi) j (omega (arith, k)) hi;
+        placesG = λ j lo hi. from-where {P = λ j. at (b .buffers .g) j ≡ foldG p T b j} (through || not (waits next.Openings (a .turn .next))) (long a) (long a - taken b / 2 ^ level a) (λ t j lo hi. r .g .wrote j (omega (arith, low)) hi) j (omega (arith, k)) hi;
         total = g .total;
         messages = g .messages;
         ends = g .ends;
@@ -144,17 +145,17 @@ module _ (p : ℕ) (large : maxWeight < p) (through : Bool) (its : List Raw) (a 
       by true e = w .wrote j lo (ltb-true j to e)
       by false e = w .above j (ltb-false j to e) ∙ left j hi ∙ known j (ltb-false j to e) hi
 
-  pub item-agrees : (x : Raw) (o : Lent) (k : Kind) → a .kind ≡ k → isOpen k ≡ true → length (a .items) < a .start .items → x ≡ itemOf T (a .start .items - 1 - length (a .items))
-      → kindFits k (a .mode) (a .next) ≡ true → ((isChange k && (through || not (waits next.Openings (a .next)))) ≡ true → AsLeft p T a l)
-      → Written (foldF p T a) (itemWrites p T a k .0) (itemWrites p T a k .1) (l .f) (o .f)
-      → Written (foldG p T a) (itemWrites p T a k .0) (itemWrites p T a k .1) (l .g) (o .g)
-      → Agrees p through its (buffersIn (isChange k) (inPass a k (a .point) (x ∷ a .items)) o)
+  pub item-agrees : (x : Given) (o : Lent) (k : Kind) → a .pass .kind ≡ k → isOpen k ≡ true → length (a .pass .items) < a .start .items → x ≡ itemOf T (a .start .items - 1 - length (a .pass .items))
+      → kindFits k (a .turn .mode) (a .turn .next) ≡ true → ((isChange k && (through || not (waits next.Openings (a .turn .next)))) ≡ true → AsLeft a l)
+      → Written (foldF p T a) (itemWrites a k .0) (itemWrites a k .1) (l .f) (o .f)
+      → Written (foldG p T a) (itemWrites a k .0) (itemWrites a k .1) (l .g) (o .g)
+      → Agrees p through its (buffersIn (isChange k) (inPass a k (a .pass .point) (x ∷ a .pass .items)) o) past
   item-agrees x o Shut ek op more e fit kept wf wg = absurd (true≢false (sym op))
   item-agrees x o Asked ek op more e fit kept wf wg =
-      let b : State = inPass a Asked (a .point) (x ∷ a .items) in
-      let none = small-none (long a) (taken b / 2 ^ level a) (a .mode) Asked (waits next.Openings (a .next)) through (small-asked (a .mode) (a .next) fit) refl in
+      let b : State = inPass a Asked (a .pass .point) (x ∷ a .pass .items) in
+      let none = small-none (long a) (taken b / 2 ^ level a) (a .turn .mode) Asked (waits next.Openings (a .turn .next)) through (small-asked (a .turn .mode) (a .turn .next) fit) refl in
       record {
-        gives = one-given T x (a .items) more e (g .gives);
+        gives = one-given T x (a .pass .items) more e (g .gives);
         placesF = λ j lo hi. absurd (no-place (long a) _ j none lo hi);
         placesG = λ j lo hi. absurd (no-place (long a) _ j none lo hi);
         total = g .total;
@@ -162,22 +163,22 @@ module _ (p : ℕ) (large : maxWeight < p) (through : Bool) (its : List Raw) (a 
         ends = g .ends;
       }
   item-agrees x o Change ek op more e fit kept wf wg =
-      let b : State = withBuffers (inPass a Change (a .point) (x ∷ a .items)) o in
-      let s = small-changing (a .mode) (a .next) fit in
-      let test : Bool = through || not (waits next.Openings (a .next)) in
-      let k = small-change (long a) (taken b / 2 ^ level a) (a .mode) (waits next.Openings (a .next)) through s in
+      let b : State = withBuffers (inPass a Change (a .pass .point) (x ∷ a .pass .items)) o in
+      let s = small-changing (a .turn .mode) (a .turn .next) fit in
+      let test : Bool = through || not (waits next.Openings (a .turn .next)) in
+      let k = small-change (long a) (taken b / 2 ^ level a) (a .turn .mode) (waits next.Openings (a .turn .next)) through s in
       let was : known through a ≡ cond test (long a - taken a / 2 ^ level a) (long a) =
-      ap (λ c. knownIn (long a) (taken a / 2 ^ level a) (a .mode) c (waits next.Openings (a .next)) through) ek
-      ∙ small-change (long a) (taken a / 2 ^ level a) (a .mode) (waits next.Openings (a .next)) through s in
-      let low : long a - taken b / 2 ^ level a ≡ long a - completed p T a (suc (pairsTaken p T a)) =
-      ap (λ t. long a - t / 2 ^ level a) (let q : taken b ≡ suc (pairsTaken p T a) = omega arith in q) in
+      ap (λ c. knownIn (long a) (taken a / 2 ^ level a) (a .turn .mode) c (waits next.Openings (a .turn .next)) through) ek
+      ∙ small-change (long a) (taken a / 2 ^ level a) (a .turn .mode) (waits next.Openings (a .turn .next)) through s in
+      let low : long a - taken b / 2 ^ level a ≡ long a - completed a (suc (taken a)) =
+      ap (λ t. long a - t / 2 ^ level a) (let q : taken b ≡ suc (taken a) = omega arith in q) in
       record {
-        gives = one-given T x (a .items) more e (g .gives);
-        placesF = λ j lo hi. from-where {P = λ j. at (b .f) j ≡ foldF p T b j} test (long a) (long a - taken b / 2 ^ level a)
-            (λ t j lo hi. kept-or-new (foldF p T a) _ _ (a .f) (l .f) (o .f) wf (λ j hi. kept t j hi .0)
+        gives = one-given T x (a .pass .items) more e (g .gives);
+        placesF = λ j lo hi. from-where {P = λ j. at (b .buffers .f) j ≡ foldF p T b j} test (long a) (long a - taken b / 2 ^ level a)
+            (λ t j lo hi. kept-or-new (foldF p T a) _ _ (a .buffers .f) (l .f) (o .f) wf (λ j hi. kept t j hi .0)
             (λ j lo hi. g .placesF j (omega (arith, was ∙ ap (λ b. cond b (long a - taken a / 2 ^ level a) (long a)) t)) hi) j (omega (arith, low)) hi) j (omega (arith, k)) hi;
-        placesG = λ j lo hi. from-where {P = λ j. at (b .g) j ≡ foldG p T b j} test (long a) (long a - taken b / 2 ^ level a)
-            (λ t j lo hi. kept-or-new (foldG p T a) _ _ (a .g) (l .g) (o .g) wg (λ j hi. kept t j hi .1)
+        placesG = λ j lo hi. from-where {P = λ j. at (b .buffers .g) j ≡ foldG p T b j} test (long a) (long a - taken b / 2 ^ level a)
+            (λ t j lo hi. kept-or-new (foldG p T a) _ _ (a .buffers .g) (l .g) (o .g) wg (λ j hi. kept t j hi .1)
             (λ j lo hi. g .placesG j (omega (arith, was ∙ ap (λ b. cond b (long a - taken a / 2 ^ level a) (long a)) t)) hi) j (omega (arith, low)) hi) j (omega (arith, k)) hi;
         total = g .total;
         messages = g .messages;
@@ -186,30 +187,30 @@ module _ (p : ℕ) (large : maxWeight < p) (through : Bool) (its : List Raw) (a 
 
   -- A PASS IS CLOSED
   abbrev R : Run
-  R = runOf a
+  R = runOf a past
 
   -- in small mode, no pass open
-  still-none : (b : State) → b .mode ≡ a .mode → b .kind ≡ Shut → isSmall (a .mode) ≡ true → known through b ≡ long b
+  still-none : (b : State) → b .turn .mode ≡ a .turn .mode → b .pass .kind ≡ Shut → isSmall (a .turn .mode) ≡ true → known through b ≡ long b
   still-none b em ek s =
-      ap₂ (λ m k. knownIn (long b) (taken b / 2 ^ level b) m k (waits next.Openings (b .next)) through) em ek
-      ∙ small-none (long b) (taken b / 2 ^ level b) (a .mode) Shut (waits next.Openings (b .next)) through s refl
+      ap₂ (λ m k. knownIn (long b) (taken b / 2 ^ level b) m k (waits next.Openings (b .turn .next)) through) em ek
+      ∙ small-none (long b) (taken b / 2 ^ level b) (a .turn .mode) Shut (waits next.Openings (b .turn .next)) through s refl
 
-  total-agrees : (plain : Bool) → a .start .plain ≡ plain → a .next ≡ next.Total → isSmall (a .mode) ≡ true → (z : ℤ) (d : ℕ) → (plain ≡ true → z ≡ totalOf T)
-      → Agrees p through its (noted (goesTo a (state.roundOrEnds 0 (a .start .rounds))) (cond plain (answer.Total z) (answer.FieldTotal d)))
+  total-agrees : (plain : Bool) → a .start .plain ≡ plain → a .turn .next ≡ next.Total → isSmall (a .turn .mode) ≡ true → (z : ℤ) (d : ℕ) → (plain ≡ true → z ≡ totalOf T)
+      → Agrees p through its (goesTo a (roundOrEnds 0 (a .start .rounds))) (noted past (cond plain (answered (reply.total z)) (answered (reply.fieldTotal d))))
   total-agrees plain ep et s z d e =
-      let none-yet : length (a .challenges) ≡ 0 = eqb-true _ _ (subst (λ t. roundFits t (length (a .challenges)) (a .start .rounds) ≡ true) et (h .run .round)) in
+      let none-yet : length (a .turn .challenges) ≡ 0 = eqb-true _ _ (subst (λ t. roundFits t (length (a .turn .challenges)) (a .start .rounds) ≡ true) et (h .run .round)) in
       let q = given-round 0 (a .start .rounds) in
-      let messages : a .messages ≡ messagesTo p T (a .challenges) (givenAt (length (a .challenges)) (state.roundOrEnds 0 (a .start .rounds))) =
-      g .messages ∙ ap (λ t. messagesTo p T (a .challenges) (givenAt (length (a .challenges)) t)) et
-      ∙ ap (messagesTo p T (a .challenges)) (sym (q .0) ∙ ap (λ i. givenAt i (state.roundOrEnds 0 (a .start .rounds))) (sym none-yet)) in
+      let messages : past .messages ≡ messagesTo p T (a .turn .challenges) (givenAt (length (a .turn .challenges)) (roundOrEnds 0 (a .start .rounds))) =
+      g .messages ∙ ap (λ t. messagesTo p T (a .turn .challenges) (givenAt (length (a .turn .challenges)) t)) et
+      ∙ ap (messagesTo p T (a .turn .challenges)) (sym (q .0) ∙ ap (λ i. givenAt i (roundOrEnds 0 (a .start .rounds))) (sym none-yet)) in
       by plain ep e messages (q .1)
     where
       by : (plain : Bool) → a .start .plain ≡ plain → (plain ≡ true → z ≡ totalOf T)
-          → a .messages ≡ messagesTo p T (a .challenges) (givenAt (length (a .challenges)) (state.roundOrEnds 0 (a .start .rounds)))
-          → waits next.Openings (state.roundOrEnds 0 (a .start .rounds)) ≡ false
-          → Agrees p through its (noted (goesTo a (state.roundOrEnds 0 (a .start .rounds))) (cond plain (answer.Total z) (answer.FieldTotal d)))
+          → past .messages ≡ messagesTo p T (a .turn .challenges) (givenAt (length (a .turn .challenges)) (roundOrEnds 0 (a .start .rounds)))
+          → waits next.Openings (roundOrEnds 0 (a .start .rounds)) ≡ false
+          → Agrees p through its (goesTo a (roundOrEnds 0 (a .start .rounds))) (noted past (cond plain (answered (reply.total z)) (answered (reply.fieldTotal d))))
       by true ep e messages later =
-          let b : State = noting (goesTo a (state.roundOrEnds 0 (a .start .rounds))) z (a .messages) (a .fend) (a .gend) in
+          let b : State = goesTo a (roundOrEnds 0 (a .start .rounds)) in
           let none = still-none b refl refl s in
           record {
             gives = no-items-given T;
@@ -220,7 +221,7 @@ module _ (p : ℕ) (large : maxWeight < p) (through : Bool) (its : List Raw) (a 
             ends = λ w. absurd (true≢false (sym w ∙ later));
           }
       by false ep e messages later =
-          let b : State = goesTo a (state.roundOrEnds 0 (a .start .rounds)) in
+          let b : State = goesTo a (roundOrEnds 0 (a .start .rounds)) in
           let none = still-none b refl refl s in
           record {
             gives = no-items-given T;
@@ -232,19 +233,16 @@ module _ (p : ℕ) (large : maxWeight < p) (through : Bool) (its : List Raw) (a 
           }
 
   -- a message was given: in small mode with the close, in full mode by its own call
-  abbrev afterMessage : ℕ → ℕ → ℕ → State
-  afterMessage even cross odd = noted (goesTo a next.Challenge) (answer.Message even cross odd)
-
-  message-kept : a .next ≡ next.Message → (even cross odd : ℕ) → answer.Message even cross odd ≡ reply p T (a .challenges) (roundMessage (length (a .challenges))) .answer
-      → a .messages ++ even ∷ cross ∷ odd ∷ [] ≡ messagesTo p T (a .challenges) (suc (length (a .challenges)))
+  message-kept : a .turn .next ≡ next.Message → (even cross odd : ℕ) → answered (reply.message even cross odd) ≡ meant p T (a .turn .challenges) (roundMessage (length (a .turn .challenges))) .answer
+      → past .messages ++ even ∷ cross ∷ odd ∷ [] ≡ messagesTo p T (a .turn .challenges) (suc (length (a .turn .challenges)))
   unfolding messagesTo
   message-kept et even cross odd e =
-      ap₂ _++_ (g .messages ∙ ap (λ t. messagesTo p T (a .challenges) (givenAt (length (a .challenges)) t)) et) (ap numbersIn e)
+      ap₂ _++_ (g .messages ∙ ap (λ t. messagesTo p T (a .turn .challenges) (givenAt (length (a .turn .challenges)) t)) et) (ap numbersIn e)
 
-  small-message : a .next ≡ next.Message → isSmall (a .mode) ≡ true → (even cross odd : ℕ) → answer.Message even cross odd ≡ reply p T (a .challenges) (roundMessage (length (a .challenges))) .answer
-      → Agrees p through its (afterMessage even cross odd)
+  small-message : a .turn .next ≡ next.Message → isSmall (a .turn .mode) ≡ true → (even cross odd : ℕ) → answered (reply.message even cross odd) ≡ meant p T (a .turn .challenges) (roundMessage (length (a .turn .challenges))) .answer
+      → Agrees p through its (goesTo a next.Challenge) (noted past (answered (reply.message even cross odd)))
   small-message et s even cross odd e =
-      let b : State = afterMessage even cross odd in
+      let b : State = goesTo a next.Challenge in
       let none = still-none b refl refl s in
       record {
         gives = no-items-given T;
@@ -256,25 +254,25 @@ module _ (p : ℕ) (large : maxWeight < p) (through : Bool) (its : List Raw) (a 
       }
 
   -- the ends were given
-  ends-kept : (x y : ℕ) → answer.Ends x y ≡ reply p T (a .challenges) ends .answer
-      → (x ≡ endValue p (at (a .challenges)) (a .start .rounds) (vectorF p T)) × (y ≡ endValue p (at (a .challenges)) (a .start .rounds) (vectorG p T))
+  ends-kept : (x y : ℕ) → answered (reply.ends x y) ≡ meant p T (a .turn .challenges) ends .answer
+      → (x ≡ endValue p (at (a .turn .challenges)) (a .start .rounds) (vectorF p T)) × (y ≡ endValue p (at (a .turn .challenges)) (a .start .rounds) (vectorG p T))
   ends-kept x y e = (ap (λ z. at (numbersIn z) 0) e, ap (λ z. at (numbersIn z) 1) e)
 
-  small-ends : a .next ≡ next.Ends → isSmall (a .mode) ≡ true → (x y : ℕ) → answer.Ends x y ≡ reply p T (a .challenges) ends .answer
-      → Agrees p through its (noted (goesTo a next.Openings) (answer.Ends x y))
+  small-ends : a .turn .next ≡ next.Ends → isSmall (a .turn .mode) ≡ true → (x y : ℕ) → answered (reply.ends x y) ≡ meant p T (a .turn .challenges) ends .answer
+      → Agrees p through its (goesTo a next.Openings) (noted past (answered (reply.ends x y)))
   small-ends et s x y e =
-      let b : State = noted (goesTo a next.Openings) (answer.Ends x y) in
+      let b : State = goesTo a next.Openings in
       let none = still-none b refl refl s in
       record {
         gives = no-items-given T;
         placesF = λ j lo hi. absurd (no-place (long b) _ j none lo hi);
         placesG = λ j lo hi. absurd (no-place (long b) _ j none lo hi);
         total = λ plain _. g .total plain (ap (waits next.Total) et);
-        messages = g .messages ∙ ap (λ t. messagesTo p T (a .challenges) (givenAt (length (a .challenges)) t)) et;
+        messages = g .messages ∙ ap (λ t. messagesTo p T (a .turn .challenges) (givenAt (length (a .turn .challenges)) t)) et;
         ends = λ w. ends-kept x y e;
       }
 
-  small-openings : a .next ≡ next.Openings → isSmall (a .mode) ≡ true → Agrees p through its (goesTo a next.Openings)
+  small-openings : a .turn .next ≡ next.Openings → isSmall (a .turn .mode) ≡ true → Agrees p through its (goesTo a next.Openings) past
   small-openings et s =
       let b : State = goesTo a next.Openings in
       let none = still-none b refl refl s in
@@ -283,26 +281,26 @@ module _ (p : ℕ) (large : maxWeight < p) (through : Bool) (its : List Raw) (a 
         placesF = λ j lo hi. absurd (no-place (long b) _ j none lo hi);
         placesG = λ j lo hi. absurd (no-place (long b) _ j none lo hi);
         total = λ plain _. g .total plain (ap (waits next.Total) et);
-        messages = g .messages ∙ ap (λ t. messagesTo p T (a .challenges) (givenAt (length (a .challenges)) t)) et;
+        messages = g .messages ∙ ap (λ t. messagesTo p T (a .turn .challenges) (givenAt (length (a .turn .challenges)) t)) et;
         ends = λ w. g .ends (ap (waits next.Openings) et);
       }
 
   -- the change is done: every place is known
-  changed : a .kind ≡ Change → kindFits Change (a .mode) (a .next) ≡ true → length (a .items) ≡ a .start .items → Agrees p through its (inFullMode a)
+  changed : a .pass .kind ≡ Change → kindFits Change (a .turn .mode) (a .turn .next) ≡ true → length (a .pass .items) ≡ a .start .items → Agrees p through its (inFullMode a) past
   changed ek fit all =
       let b : State = inFullMode a in
-      let test : Bool = through || not (waits next.Openings (a .next)) in
-      let s = small-changing (a .mode) (a .next) fit in
+      let test : Bool = through || not (waits next.Openings (a .turn .next)) in
+      let s = small-changing (a .turn .mode) (a .turn .next) fit in
       let t : taken a ≡ 2 ^ a .start .rounds = omega (arith, enough p its a h) in
       let was : known through a ≡ cond test (long a - taken a / 2 ^ level a) (long a) =
-      ap (λ c. knownIn (long a) (taken a / 2 ^ level a) (a .mode) c (waits next.Openings (a .next)) through) ek
-      ∙ small-change (long a) (taken a / 2 ^ level a) (a .mode) (waits next.Openings (a .next)) through s in
+      ap (λ c. knownIn (long a) (taken a / 2 ^ level a) (a .turn .mode) c (waits next.Openings (a .turn .next)) through) ek
+      ∙ small-change (long a) (taken a / 2 ^ level a) (a .turn .mode) (waits next.Openings (a .turn .next)) through s in
       let none-left : long a - taken a / 2 ^ level a ≡ 0 = ap (λ t. long a - t / 2 ^ level a) t ∙ (let z : long a - long a ≡ 0 = omega arith in z) in
-      let low : waits next.Openings (a .next) ≡ false → known through a ≡ 0 = λ w. was ∙ by through (waits next.Openings (a .next)) w ∙ none-left in
+      let low : waits next.Openings (a .turn .next) ≡ false → known through a ≡ 0 = λ w. was ∙ by through (waits next.Openings (a .turn .next)) w ∙ none-left in
       record {
         gives = no-items-given T;
-        placesF = λ j lo hi. openings (waits next.Openings (a .next)) refl (λ w. g .placesF j (omega (arith, low w)) hi) j lo hi;
-        placesG = λ j lo hi. openings (waits next.Openings (a .next)) refl (λ w. g .placesG j (omega (arith, low w)) hi) j lo hi;
+        placesF = λ j lo hi. openings (waits next.Openings (a .turn .next)) refl (λ w. g .placesF j (omega (arith, low w)) hi) j lo hi;
+        placesG = λ j lo hi. openings (waits next.Openings (a .turn .next)) refl (λ w. g .placesG j (omega (arith, low w)) hi) j lo hi;
         total = g .total;
         messages = g .messages;
         ends = g .ends;
@@ -313,95 +311,95 @@ module _ (p : ℕ) (large : maxWeight < p) (through : Bool) (its : List Raw) (a 
       by false true e = absurd (true≢false e)
       by false false e = refl
 
-      openings : {A : Type 0} (o : Bool) → waits next.Openings (a .next) ≡ o → (waits next.Openings (a .next) ≡ false → A) → (j : ℕ) → cond o (long a) 0 ≤ j → j < long a → A
+      openings : {A : Type 0} (o : Bool) → waits next.Openings (a .turn .next) ≡ o → (waits next.Openings (a .turn .next) ≡ false → A) → (j : ℕ) → cond o (long a) 0 ≤ j → j < long a → A
       openings true e f j lo hi = absurd (omega arith)
       openings false e f j lo hi = f e
 
-  total-answer : (plain : Bool) (z : ℤ) (d : ℕ) (x : Answer) → cond plain (answer.Total z) (answer.FieldTotal d) ≡ cond plain (answer.Total (totalOf T)) x → plain ≡ true → z ≡ totalOf T
+  total-answer : (plain : Bool) (z : ℤ) (d : ℕ) (x : Reply) → cond plain (answered (reply.total z)) (answered (reply.fieldTotal d)) ≡ answered (cond plain (reply.total (totalOf T)) x) → plain ≡ true → z ≡ totalOf T
   total-answer true z d x e w = ap totalIn e
   total-answer false z d x e w = absurd (true≢false (sym w))
 
   -- the answer of a close for the total
-  step-answer : (plain : Bool) (s t : Step) (x y : Answer) → s .answer ≡ x → t .answer ≡ y → cond plain s t .answer ≡ cond plain x y
+  step-answer : (plain : Bool) (s t : Step) (x y : Outcome Reply) → answerIn (s .answer) ≡ x → answerIn (t .answer) ≡ y → answerIn (cond plain s t .answer) ≡ cond plain x y
   step-answer true s t x y e f = e
   step-answer false s t x y e f = f
 
-  pub close-agrees : (t : Next) (k : Kind) → a .next ≡ t → a .kind ≡ k → isOpen k ≡ true → kindFits k (a .mode) t ≡ true → length (a .items) ≡ a .start .items
-      → (let st : Step = closeStep R (passAfter p R k (a .point) (a .items)) t k in
-      st .answer ≡ reply p T (a .challenges) (closeAsks a t k) .answer → Agrees p through its (noted (closed a t k) (st .answer)))
+  pub close-agrees : (t : Next) (k : Kind) → a .turn .next ≡ t → a .pass .kind ≡ k → isOpen k ≡ true → kindFits k (a .turn .mode) t ≡ true → length (a .pass .items) ≡ a .start .items
+      → (let st : Step = closeStep R (passAfter p R k (a .pass .point) (a .pass .items)) t k in
+      answerIn (st .answer) ≡ meant p T (a .turn .challenges) (closeAsks a t k) .answer → Agrees p through its (closed a t k) (noted past (answerIn (st .answer))))
   close-agrees t Shut et ek op fit all e = absurd (true≢false (sym op))
   close-agrees next.Total Asked et ek op fit all e =
-      let s : Pass = passAfter p R Asked (a .point) (a .items) in
-      let same = step-answer (a .start .plain) _ _ (answer.Total (s .total)) (answer.FieldTotal (s .dot)) refl refl in
-      subst (λ x. Agrees p through its (noted (goesTo a (state.roundOrEnds 0 (a .start .rounds))) x)) (sym same)
-      (total-agrees (a .start .plain) refl et (small-asked (a .mode) next.Total fit) (s .total) (s .dot) (total-answer (a .start .plain) (s .total) (s .dot) _ (sym same ∙ e)))
-  close-agrees next.Message Asked et ek op fit all e = small-message et (small-asked (a .mode) next.Message fit) _ _ _ e
-  close-agrees next.Challenge Asked et ek op fit all e = absurd (no-pass (a .mode) fit)
+      let s : Pass = passAfter p R Asked (a .pass .point) (a .pass .items) in
+      let same = step-answer (a .start .plain) _ _ (answered (reply.total (s .total))) (answered (reply.fieldTotal (s .dot))) refl refl in
+      subst (λ x. Agrees p through its (goesTo a (roundOrEnds 0 (a .start .rounds))) (noted past x)) (sym same)
+      (total-agrees (a .start .plain) refl et (small-asked (a .turn .mode) next.Total fit) (s .total) (s .dot) (total-answer (a .start .plain) (s .total) (s .dot) _ (sym same ∙ e)))
+  close-agrees next.Message Asked et ek op fit all e = small-message et (small-asked (a .turn .mode) next.Message fit) _ _ _ e
+  close-agrees next.Challenge Asked et ek op fit all e = absurd (no-pass (a .turn .mode) fit)
     where
       no-pass : (m : Mode) → kindFits Asked m next.Challenge ≡ true → ⊥
       no-pass Small e = true≢false (sym e)
       no-pass Full e = true≢false (sym e)
-  close-agrees next.Ends Asked et ek op fit all e = small-ends et (small-asked (a .mode) next.Ends fit) _ _ e
-  close-agrees next.Openings Asked et ek op fit all e = small-openings et (small-asked (a .mode) next.Openings fit)
-  close-agrees t Change et ek op fit all e = changed ek (subst (λ t. kindFits Change (a .mode) t ≡ true) (sym et) fit) all
+  close-agrees next.Ends Asked et ek op fit all e = small-ends et (small-asked (a .turn .mode) next.Ends fit) _ _ e
+  close-agrees next.Openings Asked et ek op fit all e = small-openings et (small-asked (a .turn .mode) next.Openings fit)
+  close-agrees t Change et ek op fit all e = changed ek (subst (λ t. kindFits Change (a .turn .mode) t ≡ true) (sym et) fit) all
 
   -- IN FULL MODE
-  full-places : (b : State) → b .mode ≡ a .mode → isFull (a .mode) ≡ true → waits next.Openings (b .next) ≡ false → known through b ≡ 0
+  full-places : (b : State) → b .turn .mode ≡ a .turn .mode → isFull (a .turn .mode) ≡ true → waits next.Openings (b .turn .next) ≡ false → known through b ≡ 0
   full-places b em f w =
-      ap (λ m. knownIn (long b) (taken b / 2 ^ level b) m (b .kind) (waits next.Openings (b .next)) through) (em ∙ is-full (a .mode) f)
-      ∙ full-some (long b) (taken b / 2 ^ level b) (b .kind) (waits next.Openings (b .next)) through
+      ap (λ m. knownIn (long b) (taken b / 2 ^ level b) m (b .pass .kind) (waits next.Openings (b .turn .next)) through) (em ∙ is-full (a .turn .mode) f)
+      ∙ full-some (long b) (taken b / 2 ^ level b) (b .pass .kind) (waits next.Openings (b .turn .next)) through
       ∙ ap (λ o. cond o (long b) 0) w
 
-  full-none : (b : State) → b .mode ≡ a .mode → isFull (a .mode) ≡ true → waits next.Openings (b .next) ≡ true → known through b ≡ long b
+  full-none : (b : State) → b .turn .mode ≡ a .turn .mode → isFull (a .turn .mode) ≡ true → waits next.Openings (b .turn .next) ≡ true → known through b ≡ long b
   full-none b em f w =
-      ap (λ m. knownIn (long b) (taken b / 2 ^ level b) m (b .kind) (waits next.Openings (b .next)) through) (em ∙ is-full (a .mode) f)
-      ∙ full-some (long b) (taken b / 2 ^ level b) (b .kind) (waits next.Openings (b .next)) through
+      ap (λ m. knownIn (long b) (taken b / 2 ^ level b) m (b .pass .kind) (waits next.Openings (b .turn .next)) through) (em ∙ is-full (a .turn .mode) f)
+      ∙ full-some (long b) (taken b / 2 ^ level b) (b .pass .kind) (waits next.Openings (b .turn .next)) through
       ∙ ap (λ o. cond o (long b) 0) w
 
-  pub full-message : a .next ≡ next.Message → isFull (a .mode) ≡ true → AsLeft p T a l → (even cross odd : ℕ)
-      → answer.Message even cross odd ≡ reply p T (a .challenges) (roundMessage (length (a .challenges))) .answer
-      → Agrees p through its (noted (withBuffers (goesTo a next.Challenge) l) (answer.Message even cross odd))
+  pub full-message : a .turn .next ≡ next.Message → isFull (a .turn .mode) ≡ true → AsLeft a l → (even cross odd : ℕ)
+      → answered (reply.message even cross odd) ≡ meant p T (a .turn .challenges) (roundMessage (length (a .turn .challenges))) .answer
+      → Agrees p through its (withBuffers (goesTo a next.Challenge) l) (noted past (answered (reply.message even cross odd)))
   full-message et f kept even cross odd e =
       let k = full-places a refl f (ap (waits next.Openings) et) in
-      let lv : levelNow (a .start .rounds) (length (a .challenges)) (a .next) ≡ length (a .challenges) = ap (levelNow (a .start .rounds) (length (a .challenges))) et in
+      let lv : levelNow (a .start .rounds) (length (a .turn .challenges)) 0 (a .turn .next) ≡ length (a .turn .challenges) = ap (levelNow (a .start .rounds) (length (a .turn .challenges)) 0) et in
       record {
         gives = no-items-given T;
-        placesF = λ j lo hi. subst (λ i. j < size (a .start .rounds) i → at (l .f) j ≡ fold p (at (a .challenges)) i (vectorF p T) j) lv (λ hi. kept j hi .0 ∙ g .placesF j (omega arith) hi) hi;
-        placesG = λ j lo hi. subst (λ i. j < size (a .start .rounds) i → at (l .g) j ≡ fold p (at (a .challenges)) i (vectorG p T) j) lv (λ hi. kept j hi .1 ∙ g .placesG j (omega arith) hi) hi;
+        placesF = λ j lo hi. subst (λ i. j < size (a .start .rounds) i → at (l .f) j ≡ fold p (at (a .turn .challenges)) i (vectorF p T) j) lv (λ hi. kept j hi .0 ∙ g .placesF j (omega arith) hi) hi;
+        placesG = λ j lo hi. subst (λ i. j < size (a .start .rounds) i → at (l .g) j ≡ fold p (at (a .turn .challenges)) i (vectorG p T) j) lv (λ hi. kept j hi .1 ∙ g .placesG j (omega arith) hi) hi;
         total = λ plain _. g .total plain (ap (waits next.Total) et);
         messages = message-kept et even cross odd e;
         ends = λ w. absurd (true≢false (sym w));
       }
 
-  pub full-ends : a .next ≡ next.Ends → isFull (a .mode) ≡ true → (x y : ℕ) → answer.Ends x y ≡ reply p T (a .challenges) ends .answer
-      → Agrees p through its (noted (withBuffers (goesTo a next.Openings) l) (answer.Ends x y))
+  pub full-ends : a .turn .next ≡ next.Ends → isFull (a .turn .mode) ≡ true → (x y : ℕ) → answered (reply.ends x y) ≡ meant p T (a .turn .challenges) ends .answer
+      → Agrees p through its (withBuffers (goesTo a next.Openings) l) (noted past (answered (reply.ends x y)))
   full-ends et f x y e =
-      let b : State = noted (withBuffers (goesTo a next.Openings) l) (answer.Ends x y) in
+      let b : State = withBuffers (goesTo a next.Openings) l in
       let none = full-none b refl f refl in
       record {
         gives = no-items-given T;
         placesF = λ j lo hi. absurd (no-place (long b) _ j none lo hi);
         placesG = λ j lo hi. absurd (no-place (long b) _ j none lo hi);
         total = λ plain _. g .total plain (ap (waits next.Total) et);
-        messages = g .messages ∙ ap (λ t. messagesTo p T (a .challenges) (givenAt (length (a .challenges)) t)) et;
+        messages = g .messages ∙ ap (λ t. messagesTo p T (a .turn .challenges) (givenAt (length (a .turn .challenges)) t)) et;
         ends = λ w. ends-kept x y e;
       }
 
   -- A CHALLENGE
-  challenge-messages : a .next ≡ next.Challenge → (c : ℕ)
-      → a .messages ≡ messagesTo p T (a .challenges ++ c ∷ []) (givenAt (length (a .challenges ++ c ∷ [])) (takesChallenge a c .next))
+  challenge-messages : a .turn .next ≡ next.Challenge → (c : ℕ)
+      → past .messages ≡ messagesTo p T (a .turn .challenges ++ c ∷ []) (givenAt (length (a .turn .challenges ++ c ∷ [])) (takesChallenge a c .turn .next))
   challenge-messages et c =
-      let i : ℕ = length (a .challenges) in
-      let ds : List ℕ = a .challenges ++ c ∷ [] in
-      let up : length ds ≡ suc i = length-append (a .challenges) (c ∷ []) ∙ add-one i in
-      g .messages ∙ ap (λ t. messagesTo p T (a .challenges) (givenAt i t)) et
-      ∙ messages-before p T (a .challenges) ds i (λ j less. sym (old-challenges (a .challenges) c j less))
+      let i : ℕ = length (a .turn .challenges) in
+      let ds : List ℕ = a .turn .challenges ++ c ∷ [] in
+      let up : length ds ≡ suc i = length-append (a .turn .challenges) (c ∷ []) ∙ add-one i in
+      g .messages ∙ ap (λ t. messagesTo p T (a .turn .challenges) (givenAt i t)) et
+      ∙ messages-before p T (a .turn .challenges) ds i (λ j less. sym (old-challenges (a .turn .challenges) c j less))
       ∙ ap (messagesTo p T ds) (sym up ∙ sym (given-round (length ds) (a .start .rounds) .0))
 
-  pub challenge-agrees : (c : ℕ) (o : Lent) (m : Mode) → a .mode ≡ m → a .next ≡ next.Challenge
-      → (isFull m ≡ true → Written (foldF p T (takesChallenge a c)) 0 (size (a .start .rounds) (suc (length (a .challenges)))) (l .f) (o .f)
-      × Written (foldG p T (takesChallenge a c)) 0 (size (a .start .rounds) (suc (length (a .challenges)))) (l .g) (o .g))
-      → Agrees p through its (buffersIn (isFull m) (takesChallenge a c) o)
+  pub challenge-agrees : (c : ℕ) (o : Lent) (m : Mode) → a .turn .mode ≡ m → a .turn .next ≡ next.Challenge
+      → (isFull m ≡ true → Written (foldF p T (takesChallenge a c)) 0 (size (a .start .rounds) (suc (length (a .turn .challenges)))) (l .f) (o .f)
+      × Written (foldG p T (takesChallenge a c)) 0 (size (a .start .rounds) (suc (length (a .turn .challenges)))) (l .g) (o .g))
+      → Agrees p through its (buffersIn (isFull m) (takesChallenge a c) o) past
   challenge-agrees c o Small em et w =
       let b : State = takesChallenge a c in
       let none = still-none b refl refl (ap isSmall em) in
@@ -411,17 +409,17 @@ module _ (p : ℕ) (large : maxWeight < p) (through : Bool) (its : List Raw) (a 
         placesG = λ j lo hi. absurd (no-place (long b) _ j none lo hi);
         total = λ plain _. g .total plain (ap (waits next.Total) et);
         messages = challenge-messages et c;
-        ends = λ z. absurd (true≢false (sym z ∙ given-round (length (a .challenges ++ c ∷ [])) (a .start .rounds) .1));
+        ends = λ z. absurd (true≢false (sym z ∙ given-round (length (a .turn .challenges ++ c ∷ [])) (a .start .rounds) .1));
       }
   challenge-agrees c o Full em et w =
       let b : State = takesChallenge a c in
-      let up : level b ≡ suc (length (a .challenges)) = challenge-level p large through its a h g whole l et c in
-      let sizes : long b ≡ size (a .start .rounds) (suc (length (a .challenges))) = ap (size (a .start .rounds)) up in
+      let up : level b ≡ suc (length (a .turn .challenges)) = challenge-level p large through its a h g whole l et c in
+      let sizes : long b ≡ size (a .start .rounds) (suc (length (a .turn .challenges))) = ap (size (a .start .rounds)) up in
       record {
         gives = no-items-given T;
         placesF = λ j lo hi. w refl .0 .wrote j (omega arith) (omega (arith, sizes));
         placesG = λ j lo hi. w refl .1 .wrote j (omega arith) (omega (arith, sizes));
         total = λ plain _. g .total plain (ap (waits next.Total) et);
         messages = challenge-messages et c;
-        ends = λ z. absurd (true≢false (sym z ∙ given-round (length (a .challenges ++ c ∷ [])) (a .start .rounds) .1));
+        ends = λ z. absurd (true≢false (sym z ∙ given-round (length (a .turn .challenges ++ c ∷ [])) (a .start .rounds) .1));
       }

@@ -2,8 +2,7 @@
 use mathlib.Core.Path.{_≡_, refl, sym, ap, ap₂, _∙_}
 use mathlib.Core.Bool.{Bool, true, false, cond, _&&_, true≢false}
 use mathlib.Core.List.{List, [], _∷_, _++_}
-use mathlib.Core.Option.{Option, none, some}
-use Prim.Native.Nat.{ℕ, zero, suc, _+_, _*_, _-_, _^_, _<_, _≤_}
+use Prim.Native.Nat.{ℕ, zero, suc, _+_, _*_, _^_, _<_, _≤_}
 use native.Mathlib.Omega.{arith}
 use lib.IntN.{ℤ}
 use lib.ListN.{length, length-append, take, drop}
@@ -20,7 +19,8 @@ use Rattle.vector.specs.Message.{Message}
 use Rattle.vector.specs.Opening.{evaluate, triple, tripleValues, opening}
 use Rattle.vector.proofs.Folds.{fold-challenges}
 use Rattle.vector.proofs.Horner.{evaluate-same}
-use Rattle.prover.specs.declared.Answer.the-variants as answer
+use Rattle.refusal.specs.Outcome.{answered}
+use Rattle.prover.specs.Reply as reply
 use Rattle.prover.specs.declared.Next.{Next}
 use Rattle.prover.specs.declared.Next.the-variants as next
 use Rattle.prover.specs.declared.Kind.{Kind}
@@ -30,11 +30,10 @@ use Rattle.prover.proofs.OpeningValues.{triples-length, triples-same}
 use Rattle.runs.specs.Trip.{Trip, vectorF, vectorG, totalOf}
 use Rattle.calls.specs.declared.Call.{Call}
 use Rattle.calls.specs.declared.Call.the-variants as call
-use Rattle.calls.specs.Step.{Lent, Result, step}
 use Rattle.calls.specs.State.{State}
-use Rattle.calls.specs.Table.{Refusal, waits, table}
-use Rattle.calls.specs.Meaning.{Question, total, roundMessage, ends, openingAt, proof, done, closeAsks, question, Reply, reply, says, messageAt, messagesTo, proofOfTrip}
-use Rattle.calls.specs.Statement.{fileAfter, Answers}
+use Rattle.calls.specs.Table.{waits, fileSize, table}
+use Rattle.calls.specs.Meaning.{Question, total, roundMessage, ends, openingAt, proof, done, closeAsks, question, Answer, meant, says, messageAt, messagesTo, proofOfTrip}
+use Rattle.calls.specs.World.{came}
 use Rattle.calls.proofs.Steps.{row-passed}
 use Rattle.calls.proofs.Turns.{both}
 use Rattle.calls.proofs.Agrees.{message-before, messages-before, length-messages}
@@ -71,11 +70,11 @@ module _ (p : ℕ) (T : Trip) (cs ds : List ℕ) (same : (j : ℕ) → j < T .st
   pub opening-same : (b : ℕ) → opening p n (at ds) (vectorF p T) (vectorG p T) b ≡ opening p n (at cs) (vectorF p T) (vectorG p T) b
   opening-same b = ap₂ _++_ (triples-same _ _ 0 n (λ j lo hi. triple-same (vectorF p T) b j (omega arith))) (triples-same _ _ 0 n (λ j lo hi. triple-same (vectorG p T) b j (omega arith)))
 
-total-given : (plain : Bool) (t z : ℤ) (d : ℕ) → answer.Total t ≡ cond plain (answer.Total z) (answer.FieldTotal d) → t ≡ z
+total-given : (plain : Bool) (t z : ℤ) (d : ℕ) → answered (reply.total t) ≡ answered (cond plain (reply.total z) (reply.fieldTotal d)) → t ≡ z
 total-given true t z d e = ap totalIn e
 total-given false t z d e = absurd (true≢false (ap isPlain e))
 
-claim-given : (plain : Bool) (c d : ℕ) (z : ℤ) → answer.FieldTotal c ≡ cond plain (answer.Total z) (answer.FieldTotal d) → c ≡ d
+claim-given : (plain : Bool) (c d : ℕ) (z : ℤ) → answered (reply.fieldTotal c) ≡ answered (cond plain (reply.total z) (reply.fieldTotal d)) → c ≡ d
 claim-given true c d z e = absurd (true≢false (ap isPlain (sym e)))
 claim-given false c d z e = ap fieldTotalIn e
 
@@ -102,81 +101,80 @@ is-write a call.OpenPass e = absurd (true≢false (sym e))
 is-write a (call.OpenAt b) e = absurd (true≢false (sym e))
 is-write a call.ToFull e = absurd (true≢false (sym e))
 is-write a call.ToSmall e = absurd (true≢false (sym e))
-is-write a (call.Item r w) e = absurd (true≢false (sym e))
-is-write a (call.FieldItem x y) e = absurd (true≢false (sym e))
-is-write a call.Close e = absurd (true≢false (sym e ∙ no-close a (a .next) (a .kind)))
+is-write a (call.Give x) e = absurd (true≢false (sym e))
+is-write a call.Close e = absurd (true≢false (sym e ∙ no-close a (a .turn .next) (a .pass .kind)))
 is-write a call.Message e = absurd (true≢false (sym e))
 is-write a (call.Challenge c) e = absurd (true≢false (sym e))
 is-write a call.Ends e = absurd (true≢false (sym e))
 is-write a (call.Opening b) e = absurd (true≢false (sym e))
 is-write a call.WriteProof e = refl
 
--- what an answered call leaves of its file
-file-left : (p : ℕ) (T : Trip) (a : State) (c : Call) (l : Lent) (t : Option Refusal) (o : Result) → t ≡ none → Answers p T a c l t o → o .lent .file ≡ fileAfter p T a c (l .file)
-file-left p T a c l none o e h = h .file
-file-left p T a c l (some k) o e h = cc
-
-length-proof : (p : ℕ) (T : Trip) (cs : List ℕ) → length (proofOfTrip p T cs) ≡ 18 + 12 * T .start .rounds
+length-proof : (p : ℕ) (T : Trip) (cs : List ℕ) → length (proofOfTrip p T cs) ≡ fileSize (T .start .rounds)
 length-proof p T cs =
     let n : ℕ = T .start .rounds in
     let xs : List ℕ = endValue p (at cs) n (vectorF p T) ∷ endValue p (at cs) n (vectorG p T) ∷ [] in
     length-file n (totalOf T) (messagesTo p T cs n ++ xs) (length-append (messagesTo p T cs n) xs ∙ omega (arith, length-messages p T cs n))
 
+-- 6n values
+pub opening-length : (p n : ℕ) (c : ℕ → ℕ) (f g : Vector) (b : ℕ) → length (opening p n c f g b) ≡ 6 * n
+opening-length p n c f g b =
+    length-append (tripleValues (triple p n c f b) 0 n) (tripleValues (triple p n c g b) 0 n)
+    ∙ omega (arith, triples-length (triple p n c f b) 0 n, triples-length (triple p n c g b) 0 n)
+
 module _ (p : ℕ) (large : maxWeight < p) (through : Bool) (T : Trip) (whole : length (T .items) ≡ T .start .items) (cs : List ℕ) where
   abbrev H : Question → Type 0
   H q = Hit p large through T whole cs q
 
-  pub total-of : (t : ℤ) (h : H total) → says (answer.Total t) ≡ reply p T (h .state .challenges) total → t ≡ totalOf T
+  pub total-of : (t : ℤ) (h : H total) → says (reply.total t) ≡ meant p T (h .world .state .turn .challenges) total → t ≡ totalOf T
   total-of t h e = total-given (T .start .plain) t (totalOf T) _ (ap (λ r. r .answer) e)
 
-  pub claim-of : (c : ℕ) (h : H total) → says (answer.FieldTotal c) ≡ reply p T (h .state .challenges) total → c ≡ dot p (2 ^ T .start .rounds) (vectorF p T) (vectorG p T)
+  pub claim-of : (c : ℕ) (h : H total) → says (reply.fieldTotal c) ≡ meant p T (h .world .state .turn .challenges) total → c ≡ dot p (2 ^ T .start .rounds) (vectorF p T) (vectorG p T)
   claim-of c h e = claim-given (T .start .plain) c _ (totalOf T) (ap (λ r. r .answer) e)
 
-  pub message-of : (i even cross odd : ℕ) (h : H (roundMessage i)) → says (answer.Message even cross odd) ≡ reply p T (h .state .challenges) (roundMessage i)
+  pub message-of : (i even cross odd : ℕ) (h : H (roundMessage i)) → says (reply.message even cross odd) ≡ meant p T (h .world .state .turn .challenges) (roundMessage i)
       → _≡_ {A = Message} (record { even = even; cross = cross; odd = odd }) (messageAt p T cs i)
   message-of i even cross odd h e =
-      let round = message-round (h .state) (h .call) i (h .asked) in
+      let round = message-round (h .world .state) (h .made .call) i (h .asked) in
       ap (λ r. messageIn (r .answer)) e
-      ∙ message-before p T (h .state .challenges) cs i (λ j less. h .prefix j (omega arith))
+      ∙ message-before p T (h .world .state .turn .challenges) cs i (λ j less. h .prefix j (omega arith))
 
   -- after the ends every challenge was taken
-  late-prefix : (q : Question) (h : H q) → isLate (question (h .state) (h .call)) ≡ true → (j : ℕ) → j < T .start .rounds → at (h .state .challenges) j ≡ at cs j
+  late-prefix : (q : Question) (h : H q) → isLate (question (h .world .state) (h .made .call)) ≡ true → (j : ℕ) → j < T .start .rounds → at (h .world .state .turn .challenges) j ≡ at cs j
   late-prefix q h e j less =
-      let w = late p (h .state) (h .call) (h .lent) (h .free) e in
-      let all = all-challenges p (h .state) (h .inv .fits) w in
-      let n : h .state .start .rounds ≡ T .start .rounds = ap (λ s. s .rounds) (h .start) in
+      let w = late p (h .world .state) (h .made .call) (h .made .lent) (h .free) e in
+      let all = all-challenges p (h .world .state) (h .going .faithful .fits) w in
+      let n : h .world .state .start .rounds ≡ T .start .rounds = ap (λ s. s .rounds) (h .going .start) in
       h .prefix j (omega arith)
 
-  pub opening-of : (b : ℕ) (values : List ℕ) (h : H (openingAt b)) → _≡_ {A = Reply} (record { answer = answer.Opening; values = values }) (reply p T (h .state .challenges) (openingAt b))
+  pub opening-of : (b : ℕ) (values : List ℕ) (h : H (openingAt b)) → _≡_ {A = Answer} (record { answer = answered reply.opening; values = values }) (meant p T (h .world .state .turn .challenges) (openingAt b))
       → take (6 * T .start .rounds) values ≡ opening p (T .start .rounds) (at cs) (vectorF p T) (vectorG p T) b
   opening-of b values h e =
       let n : ℕ = T .start .rounds in
-      let ds : List ℕ = h .state .challenges in
+      let ds : List ℕ = h .world .state .turn .challenges in
       let v : List ℕ = opening p n (at ds) (vectorF p T) (vectorG p T) b in
-      let long : length v ≡ 6 * n = length-append (tripleValues (triple p n (at ds) (vectorF p T) b) 0 n) (tripleValues (triple p n (at ds) (vectorG p T) b) 0 n) ∙ omega (arith, triples-length (triple p n (at ds) (vectorF p T) b) 0 n, triples-length (triple p n (at ds) (vectorG p T) b) 0 n) in
       ap (λ r. take (6 * n) (r .values)) e
-      ∙ ap (λ k. take k (inNinety n v)) (sym long)
+      ∙ ap (λ k. take k (inNinety n v)) (sym (opening-length p n (at ds) (vectorF p T) (vectorG p T) b))
       ∙ take-append-seam v _
       ∙ opening-same p T cs ds (late-prefix (openingAt b) h (ap isLate (h .asked))) b
 
-  pub file-of : (file : List ℕ) (h : H proof) → take (18 + 12 * h .state .start .rounds) (step p (h .run) (h .pass) (h .call) (h .lent) .lent .file) ≡ file
+  pub file-of : (file : List ℕ) (h : H proof) → take (fileSize (h .world .state .start .rounds)) (came p (h .world) (h .made) .lent .file) ≡ file
       → (file ≡ proofOfTrip p T cs) × (inLimits p (totalOf T) ≡ true)
   unfolding table
   file-of file h e =
-      let b : State = h .state in
-      let ds : List ℕ = b .challenges in
-      let rounds : b .start .rounds ≡ T .start .rounds = ap (λ s. s .rounds) (h .start) in
-      let write : h .call ≡ call.WriteProof = is-write b (h .call) (ap isProof (h .asked)) in
-      let left = file-left p T b (h .call) (h .lent) (table p b (h .call) (h .lent)) _ (h .free) (h .right) ∙ ap (λ c. fileAfter p T b c (h .lent .file)) write in
-      let q = row-passed (b .start .plain && waits next.Openings (b .next)) 10 _ (ap (λ c. table p b c (h .lent)) (sym write) ∙ h .free) .0 in
-      let plain = both (b .start .plain) (waits next.Openings (b .next)) q in
-      let same-total : b .total ≡ totalOf T = h .agrees .total (plain .0) (not-first (b .next) (plain .1)) in (
+      let b : State = h .world .state in
+      let ds : List ℕ = b .turn .challenges in
+      let rounds : b .start .rounds ≡ T .start .rounds = ap (λ s. s .rounds) (h .going .start) in
+      let write : h .made .call ≡ call.WriteProof = is-write b (h .made .call) (ap isProof (h .asked)) in
+      let left = h .right .proof write in
+      let q = row-passed (b .start .plain && waits next.Openings (b .turn .next)) 10 _ (ap (λ c. table p b c (h .made .lent)) (sym write) ∙ h .free) .0 in
+      let plain = both (b .start .plain) (waits next.Openings (b .turn .next)) q in
+      let same-total : h .past .total ≡ totalOf T = h .going .agrees .total (plain .0) (not-first (b .turn .next) (plain .1)) in (
         sym e
-            ∙ ap₂ (λ k f. take (18 + 12 * k) f) rounds left
-            ∙ ap (λ k. take k (proofOfTrip p T ds ++ drop (18 + 12 * T .start .rounds) (h .lent .file))) (sym (length-proof p T ds))
+            ∙ ap₂ (λ k f. take (fileSize k) f) rounds left
+            ∙ ap (λ k. take k (proofOfTrip p T ds ++ drop (fileSize (T .start .rounds)) (h .made .lent .file))) (sym (length-proof p T ds))
             ∙ take-append-seam (proofOfTrip p T ds) _
             ∙ file-same p T cs ds (late-prefix proof h (ap isLate (h .asked))),
-        ap (inLimits p) (sym same-total) ∙ h .inv .fits .run .total,
+        ap (inLimits p) (sym same-total) ∙ h .going .faithful .fits .run .total,
       )
     where
       not-first : (t : Next) → waits next.Openings t ≡ true → waits next.Total t ≡ false

@@ -16,18 +16,20 @@ use Rattle.prover.specs.declared.Mode.the-variants.{Small, Full}
 use Rattle.prover.specs.declared.Next.{Next}
 use Rattle.prover.specs.declared.Next.the-variants as next
 use Rattle.prover.specs.declared.Kind.the-variants.{Shut}
-use Rattle.prover.specs.Start.{zeroPass}
+use Rattle.prover.specs.Order.{roundOrEnds}
 use Rattle.runs.specs.Trip.{Trip}
+use Rattle.calls.specs.State.{isFull}
 use Rattle.calls.specs.declared.Call.{Call}
 use Rattle.calls.specs.declared.Call.the-variants as call
 use Rattle.calls.specs.Step.{Lent}
-use Rattle.calls.specs.State.{fresh, roundOrEnds, isFull}
-use Rattle.calls.specs.Table.{changeNext}
-use Rattle.calls.specs.Statement.{AllSized, AllKept, AllRight, startRun}
-use Rattle.calls.specs.Proper.{Valid, AllNonzero, wholePass, answerBy, changeBefore, roundsFrom, openingsAt, endCalls, openingCalls, wholeRun, Brings, properRun, AllAnswered}
-use Rattle.calls.proofs.Refusals.{fresh-inv}
-use Rattle.calls.proofs.Answers.{all-right, fresh-agrees}
-use Rattle.calls.proofs.LiveWorld.{World, Lives, lives-answered, lives-sized, lives-kept, Standing}
+use Rattle.calls.specs.Table.{waits, changeNext}
+use Rattle.calls.specs.Lists.{after}
+use Rattle.calls.specs.World.{World, freshWorld, onward}
+use Rattle.calls.specs.Proper.{Valid, AllNonzero, wholePass, answerBy, changeBefore, roundsFrom, openingsAt, endCalls, openingCalls, wholeRun, Host, Brings, properRun}
+use Rattle.calls.specs.Demand3.{AllSized, AllAnswered, AllKept, AllRight}
+use Rattle.calls.proofs.Records.{noNotes}
+use Rattle.calls.proofs.Answers.{all-right, fresh-going}
+use Rattle.calls.proofs.LiveWorld.{Lives, lives-answered, lives-sized, lives-kept, lives-ended, Standing}
 use Rattle.calls.proofs.LivePass.{total-lives, message-lives, ends-lives, opening-lives, change-lives}
 use Rattle.calls.proofs.LiveFull.{challenge-lives, full-message-lives, full-ends-lives, full-opening-lives}
 
@@ -55,15 +57,15 @@ module _ (p : ℕ) (large : maxWeight < p) (through : Bool) (T : Trip) (valid : 
   Due = k ≤ suc n
 
   -- between two steps
-  abbrev Before : Bool → Next → ℕ → World → Type 0
-  Before full t i w = Standing p large through T Due (modeIf full) t i Shut 0 w
+  abbrev Before : Bool → Next → ℕ → Host → Type 0
+  Before full t i w = Standing p large through T Due valid (modeIf full) t i Shut 0 w
 
   module _ (ys : List Call) where
     abbrev Then : Bool → Next → ℕ → Type 0
-    Then full t i = (w : World) → Before full t i w → Lives p T through w ys
+    Then full t i = (w : Host) → Before full t i w → Lives p T through w ys
 
     -- A CHANGE before step j, or none
-    change-live : (j : ℕ) → j ≤ suc n → (t : Next) → changeNext Small t n ≡ true → (i : ℕ) (w : World) → Before (ltb k j) t i w → Then (leb k j) t i
+    change-live : (j : ℕ) → j ≤ suc n → (t : Next) → changeNext Small t n ≡ true → (i : ℕ) (w : Host) → Before (ltb k j) t i w → Then (leb k j) t i
         → Lives p T through w (changeBefore T k j ++ ys)
     change-live j most t turn i w st on = by (eqb k j) refl
       where
@@ -75,17 +77,17 @@ module _ (p : ℕ) (large : maxWeight < p) (through : Bool) (T : Trip) (valid : 
         by false e = on w (subst (λ b. Before b t i w) (same-mode k j e) st)
 
     -- THE ANSWERS, in either mode
-    message-live : (full : Bool) → (full ≡ true → Due) → (i : ℕ) (w : World) → Before full next.Message i w → Then full next.Challenge i
+    message-live : (full : Bool) → (full ≡ true → Due) → (i : ℕ) (w : Host) → Before full next.Message i w → Then full next.Challenge i
         → Lives p T through w (answerBy T full call.OpenPass call.Message ++ ys)
     message-live true may i w st on = full-message-lives p large through T Due valid (may refl) i Shut 0 w ys st on
     message-live false may i w st on = message-lives p large through T Due valid i 0 Shut w ys st on
 
-    ends-live : (full : Bool) → (full ≡ true → Due) → (i : ℕ) (w : World) → Before full next.Ends i w → Then full next.Openings i
+    ends-live : (full : Bool) → (full ≡ true → Due) → (i : ℕ) (w : Host) → Before full next.Ends i w → Then full next.Openings i
         → Lives p T through w (answerBy T full call.OpenPass call.Ends ++ ys)
     ends-live true may i w st on = full-ends-lives p large through T Due valid (may refl) i Shut 0 w ys st on
     ends-live false may i w st on = ends-lives p large through T Due valid i 0 Shut w ys st on
 
-    opening-live : (full : Bool) → (full ≡ true → Due) → (b : ℕ) → isNonzero p b ≡ true → ltb 0 n ≡ true → (i : ℕ) (w : World) → Before full next.Openings i w → Then full next.Openings i
+    opening-live : (full : Bool) → (full ≡ true → Due) → (b : ℕ) → isNonzero p b ≡ true → ltb 0 n ≡ true → (i : ℕ) (w : Host) → Before full next.Openings i w → Then full next.Openings i
         → Lives p T through w (answerBy T full (call.OpenAt b) (call.Opening b) ++ ys)
     opening-live true may b ok some i w st on = full-opening-lives p large through T Due valid (may refl) i Shut 0 w ys b ok some st on
     opening-live false may b ok some i w st on = opening-lives p large through T Due valid i 0 Shut w ys b ok some st on
@@ -93,15 +95,15 @@ module _ (p : ℕ) (large : maxWeight < p) (through : Bool) (T : Trip) (valid : 
   due-by : (j : ℕ) → j ≤ suc n → leb k j ≡ true → Due
   due-by j most e = omega (arith, leb-true k j e)
 
-  regroup : (w : World) (xs ys zs : List Call) → Lives p T through w (xs ++ (ys ++ zs)) → Lives p T through w ((xs ++ ys) ++ zs)
+  regroup : (w : Host) (xs ys zs : List Call) → Lives p T through w (xs ++ (ys ++ zs)) → Lives p T through w ((xs ++ ys) ++ zs)
   regroup w xs ys zs = subst (Lives p T through w) (sym (append-assoc xs ys zs))
 
-  regroup-all : (w : World) (us xs ys zs : List Call) → Lives p T through w (us ++ (xs ++ (ys ++ zs))) → Lives p T through w (((us ++ xs) ++ ys) ++ zs)
+  regroup-all : (w : Host) (us xs ys zs : List Call) → Lives p T through w (us ++ (xs ++ (ys ++ zs))) → Lives p T through w (((us ++ xs) ++ ys) ++ zs)
   regroup-all w us xs ys zs h = regroup w (us ++ xs) ys zs (regroup w us xs (ys ++ zs) h)
 
   -- THE ROUNDS
-  rounds-live : (cs : List ℕ) → AllNonzero p cs → (i : ℕ) → i + length cs ≡ n → (ys : List Call) (w : World) → Before (ltb k i) (roundOrEnds i n) i w
-      → ((w : World) → Before (ltb k n) next.Ends n w → Lives p T through w ys) → Lives p T through w (roundsFrom T k i cs ++ ys)
+  rounds-live : (cs : List ℕ) → AllNonzero p cs → (i : ℕ) → i + length cs ≡ n → (ys : List Call) (w : Host) → Before (ltb k i) (roundOrEnds i n) i w
+      → ((w : Host) → Before (ltb k n) next.Ends n w → Lives p T through w ys) → Lives p T through w (roundsFrom T k i cs ++ ys)
   unfolding roundsFrom
   rounds-live [] ok i e ys w st on =
       let all : i ≡ n = omega arith in
@@ -119,14 +121,14 @@ module _ (p : ℕ) (large : maxWeight < p) (through : Bool) (T : Trip) (valid : 
       (λ w st. rounds-live cs (λ j l. ok (suc j) (omega arith)) (suc i) (omega arith) ys w (subst (λ b. Before b (roundOrEnds (suc i) n) (suc i) w) (sym (leb·suc-suc k i)) st) on))))
 
   -- THE OPENINGS
-  openings-live : ltb 0 n ≡ true → (bs : List ℕ) → AllNonzero p bs → (w : World) → Before (leb k (suc n)) next.Openings n w → Lives p T through w (openingsAt T k bs)
+  openings-live : ltb 0 n ≡ true → (bs : List ℕ) → AllNonzero p bs → (w : Host) → Before (leb k (suc n)) next.Openings n w → Lives p T through w (openingsAt T k bs)
   unfolding openingsAt Lives
-  openings-live some [] ok w st = tt
+  openings-live some [] ok w st = ap (waits next.Openings) (st .next)
   openings-live some (b ∷ bs) ok w st =
       opening-live (openingsAt T k bs) (leb k (suc n)) (due-by (suc n) (omega arith)) b (ok 0 (omega arith)) some n w st
       (λ w st. openings-live some bs (λ j l. ok (suc j) (omega arith)) w st)
 
-  after-ends : (bs : List ℕ) → AllNonzero p bs → (w : World) → Before (leb k n) next.Openings n w → Lives p T through w (openingCalls T k bs)
+  after-ends : (bs : List ℕ) → AllNonzero p bs → (w : Host) → Before (leb k n) next.Openings n w → Lives p T through w (openingCalls T k bs)
   unfolding Lives
   after-ends bs ok w st = by (ltb 0 n) refl
     where
@@ -134,9 +136,9 @@ module _ (p : ℕ) (large : maxWeight < p) (through : Bool) (T : Trip) (valid : 
       by true some =
           change-live (openingsAt T k bs) (suc n) (omega arith) next.Openings some n w (subst (λ b. Before b next.Openings n w) (sym (leb·suc-suc k n)) st)
           (openings-live some bs ok)
-      by false none = tt
+      by false none = ap (waits next.Openings) (st .next)
 
-  run-lives : (cs bs : List ℕ) → length cs ≡ n → AllNonzero p cs → AllNonzero p bs → (w : World) → Standing p large through T Due Small next.Total 0 Shut 0 w
+  run-lives : (cs bs : List ℕ) → length cs ≡ n → AllNonzero p cs → AllNonzero p bs → (w : Host) → Standing p large through T Due valid Small next.Total 0 Shut 0 w
       → Lives p T through w (wholeRun T k cs bs)
   run-lives cs bs count okc okb w st =
       let asks : List Call = answerBy T (leb k n) call.OpenPass call.Ends in
@@ -150,16 +152,18 @@ module _ (p : ℕ) (large : maxWeight < p) (through : Bool) (T : Trip) (valid : 
 
 -- THE THEOREM
 module _ (p : ℕ) (large : maxWeight < p) (T : Trip) (valid : Valid p T) (k : ℕ) (cs bs : List ℕ) (l : Lent) (brings : Brings p T k cs bs l) where
-  abbrev begin : World
-  begin = record { state = fresh (T .start) (l .f) (l .g); run = startRun (T .start); pass = zeroPass; lent = l }
+  abbrev fresh : World
+  fresh = freshWorld (T .start) (l .f) (l .g)
+
+  abbrev begin : Host
+  begin = record { world = fresh; lent = l }
 
   lives : (through : Bool) → Lives p T through begin (wholeRun T k cs bs)
   lives through =
       run-lives p large through T valid k cs bs (brings .count) (brings .challenges) (brings .points) begin
       (record {
-        inv = fresh-inv p large (T .start) (valid .some) (valid .most) (valid .rounds) (l .f) (l .g);
-        start = refl;
-        agrees = fresh-agrees p large through T (valid .whole) (l .f) (l .g);
+        past = noNotes;
+        going = fresh-going p large through T (valid .whole .items) (valid .whole .start) (l .f) (l .g);
         mode = refl;
         next = refl;
         round = refl;
@@ -169,19 +173,22 @@ module _ (p : ℕ) (large : maxWeight < p) (T : Trip) (valid : Valid p T) (k : �
         left = λ e j. (refl, refl);
       })
 
-  pub proper-answered : AllAnswered p (startRun (T .start)) zeroPass (properRun p T k cs bs l)
+  pub proper-answered : AllAnswered p fresh (properRun p T k cs bs l)
   proper-answered = lives-answered p T true begin (wholeRun T k cs bs) (lives true)
 
   -- it is a list of which the two layers speak
-  pub proper-sized : AllSized (properRun p T k cs bs l)
+  pub proper-sized : AllSized p fresh (properRun p T k cs bs l)
   proper-sized = lives-sized p T true begin (wholeRun T k cs bs) (lives true)
 
-  pub proper-kept : (through : Bool) → AllKept p through T (fresh (T .start) (l .f) (l .g)) (startRun (T .start)) zeroPass (properRun p T k cs bs l)
+  pub proper-kept : (through : Bool) → AllKept p through T fresh (properRun p T k cs bs l)
   proper-kept through = lives-kept p T through begin (wholeRun T k cs bs) (lives through)
 
+  -- and it ends after the ends
+  pub proper-ended : waits next.Openings (after (onward p) fresh (properRun p T k cs bs l) .state .turn .next) ≡ true
+  proper-ended = lives-ended p T true begin (wholeRun T k cs bs) (lives true)
+
   -- so each of its answers is the meaning
-  pub proper-right : (through : Bool) → AllRight p through T (fresh (T .start) (l .f) (l .g)) (startRun (T .start)) zeroPass (properRun p T k cs bs l)
+  pub proper-right : (through : Bool) → AllRight p through T fresh (properRun p T k cs bs l)
   proper-right through =
-      all-right p large through T (valid .whole) (fresh (T .start) (l .f) (l .g)) (startRun (T .start)) zeroPass
-      (fresh-inv p large (T .start) (valid .some) (valid .most) (valid .rounds) (l .f) (l .g)) refl
-      (fresh-agrees p large through T (valid .whole) (l .f) (l .g)) (properRun p T k cs bs l) proper-sized (proper-kept through)
+      all-right p large through T (valid .whole .items) fresh (fresh-going p large through T (valid .whole .items) (valid .whole .start) (l .f) (l .g))
+      (properRun p T k cs bs l) proper-sized (proper-kept through)

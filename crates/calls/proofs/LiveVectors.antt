@@ -8,22 +8,24 @@ use borrow.Author.Tests.{ltb-true}
 use Rattle.refusal.specs.Limit.{maxWeight}
 use Rattle.algebra.proofs.Congruence.{base-of}
 use Rattle.field.proofs.Integers.{image-lt}
-use Rattle.runs.specs.Trip.{Raw, reading, numbers, Trip, itemOf, vectorF, vectorG}
+use Rattle.item.specs.declared.Given.{Given}
+use Rattle.item.specs.declared.Given.the-variants.{Reading, Numbers}
+use Rattle.runs.specs.Trip.{Trip, itemOf, vectorF, vectorG}
 use Rattle.calls.specs.Proper.{ItemFits, Valid}
 use Rattle.calls.proofs.Follows.{positive}
 use Rattle.calls.proofs.Fits.{Fine}
 use Rattle.calls.proofs.Numbers.{enters-below}
 
 module _ (p : ℕ) (large : maxWeight < p) (T : Trip) (valid : Valid p T) where
-  item-below : (plain : Bool) (x : Raw) → ItemFits p plain x → Fine p x
-  item-below plain (reading r w) h = (omega (arith, image-lt p r, base-of p (positive p large)), omega (arith, h .2))
-  item-below plain (numbers a b) h = (h .1, h .2)
+  item-below : (plain : Bool) (x : Given) → ItemFits p plain x → Fine p (T .start) x
+  item-below plain (Reading r w) h = (omega (arith, image-lt p r, base-of p (positive p large)), omega (arith, h .2))
+  item-below plain (Numbers a b) h = (h .1, h .2)
 
   padded-below : (j : ℕ) (b : Bool) (x : ℕ) → (b ≡ true → x < p) → cond b x 0 < p
   padded-below j true x h = h refl
   padded-below j false x h = positive p large
 
-  fits-at : (j : ℕ) → ltb j (T .start .items) ≡ true → Fine p (itemOf T j)
+  fits-at : (j : ℕ) → ltb j (T .start .items) ≡ true → Fine p (T .start) (itemOf T j)
   fits-at j e = item-below (T .start .plain) (itemOf T j) (valid .items j (ltb-true j (T .start .items) e))
 
   pub f-below : (j : ℕ) → vectorF p T j < p

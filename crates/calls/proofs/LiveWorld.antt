@@ -3,7 +3,7 @@ use mathlib.Core.Path.{_≡_, refl, sym, ap, ap₂, subst, _∙_}
 use mathlib.Core.Bool.{Bool, true, false, cond, _&&_}
 use mathlib.Core.List.{List, [], _∷_}
 use mathlib.Core.Option.{none}
-use Prim.Native.Nat.{ℕ, _/_, _^_, _<_, _≤_}
+use Prim.Native.Nat.{ℕ, _^_, _<_, _≤_}
 use native.Mathlib.Nat.{div-le-self}
 use native.Mathlib.Omega.{arith}
 use lib.ListN.{length}
@@ -16,78 +16,70 @@ use Rattle.prover.specs.declared.Next.{Next}
 use Rattle.prover.specs.declared.Next.the-variants as next
 use Rattle.prover.specs.declared.Kind.{Kind}
 use Rattle.prover.specs.declared.Kind.the-variants.{Shut, Asked, Change}
-use Rattle.prover.specs.declared.Run.{Run}
-use Rattle.prover.specs.declared.Pass.{Pass}
 use Rattle.runs.specs.Trip.{Trip, vectorF, vectorG}
 use Rattle.runs.specs.Buffers.{Written}
 use Rattle.runs.proofs.CloseLaws.{fold-below}
 use Rattle.calls.specs.declared.Call.{Call}
-use Rattle.calls.specs.declared.Call.the-variants as call
-use Rattle.calls.specs.Step.{Lent, Result, isAnswered, step}
-use Rattle.calls.specs.State.{State, goesOn, follow, isFull}
-use Rattle.calls.specs.Table.{waits, level, long, bothLong, readRows, table}
-use Rattle.calls.specs.Meaning.{foldF, foldG, Kept}
-use Rattle.calls.specs.Statement.{Made, Sized, AllSized, taken, knownIn, known, AllKept}
-use Rattle.calls.specs.Proper.{Valid, lends, hosted, AllAnswered}
+use Rattle.calls.specs.Lists.{after, along, each}
+use Rattle.calls.specs.Step.{Lent, Result, isAnswered}
+use Rattle.calls.specs.State.{isFull, State, withBuffers, buffersIn, goesOn}
+use Rattle.calls.specs.World.{Made, World, came, onward}
+use Rattle.calls.specs.Table.{waits, long, taken, completed, bothLong, readRows, table}
+use Rattle.calls.specs.Meaning.{foldF, foldG}
+use Rattle.calls.specs.Statement.{Sized, Right, known}
+use Rattle.calls.specs.Proper.{Valid, Host, foldZero, lends, makes, hostOn}
+use Rattle.calls.specs.Demand3.{AllSized, AllAnswered, AllKept}
 use Rattle.calls.proofs.Follows.{positive}
-use Rattle.calls.proofs.Refusals.{Inv}
-use Rattle.calls.proofs.Agrees.{tripAt, Agrees}
-use Rattle.calls.proofs.LiveStep.{same-trip, Moved, moved}
+use Rattle.calls.proofs.Records.{Notes, noted}
+use Rattle.calls.proofs.Agrees.{tripAt, knownIn}
+use Rattle.calls.proofs.KeptCalls.{KeptBy, by-kept}
+use Rattle.calls.proofs.Answers.{Going, same-trip}
+use Rattle.calls.proofs.LiveStep.{Moved, moved}
 use Rattle.calls.proofs.LiveVectors.{f-below, g-below}
 use Rattle.calls.proofs.LiveTable.{long-enough, reads-free}
 
--- the records, the state that they stand for, and the buffers in the host's hands
-pub record World : Type 0 where
-  pub state : State
-  pub run : Run
-  pub pass : Pass
-  pub lent : Lent
-
 module _ (p : ℕ) (T : Trip) where
-  abbrev pub made : World → Call → Result
-  made w c = step p (w .run) (w .pass) c (lends p T c (w .lent))
+  abbrev pub made : Host → Call → Result
+  made w c = came p (w .world) (makes p T w c)
 
-  abbrev pub goesBy : World → Call → World
-  goesBy w c = let o : Result = made w c in record { state = follow (w .state) c o; run = o .run; pass = o .pass; lent = o .lent }
+  -- all that is shown of a call
+  abbrev Lived : Bool → Host → Call → Type 0
+  Lived through w c = (isAnswered (made w c .answer) ≡ true) × Sized c × KeptBy p T through (w .world .state) c (lends p T (w .world .state) (w .lent))
 
-  -- all that is shown of a list, along it
-  unfoldable pub Lives : Bool → World → List Call → Type 0
-  Lives through w [] = Unit {0}
-  Lives through w (c ∷ cs) =
-      (isAnswered (made w c .answer) ≡ true) × Sized c × Kept p T through (w .state) c (lends p T c (w .lent)) × Lives through (goesBy w c) cs
+  -- and of a list, along it; it ends after the ends
+  unfoldable pub Lives : Bool → Host → List Call → Type 0
+  Lives through w [] = waits next.Openings (w .world .state .turn .next) ≡ true
+  Lives through w (c ∷ cs) = Lived through w c × Lives through (hostOn p T w c) cs
 
-  abbrev pub played : World → List Call → List Made
-  played w cs = hosted p T (w .run) (w .pass) (w .lent) cs
+  -- what holds of the host's calls holds along the list that it makes
+  played : (through : Bool) (P : World → Made → Type 0) → ((w : Host) (c : Call) → Lived through w c → P (w .world) (makes p T w c)) → (w : Host) (cs : List Call)
+      → Lives through w cs → along (onward p) P (w .world) (each (hostOn p T) (makes p T) w cs)
+  unfolding along each Lives
+  played through P so w [] h = tt
+  played through P so w (c ∷ cs) h = (so w c (h .0), played through P so (hostOn p T w c) cs (h .1))
 
-  pub lives-answered : (through : Bool) (w : World) (cs : List Call) → Lives through w cs → AllAnswered p (w .run) (w .pass) (played w cs)
-  unfolding Lives AllAnswered hosted
-  lives-answered through w [] h = tt
-  lives-answered through w (c ∷ cs) h = (h .0, lives-answered through (goesBy w c) cs (h .3))
+  pub lives-ended : (through : Bool) (w : Host) (cs : List Call) → Lives through w cs → waits next.Openings (after (onward p) (w .world) (each (hostOn p T) (makes p T) w cs) .state .turn .next) ≡ true
+  unfolding after each Lives
+  lives-ended through w [] h = h
+  lives-ended through w (c ∷ cs) h = lives-ended through (hostOn p T w c) cs (h .1)
 
-  pub lives-sized : (through : Bool) (w : World) (cs : List Call) → Lives through w cs → AllSized (played w cs)
-  unfolding Lives AllSized hosted
-  lives-sized through w [] h = tt
-  lives-sized through w (c ∷ cs) h = (h .1, lives-sized through (goesBy w c) cs (h .3))
+  module _ (through : Bool) (w : Host) (cs : List Call) (h : Lives through w cs) where
+    pub lives-answered : AllAnswered p (w .world) (each (hostOn p T) (makes p T) w cs)
+    lives-answered = played through _ (λ w c q. q .0) w cs h
 
-  pub lives-kept : (through : Bool) (w : World) (cs : List Call) → Lives through w cs → AllKept p through T (w .state) (w .run) (w .pass) (played w cs)
-  unfolding Lives AllKept hosted
-  lives-kept through w [] h = tt
-  lives-kept through w (c ∷ cs) h = ((λ y. h .2), lives-kept through (goesBy w c) cs (h .3))
+    pub lives-sized : AllSized p (w .world) (each (hostOn p T) (makes p T) w cs)
+    lives-sized = played through _ (λ w c q. q .1) w cs h
+
+    pub lives-kept : AllKept p through T (w .world) (each (hostOn p T) (makes p T) w cs)
+    lives-kept = played through _ (λ w c q y. by-kept p T through (w .world .state) c (lends p T (w .world .state) (w .lent)) (q .2)) w cs h
 
   -- fold 0 is lent in buffers of the same length
-  lends-length : (c : Call) (l : Lent) → (length (lends p T c l .f) ≡ length (l .f)) × (length (lends p T c l .g) ≡ length (l .g))
-  lends-length call.OpenPass l = (refl, refl)
-  lends-length (call.OpenAt b) l = (refl, refl)
-  lends-length call.ToFull l = (refl, refl)
-  lends-length call.ToSmall l = (refl, refl)
-  lends-length (call.Item r w) l = (refl, refl)
-  lends-length (call.FieldItem x y) l = (refl, refl)
-  lends-length call.Close l = (refl, refl)
-  lends-length call.Message l = (refl, refl)
-  lends-length (call.Challenge c) l = (refl, refl)
-  lends-length call.Ends l = (refl, refl)
-  lends-length (call.Opening b) l = (overwrite-length (vectorF p T) (l .f) (2 ^ T .start .rounds), overwrite-length (vectorG p T) (l .g) (2 ^ T .start .rounds))
-  lends-length call.WriteProof l = (refl, refl)
+  lends-length : (a : State) (l : Lent) → (length (lends p T a l .f) ≡ length (l .f)) × (length (lends p T a l .g) ≡ length (l .g))
+  lends-length a l = by (isFull (a .turn .mode) && waits next.Openings (a .turn .next))
+    where
+      by : (b : Bool) → (length (cond b (foldZero p T l) l .f) ≡ length (l .f)) × (length (cond b (foldZero p T l) l .g) ≡ length (l .g))
+      by true = (overwrite-length (vectorF p T) (l .f) (2 ^ T .start .rounds), overwrite-length (vectorG p T) (l .g) (2 ^ T .start .rounds))
+      by false = (refl, refl)
 
 -- all of the current fold is known in full mode, up to the ends
 full-known : (h q : ℕ) (k : Kind) (t : Next) (through : Bool) → waits next.Openings t ≡ false → knownIn h q Full k (waits next.Openings t) through ≡ 0
@@ -95,14 +87,14 @@ full-known h q Shut t through e = ap (λ o. cond o h 0) e
 full-known h q Asked t through e = ap (λ o. cond o h 0) e
 full-known h q Change t through e = ap (λ o. cond o h 0) e
 
-full-all : (through : Bool) (a : State) → a .mode ≡ Full → waits next.Openings (a .next) ≡ false → known through a ≡ 0
+full-all : (through : Bool) (a : State) → a .turn .mode ≡ Full → waits next.Openings (a .turn .next) ≡ false → known through a ≡ 0
 full-all through a em et =
-    ap (λ m. knownIn (long a) (taken a / 2 ^ level a) m (a .kind) (waits next.Openings (a .next)) through) em
-    ∙ full-known (long a) (taken a / 2 ^ level a) (a .kind) (a .next) through et
+    ap (λ m. knownIn (long a) (completed a (taken a)) m (a .pass .kind) (waits next.Openings (a .turn .next)) through) em
+    ∙ full-known (long a) (completed a (taken a)) (a .pass .kind) (a .turn .next) through et
 
 -- the buffers in the host's hands are as the state has them
 abbrev pub SameBuffers : Lent → State → Type 0
-SameBuffers l a = (j : ℕ) → (at (l .f) j ≡ at (a .f) j) × (at (l .g) j ≡ at (a .g) j)
+SameBuffers l a = (j : ℕ) → (at (l .f) j ≡ at (a .buffers .f) j) × (at (l .g) j ≡ at (a .buffers .g) j)
 
 -- and have room
 abbrev pub Room : Trip → Lent → Type 0
@@ -112,75 +104,106 @@ Room T l = (2 ^ T .start .rounds ≤ length (l .f)) × (2 ^ T .start .rounds ≤
 abbrev pub lentAnew : Mode → Next → Bool
 lentAnew m t = isFull m && waits next.Openings t
 
+pub not-anew : (m : Mode) (t : Next) → waits next.Openings t ≡ false → lentAnew m t ≡ false
+not-anew m t e = by (isFull m) (waits next.Openings t) e
+  where
+    by : (x y : Bool) → y ≡ false → (x && y) ≡ false
+    by true y e = e
+    by false y e = refl
+
 -- a call that writes nothing
-pub still : (a b : State) (l x : Lent) (v u : Vector) → b .f ≡ a .f → b .g ≡ a .g → Written v 0 0 (l .f) (x .f) → Written u 0 0 (l .g) (x .g) → SameBuffers l a → SameBuffers x b
+pub still : (a b : State) (l x : Lent) (v u : Vector) → b .buffers .f ≡ a .buffers .f → b .buffers .g ≡ a .buffers .g → Written v 0 0 (l .f) (x .f) → Written u 0 0 (l .g) (x .g) → SameBuffers l a → SameBuffers x b
 still a b l x v u ef eg wf wg left j =
     (wf .above j (omega arith) ∙ left j .0 ∙ ap (λ y. at y j) (sym ef), wg .above j (omega arith) ∙ left j .1 ∙ ap (λ y. at y j) (sym eg))
 
-module _ (p : ℕ) (large : maxWeight < p) (through : Bool) (T : Trip) (due : Type 0) where
+-- the buffers of a call leave the rest of the state
+pub buffers-same : {A : Type 0} (of : State → A) → ((a : State) (l : Lent) → of (withBuffers a l) ≡ of a) → (b : Bool) (a : State) (l : Lent) → of (buffersIn b a l) ≡ of a
+buffers-same of same true a l = same a l
+buffers-same of same false a l = refl
+
+pub buffers-so : (b : Bool) (a : State) (l : Lent) → (buffersIn b a l .turn ≡ a .turn) × (buffersIn b a l .pass ≡ a .pass)
+buffers-so true a l = (refl, refl)
+buffers-so false a l = (refl, refl)
+
+module _ (p : ℕ) (large : maxWeight < p) (through : Bool) (T : Trip) (due : Type 0) (valid : Valid p T) where
   -- in this mode, with this next, so many challenges, this pass open and so many items taken
-  pub record Standing (m : Mode) (t : Next) (i : ℕ) (k : Kind) (q : ℕ) (w : World) : Type 0 where
-    pub inv : Inv p large (w .state) (w .run) (w .pass)
-    pub start : w .state .start ≡ T .start
-    pub agrees : Agrees p through (T .items) (w .state)
-    pub mode : w .state .mode ≡ m
-    pub next : w .state .next ≡ t
-    pub round : length (w .state .challenges) ≡ i
-    pub kind : w .state .kind ≡ k
-    pub taken : length (w .state .items) ≡ q
+  pub record Standing (m : Mode) (t : Next) (i : ℕ) (k : Kind) (q : ℕ) (w : Host) : Type 0 where
+    pub past : Notes
+    pub going : Going p large through T (valid .whole .items) (w .world) past
+    pub mode : w .world .state .turn .mode ≡ m
+    pub next : w .world .state .turn .next ≡ t
+    pub round : length (w .world .state .turn .challenges) ≡ i
+    pub kind : w .world .state .pass .kind ≡ k
+    pub taken : length (w .world .state .pass .items) ≡ q
     pub room : due → Room T (w .lent)
-    pub left : lentAnew m t ≡ false → SameBuffers (w .lent) (w .state)
+    pub left : lentAnew m t ≡ false → SameBuffers (w .lent) (w .world .state)
 
-  module _ (valid : Valid p T) (m : Mode) (t : Next) (i : ℕ) (k : Kind) (q : ℕ) (w : World) (st : Standing m t i k q w) where
+  module _ (m : Mode) (t : Next) (i : ℕ) (k : Kind) (q : ℕ) (w : Host) (st : Standing m t i k q w) where
     -- ONE CALL that the table has nothing against
-    pub moves : (c : Call) → Sized c → table p (w .state) c (lends p T c (w .lent)) ≡ none → Kept p T through (w .state) c (lends p T c (w .lent))
-        → Moved p large through T (w .state) c (lends p T c (w .lent)) (made p T w c)
-    moves c z free kept =
-        moved p large through T (valid .whole) (w .state) (w .run) (w .pass) (st .inv) (st .start) (st .agrees) c z (lends p T c (w .lent)) free kept
+    abbrev pub MovedBy : Call → Type 0
+    MovedBy c = Moved p large through T (valid .whole .items) (w .world) (st .past) (makes p T w c)
 
-    pub stands : (c : Call) → Moved p large through T (w .state) c (lends p T c (w .lent)) (made p T w c) → (m' : Mode) (t' : Next) (i' : ℕ) (k' : Kind) (q' : ℕ)
-        → (let b : State = goesOn (w .state) c (made p T w c .lent) in
-        b .mode ≡ m' → b .next ≡ t' → length (b .challenges) ≡ i' → b .kind ≡ k' → length (b .items) ≡ q' → (lentAnew m' t' ≡ false → SameBuffers (made p T w c .lent) b)
-        → Standing m' t' i' k' q' (goesBy p T w c))
+    pub start-so : w .world .state .start ≡ T .start
+    start-so = st .going .start
+
+    -- lent fold 0 anew, or what is in the host's hands
+    pub call-lives : (c : Call) → Sized c → (b : Bool) → lentAnew m t ≡ b
+        → (let a : State = w .world .state in
+        let l : Lent = cond b (foldZero p T (w .lent)) (w .lent) in
+        table p a c l ≡ none → KeptBy p T through a c l → (cs : List Call)
+        → (MovedBy c → Right p T a c l (made p T w c) → Lives p T through (hostOn p T w c) cs) → Lives p T through w (c ∷ cs))
+    unfolding Lives
+    call-lives c z b anew free kept cs on =
+        let a : State = w .world .state in
+        let e : lends p T a (w .lent) ≡ cond b (foldZero p T (w .lent)) (w .lent) =
+        ap (λ b. cond b (foldZero p T (w .lent)) (w .lent)) (ap₂ lentAnew (st .mode) (st .next) ∙ anew) in
+        let here = subst (λ l. (table p a c l ≡ none) × KeptBy p T through a c l) (sym e) (free, kept) in
+        let v : MovedBy c =
+        moved p large through T (valid .whole .items) (w .world) (st .going) (makes p T w c) z (here .0) (by-kept p T through a c (lends p T a (w .lent)) (here .1)) in
+        ((v .answered, z, here .1), on v (subst (λ l. Right p T a c l (made p T w c)) e (v .right)))
+
+    pub stands : (c : Call) → MovedBy c → (m' : Mode) (t' : Next) (i' : ℕ) (k' : Kind) (q' : ℕ)
+        → (let b : State = goesOn (w .world .state) c (made p T w c .lent) in
+        b .turn .mode ≡ m' → b .turn .next ≡ t' → length (b .turn .challenges) ≡ i' → b .pass .kind ≡ k' → length (b .pass .items) ≡ q'
+        → (lentAnew m' t' ≡ false → SameBuffers (made p T w c .lent) b) → Standing m' t' i' k' q' (hostOn p T w c))
     stands c v m' t' i' k' q' em et ei ek eq left =
         record {
-          inv = v .inv;
-          start = v .start;
-          agrees = v .agrees;
-          mode = ap (λ d. d .mode) (v .state) ∙ em;
-          next = ap (λ d. d .next) (v .state) ∙ et;
-          round = ap (λ d. length (d .challenges)) (v .state) ∙ ei;
-          kind = ap (λ d. d .kind) (v .state) ∙ ek;
-          taken = ap (λ d. length (d .items)) (v .state) ∙ eq;
+          past = noted (st .past) (made p T w c .answer);
+          going = v .going;
+          mode = ap (λ d. d .turn .mode) (v .state) ∙ em;
+          next = ap (λ d. d .turn .next) (v .state) ∙ et;
+          round = ap (λ d. length (d .turn .challenges)) (v .state) ∙ ei;
+          kind = ap (λ d. d .pass .kind) (v .state) ∙ ek;
+          taken = ap (λ d. length (d .pass .items)) (v .state) ∙ eq;
           room = λ d. (
-            subst (λ n. 2 ^ T .start .rounds ≤ n) (sym (v .right .f .size ∙ lends-length p T c (w .lent) .0)) (st .room d .0),
-            subst (λ n. 2 ^ T .start .rounds ≤ n) (sym (v .right .g .size ∙ lends-length p T c (w .lent) .1)) (st .room d .1),
+            subst (λ n. 2 ^ T .start .rounds ≤ n) (sym (v .right .f .size ∙ lends-length p T (w .world .state) (w .lent) .0)) (st .room d .0),
+            subst (λ n. 2 ^ T .start .rounds ≤ n) (sym (v .right .g .size ∙ lends-length p T (w .world .state) (w .lent) .1)) (st .room d .1),
           );
-          left = λ y j. (left y j .0 ∙ ap (λ x. at x j) (sym (v .f)), left y j .1 ∙ ap (λ x. at x j) (sym (v .g)));
+          left = λ y. subst (SameBuffers (made p T w c .lent)) (sym (v .state)) (left y);
         }
 
     -- THE BUFFERS FIT
-    long-most : long (w .state) ≤ 2 ^ T .start .rounds
-    long-most = subst (λ s. long (w .state) ≤ 2 ^ s .rounds) (st .start) (div-le-self _ _)
+    long-most : long (w .world .state) ≤ 2 ^ T .start .rounds
+    long-most = subst (λ s. long (w .world .state) ≤ 2 ^ s .rounds) start-so (div-le-self _ _)
 
-    pub fits-long : (l : Lent) → Room T l → bothLong (w .state) l ≡ true
-    fits-long l r = long-enough p (w .state) l (omega (arith, long-most, r .0)) (omega (arith, long-most, r .1))
+    pub fits-long : (l : Lent) → Room T l → bothLong (w .world .state) l ≡ true
+    fits-long l r = long-enough p (w .world .state) l (omega (arith, long-most, r .0)) (omega (arith, long-most, r .1))
 
     -- and hold the current fold in full mode
-    fold-small : (j : ℕ) → (foldF p (tripAt (T .items) (w .state)) (w .state) j < p) × (foldG p (tripAt (T .items) (w .state)) (w .state) j < p)
+    fold-small : (j : ℕ) → (foldF p (tripAt (T .items) (w .world .state)) (w .world .state) j < p) × (foldG p (tripAt (T .items) (w .world .state)) (w .world .state) j < p)
     fold-small j =
-        subst (λ U. (foldF p U (w .state) j < p) × (foldG p U (w .state) j < p)) (sym (same-trip p large through T (w .state) (st .start)))
+        subst (λ U. (foldF p U (w .world .state) j < p) × (foldG p U (w .world .state) j < p)) (sym (same-trip p large through T (valid .whole .items) (w .world) (st .going)))
         (fold-below p (positive p large) _ (vectorF p T) (f-below p large T valid) _ j, fold-below p (positive p large) _ (vectorG p T) (g-below p large T valid) _ j)
 
-    pub fits-read : due → m ≡ Full → waits next.Openings t ≡ false → readRows p (w .state) (w .lent) ≡ none
+    pub fits-read : due → m ≡ Full → waits next.Openings t ≡ false → readRows p (w .world .state) (w .lent) ≡ none
     fits-read d em et =
         let r = st .room d in
-        let a : State = w .state in
-        let now : waits next.Openings (a .next) ≡ false = ap (waits next.Openings) (st .next) ∙ et in
+        let a : State = w .world .state in
+        let now : waits next.Openings (a .turn .next) ≡ false = ap (waits next.Openings) (st .next) ∙ et in
         let all : known through a ≡ 0 = full-all through a (st .mode ∙ em) now in
         let anew : lentAnew m t ≡ false = ap₂ (λ m o. isFull m && o) em et in
         reads-free p a (w .lent) (omega (arith, long-most, r .0)) (omega (arith, long-most, r .1))
         (λ j h. (
-          subst (λ x. x < p) (sym (st .left anew j .0 ∙ st .agrees .placesF j (omega (arith, all)) h)) (fold-small j .0),
-          subst (λ x. x < p) (sym (st .left anew j .1 ∙ st .agrees .placesG j (omega (arith, all)) h)) (fold-small j .1),
+          subst (λ x. x < p) (sym (st .left anew j .0 ∙ st .going .agrees .placesF j (omega (arith, all)) h)) (fold-small j .0),
+          subst (λ x. x < p) (sym (st .left anew j .1 ∙ st .going .agrees .placesG j (omega (arith, all)) h)) (fold-small j .1),
         ))

@@ -3,7 +3,7 @@ use mathlib.Core.Path.{_≡_, refl, sym, ap, ap₂, subst, _∙_}
 use mathlib.Core.Bool.{Bool, true, false, cond, true≢false}
 use mathlib.Core.List.{List, [], _∷_, _++_}
 use mathlib.Core.Option.{none}
-use Prim.Native.Nat.{ℕ, _+_, _*_, _-_, _^_, _<_, _≤_}
+use Prim.Native.Nat.{ℕ, _*_, _^_, _<_, _≤_}
 use lib.Dec.{leb}
 use lib.ListN.{length}
 use borrow.Author.Tests.{eqb-true, leb-true}
@@ -11,7 +11,6 @@ use Rattle.refusal.specs.Limit.{maxWeight}
 use Rattle.refusal.specs.Outcome.{Outcome, answered, refused, refusedAt}
 use Rattle.wire.specs.Proof.{proofFile}
 use Rattle.vector.specs.Vector.{at, dot}
-use Rattle.vector.specs.Message.{Message}
 use Rattle.vector.specs.Slice.{allReduced, isNonzero}
 use Rattle.vector.proofs.KernelPass.{Taken}
 use Rattle.prover.specs.declared.Next.{Next}
@@ -22,6 +21,8 @@ use Rattle.prover.specs.declared.Run.{Run}
 use Rattle.prover.specs.declared.Pass.{Pass}
 use Rattle.prover.specs.declared.Step.{Step}
 use Rattle.prover.specs.declared.Answer.the-variants as answer
+use Rattle.prover.specs.Reply.{answerIn}
+use Rattle.prover.specs.Reply as reply
 use Rattle.prover.specs.Records.{Out, noValues, answeredStep, kernelOf}
 use Rattle.prover.specs.Order.{isTotal, isOpenings, levelOf, roundOrEnds}
 use Rattle.prover.specs.WellFormed.{roundFits, kindFits}
@@ -33,19 +34,20 @@ use Rattle.prover.specs.Written.{proofOf}
 use Rattle.prover.proofs.FullLaws as full
 use Rattle.prover.proofs.FullLaws.{message-law, ends-law}
 use Rattle.prover.proofs.OpeningLaws.{opening-law}
-use Rattle.runs.specs.Trip.{Raw, Trip, vectorF, vectorG, totalOf}
+use Rattle.item.specs.declared.Given.{Given}
+use Rattle.runs.specs.Trip.{Trip, vectorF, vectorG, totalOf}
 use Rattle.runs.specs.Passes.{passAfter, Gives}
 use Rattle.runs.proofs.PassRecord.{after-kind, after-points}
 use Rattle.runs.proofs.PassTrip.{after-dot, after-sum}
 use Rattle.runs.proofs.CloseLaws.{closed-message, closed-ends, closed-opening}
 use Rattle.calls.specs.declared.Call.the-variants as call
 use Rattle.calls.specs.Step.{Lent}
-use Rattle.calls.specs.State.{State, isFull}
-use Rattle.calls.specs.Table.{isOpen, waits, long, bothLong, readRows, table}
-use Rattle.calls.specs.Meaning.{Reply, reply, roundMessage, ends, openingAt, closeAsks, foldF, foldG, messagesTo, proofOfTrip}
-use Rattle.calls.proofs.Records.{runOf, passOf}
+use Rattle.calls.specs.State.{isFull, isOpen, State}
+use Rattle.calls.specs.Table.{decided, waits, long, bothLong, readRows, table}
+use Rattle.calls.specs.Meaning.{Answer, meant, roundMessage, ends, openingAt, closeAsks, foldF, foldG, messagesTo, proofOfTrip}
+use Rattle.calls.proofs.Records.{Notes, runOf, passOf}
 use Rattle.calls.proofs.Arrays.{array-take}
-use Rattle.calls.proofs.Guards.{fulls, level-now, fold-long, message-decided, ends-decided, opening-decided, decided}
+use Rattle.calls.proofs.Guards.{level-now, fold-long, message-decided, ends-decided, opening-decided}
 use Rattle.calls.proofs.Steps.{row-passed, closeStep}
 use Rattle.calls.proofs.Fits.{givenAt, Fits, few, run-formed, formed}
 use Rattle.calls.proofs.Turns.{both}
@@ -69,53 +71,53 @@ same-out : {s t : Out} → answered s ≡ answered t → s ≡ t
 same-out {s} {t} e = ap (outIn s) e
 
 -- an answer with its values
-abbrev pub replied : Step → Reply
-replied s = record { answer = s .answer; values = s .values }
+abbrev pub replied : Step → Answer
+replied s = record { answer = answerIn (s .answer); values = s .values }
 
-abbrev pub repliedOut : Out → Reply
+abbrev pub repliedOut : Out → Answer
 repliedOut o = record { answer = o .answer; values = o .values }
 
-module _ (p : ℕ) (large : maxWeight < p) (through : Bool) (its : List Raw) (a : State) (h : Fits p a) where
+module _ (p : ℕ) (large : maxWeight < p) (through : Bool) (its : List Given) (a : State) {past : Notes} (h : Fits p a past) where
   abbrev T : Trip
   T = tripAt its a
 
   abbrev R : Run
-  R = runOf a
+  R = runOf a past
 
   abbrev n : ℕ
   n = a .start .rounds
 
   abbrev cs : ℕ → ℕ
-  cs = at (a .challenges)
+  cs = at (a .turn .challenges)
 
   -- THE CLOSE OF A PASS
-  module _ (gives : Gives T (a .items)) (all : length (a .items) ≡ a .start .items) (whole : length its ≡ a .start .items) where
+  module _ (gives : Gives T (a .pass .items)) (all : length (a .pass .items) ≡ a .start .items) (whole : length its ≡ a .start .items) where
     abbrev S : Kind → Pass
-    S k = passAfter p R k (a .point) (a .items)
+    S k = passAfter p R k (a .pass .point) (a .pass .items)
 
-    total-meant : (plain : Bool) → a .next ≡ next.Total
+    total-meant : (plain : Bool) → a .turn .next ≡ next.Total
         → replied (cond plain (answeredStep (withTotal R (S Asked .total)) shutPass (answer.Total (S Asked .total)))
-        (answeredStep (goneTo R (roundOrEnds 0 (R .rounds))) shutPass (answer.FieldTotal (S Asked .dot))))
-        ≡ record { answer = cond plain (answer.Total (totalOf T)) (answer.FieldTotal (dot p (2 ^ n) (vectorF p T) (vectorG p T))); values = noValues }
+        (answeredStep (goneTo R (roundOrEnds 0 (R .start .rounds))) shutPass (answer.FieldTotal (S Asked .dot))))
+        ≡ record { answer = answered (cond plain (reply.total (totalOf T)) (reply.fieldTotal (dot p (2 ^ n) (vectorF p T) (vectorG p T)))); values = noValues }
     total-meant true e =
-        ap (λ z. record { answer = answer.Total z; values = noValues })
-        (after-sum p R Asked (a .point) (a .items) (run-formed p a h) (ap isTotal e) (h .pass .within) all T refl gives whole)
+        ap (λ z. record { answer = answered (reply.total z); values = noValues })
+        (after-sum p R Asked (a .pass .point) (a .pass .items) (run-formed p a h) (ap isTotal e) (h .pass .within) all T refl gives whole)
     total-meant false e =
-        ap (λ z. record { answer = answer.FieldTotal z; values = noValues })
-        (after-dot p R Asked (a .point) (a .items) (run-formed p a h) (ap isTotal e) all T refl gives)
+        ap (λ z. record { answer = answered (reply.fieldTotal z); values = noValues })
+        (after-dot p R Asked (a .pass .point) (a .pass .items) (run-formed p a h) (ap isTotal e) all T refl gives)
 
-    taken-whole : a .kind ≡ Asked → isTotal (a .next) ≡ false
+    taken-whole : a .pass .kind ≡ Asked → isTotal (a .turn .next) ≡ false
         → Taken p n cs (levelOf R (S Asked .kind)) (S Asked .points) (vectorF p T) (vectorG p T) (2 ^ n) (kernelOf (S Asked))
     taken-whole ek other =
-        subst (λ k. Taken p n cs (levelOf R k) (S Asked .points) (vectorF p T) (vectorG p T) (2 ^ n) (kernelOf (S Asked))) (sym (after-kind p R Asked (a .point) (a .items)))
+        subst (λ k. Taken p n cs (levelOf R k) (S Asked .points) (vectorF p T) (vectorG p T) (2 ^ n) (kernelOf (S Asked))) (sym (after-kind p R Asked (a .pass .point) (a .pass .items)))
         (pass-whole p its a h Asked ek refl other gives all)
 
     -- an opening pass evaluates at its point
-    opening-points : a .next ≡ next.Openings → S Asked .points ≡ pointsOf p (a .point)
-    opening-points et = after-points p R Asked (a .point) (a .items) ∙ ap (λ t. cond (isOpenings t) (newPass Asked (pointsOf p (a .point)) (paddedKernel R)) (newPass Asked noPoints (openKernel R)) .points) et
+    opening-points : a .turn .next ≡ next.Openings → S Asked .points ≡ pointsOf p (a .pass .point)
+    opening-points et = after-points p R Asked (a .pass .point) (a .pass .items) ∙ ap (λ t. cond (isOpenings t) (newPass Asked (pointsOf p (a .pass .point)) (paddedKernel R)) (newPass Asked noPoints (openKernel R)) .points) et
 
-    pub close-meant : (t : Next) (k : Kind) → a .next ≡ t → a .kind ≡ k → isOpen k ≡ true → kindFits k (a .mode) t ≡ true
-        → replied (closeStep R (S k) t k) ≡ reply p T (a .challenges) (closeAsks a t k)
+    pub close-meant : (t : Next) (k : Kind) → a .turn .next ≡ t → a .pass .kind ≡ k → isOpen k ≡ true → kindFits k (a .turn .mode) t ≡ true
+        → replied (closeStep R (S k) t k) ≡ meant p T (a .turn .challenges) (closeAsks a t k)
     close-meant t Shut et ek op fit = absurd (true≢false (sym op))
     close-meant next.Total Asked et ek op fit = total-meant (a .start .plain) et
     close-meant next.Message Asked et ek op fit =
@@ -127,15 +129,15 @@ module _ (p : ℕ) (large : maxWeight < p) (through : Bool) (its : List Raw) (a 
         ap replied
         (same-step
         (closed-opening p cs (vectorF p T) (vectorG p T) R (S Asked) (run-formed p a h) (taken-whole ek (ap isTotal et)) et
-        (after-kind p R Asked (a .point) (a .items)) (a .point) (opening-points et)))
+        (after-kind p R Asked (a .pass .point) (a .pass .items)) (a .pass .point) (opening-points et)))
     close-meant t Change et ek op fit = refl
 
   -- IN FULL MODE: the buffers as lent hold the current fold
   places-lent : (f g : List ℕ) → long a ≤ length f → long a ≤ length g → ((j : ℕ) → j < long a → (at f j ≡ foldF p T a j) × (at g j ≡ foldG p T a j))
       → full.Lent p cs (vectorF p T) (vectorG p T) R f g
   places-lent f g lf lg same =
-      let e = fold-long p a (few p a h) in
-      let l = level-now n (length (a .challenges)) (a .next) in
+      let e = fold-long p a past (few p a h) in
+      let l = level-now n (length (a .turn .challenges)) (a .turn .next) in
       record {
         first = rw (e, l) (record { long = lf; same = λ k less. same k less .0 });
         second = rw (e, l) (record { long = lg; same = λ k less. same k less .1 });
@@ -153,40 +155,40 @@ module _ (p : ℕ) (large : maxWeight < p) (through : Bool) (its : List Raw) (a 
     reduced : bothReduced p R (l .f) (l .g) ≡ true
     reduced =
         let q = both (allReduced p (long a) (l .f)) (allReduced p (long a) (l .g)) (row-passed _ 16 none (row-passed (bothLong a l) 9 _ rows .1) .0) in
-        rw (fold-long p a (few p a h), q .0, q .1)
+        rw (fold-long p a past (few p a h), q .0, q .1)
 
-    pub message-meant : table p a call.Message l ≡ none → a .next ≡ next.Message → isFull (a .mode) ≡ true
-        → repliedOut (messageGiven p R (passOf p a) (l .f) (l .g)) ≡ reply p T (a .challenges) (roundMessage (length (a .challenges)))
+    pub message-meant : table p a call.Message l ≡ none → a .turn .next ≡ next.Message → isFull (a .turn .mode) ≡ true
+        → repliedOut (messageGiven p R (passOf p a past) (l .f) (l .g)) ≡ meant p T (a .turn .challenges) (roundMessage (length (a .turn .challenges)))
     message-meant e et f =
-        let turn : messageTurn p R (passOf p a) ≡ true = rw (formed p a h, sym (fulls (a .mode)), f, et) in
-        let law = message-law p cs (vectorF p T) (vectorG p T) R (passOf p a) (l .f) (l .g) lent-full reduced turn in
-        let here = message-decided p a (few p a h) (passOf p a) (formed p a h) l ∙ ap (λ t. decided t (answered (messageGiven p R (passOf p a) (l .f) (l .g)))) e in
+        let turn : messageTurn p R (passOf p a past) ≡ true = rw (formed p a h, f, et) in
+        let law = message-law p cs (vectorF p T) (vectorG p T) R (passOf p a past) (l .f) (l .g) lent-full reduced turn in
+        let here = message-decided p a past (few p a h) (passOf p a past) (formed p a h) l ∙ ap (λ t. decided t (answered (messageGiven p R (passOf p a past) (l .f) (l .g)))) e in
         ap repliedOut (same-out (sym here ∙ law))
 
-    pub ends-meant : table p a call.Ends l ≡ none → a .next ≡ next.Ends → isFull (a .mode) ≡ true
-        → repliedOut (endsGiven R (passOf p a) (l .f) (l .g)) ≡ reply p T (a .challenges) ends
+    pub ends-meant : table p a call.Ends l ≡ none → a .turn .next ≡ next.Ends → isFull (a .turn .mode) ≡ true
+        → repliedOut (endsGiven R (passOf p a past) (l .f) (l .g)) ≡ meant p T (a .turn .challenges) ends
     ends-meant e et f =
-        let turn : endsTurn p R (passOf p a) ≡ true = rw (formed p a h, sym (fulls (a .mode)), f, et) in
-        let law = ends-law p cs (vectorF p T) (vectorG p T) R (passOf p a) (l .f) (l .g) lent-full reduced turn in
-        let here = ends-decided p a (few p a h) (passOf p a) (formed p a h) l ∙ ap (λ t. decided t (answered (endsGiven R (passOf p a) (l .f) (l .g)))) e in
+        let turn : endsTurn p R (passOf p a past) ≡ true = rw (formed p a h, f, et) in
+        let law = ends-law p cs (vectorF p T) (vectorG p T) R (passOf p a past) (l .f) (l .g) lent-full reduced turn in
+        let here = ends-decided p a past (few p a h) (passOf p a past) (formed p a h) l ∙ ap (λ t. decided t (answered (endsGiven R (passOf p a past) (l .f) (l .g)))) e in
         ap repliedOut (same-out (sym here ∙ law))
 
-    pub opening-meant : (b : ℕ) → table p a (call.Opening b) l ≡ none → openingTurn p R (passOf p a) ≡ true → isNonzero p b ≡ true
+    pub opening-meant : (b : ℕ) → table p a (call.Opening b) l ≡ none → openingTurn p R (passOf p a past) ≡ true → isNonzero p b ≡ true
         → ((j : ℕ) → j < n → at (R .challenges) j ≡ cs j)
-        → repliedOut (openingGiven p R (passOf p a) b (l .f) (l .g)) ≡ reply p T (a .challenges) (openingAt b)
+        → repliedOut (openingGiven p R (passOf p a past) b (l .f) (l .g)) ≡ meant p T (a .turn .challenges) (openingAt b)
     opening-meant b e turn ok agree =
-        let law = opening-law p cs (vectorF p T) (vectorG p T) R (passOf p a) (l .f) (l .g) lent-full reduced agree b turn ok in
-        let here = opening-decided p a (few p a h) (passOf p a) (formed p a h) b l ∙ ap (λ t. decided t (answered (openingGiven p R (passOf p a) b (l .f) (l .g)))) e in
+        let law = opening-law p cs (vectorF p T) (vectorG p T) R (passOf p a past) (l .f) (l .g) lent-full reduced agree b turn ok in
+        let here = opening-decided p a past (few p a h) (passOf p a past) (formed p a h) b l ∙ ap (λ t. decided t (answered (openingGiven p R (passOf p a past) b (l .f) (l .g)))) e in
         ap repliedOut (same-out (sym here ∙ law))
 
   -- THE PROOF FILE
-  pub file-meant : (g : Agrees p through its a) → a .start .plain ≡ true → a .next ≡ next.Openings → proofOf R ≡ proofOfTrip p T (a .challenges)
+  pub file-meant : (g : Agrees p through its a past) → a .start .plain ≡ true → a .turn .next ≡ next.Openings → proofOf R ≡ proofOfTrip p T (a .turn .challenges)
   file-meant g plain et =
-      let full : length (a .challenges) ≡ n = eqb-true _ _ (subst (λ t. roundFits t (length (a .challenges)) n ≡ true) et (h .run .round)) in
-      let count : length (a .messages) ≡ 3 * n = h .run .given ∙ ap (λ t. 3 * givenAt (length (a .challenges)) t) et ∙ ap (λ k. 3 * k) full in
-      let given : a .messages ≡ messagesTo p T (a .challenges) n =
-      g .messages ∙ ap (λ t. messagesTo p T (a .challenges) (givenAt (length (a .challenges)) t)) et ∙ ap (messagesTo p T (a .challenges)) full in
+      let full : length (a .turn .challenges) ≡ n = eqb-true _ _ (subst (λ t. roundFits t (length (a .turn .challenges)) n ≡ true) et (h .run .round)) in
+      let count : length (past .messages) ≡ 3 * n = h .run .given ∙ ap (λ t. 3 * givenAt (length (a .turn .challenges)) t) et ∙ ap (λ k. 3 * k) full in
+      let given : past .messages ≡ messagesTo p T (a .turn .challenges) n =
+      g .messages ∙ ap (λ t. messagesTo p T (a .turn .challenges) (givenAt (length (a .turn .challenges)) t)) et ∙ ap (messagesTo p T (a .turn .challenges)) full in
       let e = g .ends (ap (waits next.Openings) et) in
-      let z : a .total ≡ totalOf T = g .total plain (ap (waits next.Total) et) in
-      ap₂ (λ z ms. proofFile n z (ms ++ a .fend ∷ a .gend ∷ [])) z (array-take 45 (a .messages) (3 * n) count ∙ given)
-      ∙ ap₂ (λ x y. proofFile n (totalOf T) (messagesTo p T (a .challenges) n ++ x ∷ y ∷ [])) (e .0) (e .1)
+      let z : past .total ≡ totalOf T = g .total plain (ap (waits next.Total) et) in
+      ap₂ (λ z ms. proofFile n z (ms ++ past .fend ∷ past .gend ∷ [])) z (array-take 45 (past .messages) (3 * n) count ∙ given)
+      ∙ ap₂ (λ x y. proofFile n (totalOf T) (messagesTo p T (a .turn .challenges) n ++ x ∷ y ∷ [])) (e .0) (e .1)

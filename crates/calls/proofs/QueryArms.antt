@@ -3,49 +3,44 @@ use mathlib.Core.Path.{_≡_, sym, ap, _∙_}
 use Prim.Native.Nat.{ℕ}
 use lib.IntN.{ℤ}
 use Rattle.refusal.specs.Outcome.{Outcome}
+use Rattle.item.specs.declared.Given.{Given}
 use Rattle.verifier.specs.declared.Verifier.{Verifier}
-use Rattle.verifier.specs.declared.Step.{Step}
-use Rattle.verifier.specs.Records.{leaves, Finding, OpeningFinding}
-use Rattle.verifier.specs.Calls.{item, fieldItem, close, closeClaim, message, verdict, checkOpening}
+use Rattle.verifier.specs.Records.{Handed, leaves, Finding, OpeningFinding}
+use Rattle.verifier.specs.Calls.{give, close, closeClaim, message, verdict, checkOpening}
 use Rattle.verifier.specs.ProofFile.{proof, leavesJudged}
 use Rattle.calls.specs.declared.query.Query.{Query}
 use Rattle.calls.specs.declared.query.Query.the-variants as query
-use Rattle.calls.specs.declared.query.Heard.{Heard}
-use Rattle.calls.specs.QueryStep.{Shown, toldVerdict, toldOpening, heardStep, ask}
+use Rattle.calls.specs.QueryStep.{Shown, finds, opens, Spoken, saying, replying, ask}
 
-module _ (p : ℕ) (v : Verifier) (l : Shown) {q : Query} {r : Heard} where
-  pub item-arm : (z : ℤ) (w : ℕ) {s : Step} → q ≡ query.Item z w → s ≡ leaves v (item p v z w) → r ≡ heardStep s → r ≡ ask p v q l
+module _ (p : ℕ) (v : Verifier) (l : Shown) {q : Query} {r : Spoken} where
+  pub item-arm : (x : Given) {s : Handed} → q ≡ query.Give x → s ≡ leaves v (give p v x) → r ≡ replying s → r ≡ ask p v q l
   unfolding ask
-  item-arm z w e a b = b ∙ ap heardStep a ∙ ap (λ q. ask p v q l) (sym e)
+  item-arm x e a b = b ∙ ap replying a ∙ ap (λ q. ask p v q l) (sym e)
 
-  pub field-item-arm : (x y : ℕ) {s : Step} → q ≡ query.FieldItem x y → s ≡ leaves v (fieldItem p v x y) → r ≡ heardStep s → r ≡ ask p v q l
+  pub close-arm : (t : ℤ) {s : Handed} → q ≡ query.Close t → s ≡ leaves v (close p v t) → r ≡ replying s → r ≡ ask p v q l
   unfolding ask
-  field-item-arm x y e a b = b ∙ ap heardStep a ∙ ap (λ q. ask p v q l) (sym e)
+  close-arm t e a b = b ∙ ap replying a ∙ ap (λ q. ask p v q l) (sym e)
 
-  pub close-arm : (t : ℤ) {s : Step} → q ≡ query.Close t → s ≡ leaves v (close p v t) → r ≡ heardStep s → r ≡ ask p v q l
+  pub close-claim-arm : (c : ℕ) {s : Handed} → q ≡ query.CloseClaim c → s ≡ leaves v (closeClaim p v c) → r ≡ replying s → r ≡ ask p v q l
   unfolding ask
-  close-arm t e a b = b ∙ ap heardStep a ∙ ap (λ q. ask p v q l) (sym e)
+  close-claim-arm c e a b = b ∙ ap replying a ∙ ap (λ q. ask p v q l) (sym e)
 
-  pub close-claim-arm : (c : ℕ) {s : Step} → q ≡ query.CloseClaim c → s ≡ leaves v (closeClaim p v c) → r ≡ heardStep s → r ≡ ask p v q l
+  pub message-arm : (even cross odd : ℕ) {s : Handed} → q ≡ query.Message even cross odd → s ≡ leaves v (message p v even cross odd)
+      → r ≡ replying s → r ≡ ask p v q l
   unfolding ask
-  close-claim-arm c e a b = b ∙ ap heardStep a ∙ ap (λ q. ask p v q l) (sym e)
+  message-arm even cross odd e a b = b ∙ ap replying a ∙ ap (λ q. ask p v q l) (sym e)
 
-  pub message-arm : (even cross odd : ℕ) {s : Step} → q ≡ query.Message even cross odd → s ≡ leaves v (message p v even cross odd)
-      → r ≡ heardStep s → r ≡ ask p v q l
+  pub verdict-arm : {o : Outcome Finding} → q ≡ query.Verdict → o ≡ verdict p v → r ≡ saying finds v o → r ≡ ask p v q l
   unfolding ask
-  message-arm even cross odd e a b = b ∙ ap heardStep a ∙ ap (λ q. ask p v q l) (sym e)
-
-  pub verdict-arm : {o : Outcome Finding} → q ≡ query.Verdict → o ≡ verdict p v → r ≡ record { verifier = v; told = toldVerdict o } → r ≡ ask p v q l
-  unfolding ask
-  verdict-arm e a b = b ∙ ap (λ o. record { verifier = v; told = toldVerdict o }) a ∙ ap (λ q. ask p v q l) (sym e)
+  verdict-arm e a b = b ∙ ap (saying finds v) a ∙ ap (λ q. ask p v q l) (sym e)
 
   pub proof-arm : {w : Verifier} {o : Outcome Finding} → q ≡ query.Proof
-      → _≡_ {A = Verifier × Outcome Finding} (w, o) (leavesJudged v (proof p v (l .file))) → r ≡ record { verifier = w; told = toldVerdict o }
+      → _≡_ {A = Verifier × Outcome Finding} (w, o) (leavesJudged v (proof p v (l .file))) → r ≡ saying finds w o
       → r ≡ ask p v q l
   unfolding ask
-  proof-arm e a b = b ∙ ap (λ o. record { verifier = o .0; told = toldVerdict (o .1) }) a ∙ ap (λ q. ask p v q l) (sym e)
+  proof-arm e a b = b ∙ ap (λ o. saying finds (o .0) (o .1)) a ∙ ap (λ q. ask p v q l) (sym e)
 
   pub opening-arm : (b : ℕ) {o : Outcome OpeningFinding} → q ≡ query.CheckOpening b → o ≡ checkOpening p v b (l .values)
-      → r ≡ record { verifier = v; told = toldOpening o } → r ≡ ask p v q l
+      → r ≡ saying opens v o → r ≡ ask p v q l
   unfolding ask
-  opening-arm b e a h = h ∙ ap (λ o. record { verifier = v; told = toldOpening o }) a ∙ ap (λ q. ask p v q l) (sym e)
+  opening-arm b e a h = h ∙ ap (saying opens v) a ∙ ap (λ q. ask p v q l) (sym e)

@@ -21,42 +21,37 @@ use Rattle.verifier.specs.Sums.{oneMore}
 use Rattle.verifier.specs.Claims.{messageOf3, closedWith, passedWith, failedNow, hears, finds}
 use Rattle.verifier.specs.Calls.{verdictTurn, verdict}
 use Rattle.verifier.specs.ProofFile.{fileMessage, hearsNext, hearsFirst, endsAgree, compares, afterFile, judges, proof}
-use Rattle.verifier.proofs.Kept.{item-kept, field-item-kept, close-kept, close-claim-kept, message-kept}
+use Rattle.verifier.proofs.Kept.{give-kept, close-kept, close-claim-kept, message-kept}
 use Rattle.verifier.proofs.Answered.{require-answered}
 use Rattle.verifier.proofs.ProofFiles.{proof-answered, given-again, proof-kept}
-use Rattle.runs.specs.Trip.{Raw, Start}
+use Rattle.item.specs.declared.Start.{Start}
+use Rattle.item.specs.declared.Given.{Given}
 use Rattle.calls.specs.declared.query.Query.{Query}
 use Rattle.calls.specs.declared.query.Query.the-variants as query
-use Rattle.calls.specs.declared.query.Heard.{Heard}
-use Rattle.calls.specs.QueryStep.{Shown, toldOf, toldVerdict, ask}
+use Rattle.calls.specs.QueryStep.{Shown, replies, Spoken, ask}
+use Rattle.calls.specs.QueryStep as said
 use Rattle.calls.specs.QueryState.{VerifierState, takesItem, atRound, hearing, hears as goesOn, verifierTable}
-use Rattle.calls.proofs.Guards.{decided}
+use Rattle.calls.specs.Table.{decided}
 use Rattle.calls.proofs.QueryStands.{Carries, Stands, verdict-closed, verdict-turn}
 use Rattle.calls.proofs.QueryGuards.{proof-decided}
-use Rattle.calls.proofs.QueryTurns.{item-rows, field-rows, close-rows, claim-rows, message-rows, verdict-row}
-use Rattle.calls.proofs.QuerySteps.{heardAs, answers, settledHeard, asks}
+use Rattle.calls.proofs.QueryTurns.{item-rows, close-rows, claim-rows, message-rows, verdict-row}
+use Rattle.calls.proofs.QuerySteps.{heardAs, goesTo, saysSo, answers, settledHeard, asks}
 
 -- what no message changes
 record Base : Type 0 where
-  items : ℕ
-  rounds : ℕ
-  plain : Bool
-  twists : List ℕ
+  start : Start
   challenges : List ℕ
   taken : ℕ
 
 abbrev baseOf : Verifier → Base
 baseOf v =
-    record { items = v .items; rounds = v .rounds; plain = v .plain; twists = v .twists; challenges = v .challenges; taken = v .taken }
+    record { start = v .start; challenges = v .challenges; taken = v .taken }
 
 carries-as : {s : Start} {cs : List ℕ} {k : ℕ} (v w : Verifier) → Carries s cs k v → baseOf w ≡ baseOf v → wellFormed w ≡ true → Carries s cs k w
 carries-as v w c e formed =
     record {
       formed = formed;
-      items = ap (λ b. b .items) e ∙ c .items;
-      rounds = ap (λ b. b .rounds) e ∙ c .rounds;
-      plain = ap (λ b. b .plain) e ∙ c .plain;
-      twists = ap (λ b. b .twists) e ∙ c .twists;
+      start = ap (λ b. b .start) e ∙ c .start;
       challenges = ap (λ b. b .challenges) e ∙ c .challenges;
       taken = ap (λ b. b .taken) e ∙ c .taken;
     }
@@ -94,33 +89,33 @@ module _ (p : ℕ) where
   file-base : (v : Verifier) (file : List ℕ) → baseOf (afterFile p v (proofTotal file) file) ≡ baseOf v
   unfolding afterFile closedWith
   file-base v file =
-      compared-base (hearsFirst p (closedWith v (image p (proofTotal file))) (fileMessage file) (v .rounds)) file
-      ∙ first-base (closedWith v (image p (proofTotal file))) (fileMessage file) (v .rounds)
+      compared-base (hearsFirst p (closedWith v (image p (proofTotal file))) (fileMessage file) (v .start .rounds)) file
+      ∙ first-base (closedWith v (image p (proofTotal file))) (fileMessage file) (v .start .rounds)
 
   -- a verdict of yes
-  said-yes : (w : Verifier) → verdictTurn w ≡ true → finds p w ≡ yes → (w .failed ≡ false) × (w .round ≡ w .rounds)
+  said-yes : (w : Verifier) → verdictTurn w ≡ true → finds p w ≡ yes → (w .failed ≡ false) × (w .round ≡ w .start .rounds)
   unfolding verdictTurn finds
   said-yes w = by (w .closed) (w .failed)
     where
-      by : (c f : Bool) → cond c (cond f true (eqb (w .round) (w .rounds))) false ≡ true
-          → cond f (no (w .round)) (cond (eqb (w .claim) (mulMod p (w .fsum) (w .gsum))) yes (no (w .rounds))) ≡ yes
-          → (f ≡ false) × (w .round ≡ w .rounds)
+      by : (c f : Bool) → cond c (cond f true (eqb (w .round) (w .start .rounds))) false ≡ true
+          → cond f (no (w .round)) (cond (eqb (w .claim) (mulMod p (w .fsum) (w .gsum))) yes (no (w .start .rounds))) ≡ yes
+          → (f ≡ false) × (w .round ≡ w .start .rounds)
       by false f t e = absurd (true≢false (sym t))
       by true true t e = let z : _≡_ {A = Bool} true false = cc in absurd (true≢false z)
-      by true false t e = (refl, eqb-true (w .round) (w .rounds) t)
+      by true false t e = (refl, eqb-true (w .round) (w .start .rounds) t)
 
   -- a verdict reached, by the call for it or with a file
   pub verdict-stands : (a : VerifierState) (w : Verifier) → Carries (a .start) (a .challenges) (length (a .items)) w → verdictTurn w ≡ true
-      → Stands p (hearing a (toldVerdict (answered (finds p w)))) w
+      → Stands p (hearing a (said.finds (finds p w))) w
   verdict-stands a w c t = by (finds p w) refl
     where
-      by : (f : Finding) → finds p w ≡ f → Stands p (hearing a (toldVerdict (answered f))) w
+      by : (f : Finding) → finds p w ≡ f → Stands p (hearing a (said.finds f)) w
       by yes e =
           let y = said-yes w t e in
           record {
             carries = c;
             closed = verdict-closed w t;
-            going = λ r. (y .0, y .1 ∙ c .rounds);
+            going = λ r. (y .0, y .1 ∙ ap (λ s. s .rounds) (c .start));
             over = λ r. absurd (true≢false (sym r));
           }
       by (no k) e =
@@ -129,8 +124,7 @@ module _ (p : ℕ) where
 module _ (p : ℕ) (a : VerifierState) (v : Verifier) (s : Stands p a v) where
   formed-asked : (c : Query) (l : Shown) → wellFormed (ask p v c l .verifier) ≡ true
   unfolding ask
-  formed-asked (query.Item z w) l = item-kept p v (s .carries .formed) z w
-  formed-asked (query.FieldItem x y) l = field-item-kept p v (s .carries .formed) x y
+  formed-asked (query.Give x) l = give-kept p v (s .carries .formed) x
   formed-asked (query.Close t) l = close-kept p v (s .carries .formed) t
   formed-asked (query.CloseClaim c) l = close-claim-kept p v (s .carries .formed) c
   formed-asked (query.Message even cross odd) l = message-kept p v (s .carries .formed) even cross odd
@@ -138,16 +132,16 @@ module _ (p : ℕ) (a : VerifierState) (v : Verifier) (s : Stands p a v) where
   formed-asked query.Proof l = proof-kept p v (l .file) (s .carries .formed)
   formed-asked (query.CheckOpening b) l = s .carries .formed
 
-  formed-answered : (c : Query) (l : Shown) → verifierTable p a c l ≡ none → wellFormed (answers p v c l .verifier) ≡ true
+  formed-answered : (c : Query) (l : Shown) → verifierTable p a c l ≡ none → wellFormed (goesTo p v c l) ≡ true
   formed-answered c l e =
-      subst (λ (o : Heard). wellFormed (o .verifier) ≡ true) (asks p a v s c l ∙ ap (λ t. settledHeard v t (answers p v c l)) e)
+      subst (λ (o : Spoken). wellFormed (o .verifier) ≡ true) (asks p a v s c l ∙ ap (λ t. settledHeard v t (answers p v c l)) e)
       (formed-asked c l)
 
   -- while the pass is open no verdict is reached
   open-going : a .closed ≡ false → a .refuted ≡ true → ⊥
   open-going o r = true≢false (sym (verdict-closed v (s .over r .0)) ∙ s .closed ∙ o)
 
-  pub item-stands : (x : Raw) (f g : ℕ) → a .closed ≡ false → wellFormed (oneMore p v f g) ≡ true → Stands p (takesItem a x) (oneMore p v f g)
+  pub item-stands : (x : Given) (f g : ℕ) → a .closed ≡ false → wellFormed (oneMore p v f g) ≡ true → Stands p (takesItem a x) (oneMore p v f g)
   unfolding oneMore
   item-stands x f g o formed =
       let c = s .carries in
@@ -155,10 +149,7 @@ module _ (p : ℕ) (a : VerifierState) (v : Verifier) (s : Stands p a v) where
         carries =
             record {
               formed = formed;
-              items = c .items;
-              rounds = c .rounds;
-              plain = c .plain;
-              twists = c .twists;
+              start = c .start;
               challenges = c .challenges;
               taken = add-one (v .taken) ∙ ap suc (c .taken);
             };
@@ -179,7 +170,7 @@ module _ (p : ℕ) (a : VerifierState) (v : Verifier) (s : Stands p a v) where
       }
 
   pub message-stands : (m : Message) → a .closed ≡ true → a .refuted ≡ false → wellFormed (hears p v m .verifier) ≡ true
-      → Stands p (hearing a (toldOf (hears p v m .answer))) (hears p v m .verifier)
+      → Stands p (hearing a (replies (hears p v m .reply))) (hears p v m .verifier)
   unfolding hears passedWith failedNow finds verdictTurn
   message-stands m closed going formed = by (eqb (passes p m) (v .claim)) formed
     where
@@ -187,7 +178,7 @@ module _ (p : ℕ) (a : VerifierState) (v : Verifier) (s : Stands p a v) where
       g = s .going going
 
       by : (b : Bool) → wellFormed (heardAs p v m b .verifier) ≡ true
-          → Stands p (hearing a (toldOf (heardAs p v m b .answer))) (heardAs p v m b .verifier)
+          → Stands p (hearing a (replies (heardAs p v m b .reply))) (heardAs p v m b .verifier)
       by true f =
           record {
             carries = carries-as v (passedWith p v m) (s .carries) refl f;
@@ -205,7 +196,7 @@ module _ (p : ℕ) (a : VerifierState) (v : Verifier) (s : Stands p a v) where
 
   -- with a file
   file-stands : (l : Shown) → verifierTable p a query.Proof l ≡ none
-      → Stands p (hearing a (answers p v query.Proof l .told)) (answers p v query.Proof l .verifier)
+      → Stands p (hearing a (saysSo p v query.Proof l)) (goesTo p v query.Proof l)
   unfolding verdict
   file-stands l e =
       let w = afterFile p v (proofTotal (l .file)) (l .file) in
@@ -217,9 +208,8 @@ module _ (p : ℕ) (a : VerifierState) (v : Verifier) (s : Stands p a v) where
       verdict-stands p a w (carries-as v w (s .carries) (file-base p v (l .file)) (f .0)) (t .0)
 
   -- THE STATE AFTER AN ANSWERED CALL
-  pub stands-after : (c : Query) (l : Shown) → verifierTable p a c l ≡ none → Stands p (goesOn a c (answers p v c l .told)) (answers p v c l .verifier)
-  stands-after (query.Item z w) l e = item-stands _ _ _ (item-rows p a l z w e .unclosed) (formed-answered (query.Item z w) l e)
-  stands-after (query.FieldItem x y) l e = item-stands _ _ _ (field-rows p a l x y e .unclosed) (formed-answered (query.FieldItem x y) l e)
+  pub stands-after : (c : Query) (l : Shown) → verifierTable p a c l ≡ none → Stands p (goesOn a c (saysSo p v c l)) (goesTo p v c l)
+  stands-after (query.Give x) l e = item-stands _ _ _ (item-rows p a l x e .unclosed) (formed-answered (query.Give x) l e)
   stands-after (query.Close t) l e = close-stands (image p t) (close-rows p a l t e .unclosed) (formed-answered (query.Close t) l e)
   stands-after (query.CloseClaim c) l e = close-stands c (claim-rows p a l c e .unclosed) (formed-answered (query.CloseClaim c) l e)
   stands-after (query.Message even cross odd) l e =

@@ -1,58 +1,54 @@
 -- Whatever the list of a verifier's calls: each is refused exactly when the table says, and then nothing changes.
-use mathlib.Core.Path.{_≡_, refl, sym, ap, subst, _∙_}
-use mathlib.Core.Bool.{true, false, cond}
+use mathlib.Core.Path.{_≡_, refl, sym, ap, subst}
 use mathlib.Core.List.{List, [], _∷_}
 use mathlib.Core.Option.{Option, none, some}
-use Prim.Native.Nat.{ℕ, _≤_}
-use Rattle.vector.specs.Rounds.{roundsOf}
+use Prim.Native.Nat.{ℕ}
 use Rattle.verifier.specs.declared.Verifier.{Verifier}
-use Rattle.runs.specs.Trip.{Start}
+use Rattle.item.specs.declared.Start.{Start}
 use Rattle.calls.specs.declared.query.Query.{Query}
-use Rattle.calls.specs.declared.query.Heard.{Heard}
-use Rattle.calls.specs.QueryStep.{Shown, ask, isTold}
-use Rattle.calls.specs.QueryState.{VerifierState, freshVerifierState, hears, followHeard, verifierTable}
-use Rattle.calls.specs.QueryStatement.{Asked, refusedTold, DecidesHeard, AllDecidedHeard, startVerifier}
-use Rattle.calls.specs.Table.{Refusal}
+use Rattle.calls.specs.Step.{isAnswered}
+use Rattle.calls.specs.QueryStep.{Shown, Spoken, ask}
+use Rattle.calls.specs.QueryState.{VerifierState, hears, followHeard, verifierTable, Posed, Hearing, freshHearing, hearsOn, DecidesHeard}
+use Rattle.calls.specs.Lists.{along}
+use Rattle.calls.specs.Starts.{Startable}
+use Rattle.calls.specs.Demand3.{AllDecidedHeard}
+use Rattle.calls.specs.Table.{Refusal, refusedWith}
 use Rattle.calls.proofs.QueryStands.{Stands, fresh-stands}
-use Rattle.calls.proofs.QuerySteps.{answers, settledHeard, asks, answers-told}
+use Rattle.calls.proofs.QuerySteps.{goesTo, saysSo, answers, settledHeard, asks}
 use Rattle.calls.proofs.QueryKeeps.{stands-after}
 
-refused-told : (k : ℕ) (i : Option ℕ) → isTold (refusedTold k i) ≡ false
-refused-told k none = refl
-refused-told k (some i) = refl
+-- a refusal leaves the state
+refused-state : (a : VerifierState) (c : Query) (k : ℕ) (i : Option ℕ) → followHeard a c (refusedWith k i) ≡ a
+refused-state a c k none = refl
+refused-state a c k (some i) = refl
 
-module _ (p : ℕ) (a : VerifierState) (v : Verifier) (c : Query) where
-  decides : (t : Option Refusal) (o x : Heard) → x ≡ settledHeard v t o → isTold (o .told) ≡ true → DecidesHeard v t x
-  decides none o x e told = ap (λ (h : Heard). isTold (h .told)) e ∙ told
-  decides (some k) o x e told = e
+module _ (p : ℕ) (a : VerifierState) (v : Verifier) (c : Query) (l : Shown) where
+  decides : (t : Option Refusal) (x : Spoken) → x ≡ settledHeard v t (answers p v c l) → DecidesHeard v t x
+  decides none x e = ap (λ (h : Spoken). isAnswered (h .told)) e
+  decides (some k) x e = e
 
   -- what holds of the state and the verifier after a call
-  pub follows : (P : VerifierState → Verifier → Type 0) (t : Option Refusal) (o x : Heard) → x ≡ settledHeard v t o → isTold (o .told) ≡ true
-      → P a v → (t ≡ none → P (hears a c (o .told)) (o .verifier)) → P (followHeard a c x) (x .verifier)
-  follows P none o x e told before after =
-      subst (λ (h : Heard). P (followHeard a c h) (h .verifier)) (sym e)
-      (subst (λ b. P (cond b (hears a c (o .told)) a) (o .verifier)) (sym told) (after refl))
-  follows P (some k) o x e told before after =
-      subst (λ (h : Heard). P (followHeard a c h) (h .verifier)) (sym e)
-      (subst (λ b. P (cond b (hears a c (refusedTold (k .0) (k .1))) a) v) (sym (refused-told (k .0) (k .1))) before)
+  pub follows : (P : VerifierState → Verifier → Type 0) (t : Option Refusal) (x : Spoken) → x ≡ settledHeard v t (answers p v c l)
+      → P a v → (t ≡ none → P (hears a c (saysSo p v c l)) (goesTo p v c l)) → P (followHeard a c (x .told)) (x .verifier)
+  follows P none x e before after = subst (λ (h : Spoken). P (followHeard a c (h .told)) (h .verifier)) (sym e) (after refl)
+  follows P (some k) x e before after =
+      subst (λ (h : Spoken). P (followHeard a c (h .told)) (h .verifier)) (sym e)
+      (subst (λ b. P b v) (sym (refused-state a c (k .0) (k .1))) before)
 
 module _ (p : ℕ) where
   pub stands-next : (a : VerifierState) (v : Verifier) → Stands p a v → (c : Query) (l : Shown)
-      → Stands p (followHeard a c (ask p v c l)) (ask p v c l .verifier)
-  stands-next a v s c l =
-      follows p a v c (Stands p) (verifierTable p a c l) (answers p v c l) (ask p v c l) (asks p a v s c l) (answers-told p v c l) s
-      (stands-after p a v s c l)
+      → Stands p (followHeard a c (ask p v c l .told)) (ask p v c l .verifier)
+  stands-next a v s c l = follows p a v c l (Stands p) (verifierTable p a c l) (ask p v c l) (asks p a v s c l) s (stands-after p a v s c l)
 
-  all-decided : (ms : List Asked) (a : VerifierState) (v : Verifier) → Stands p a v → AllDecidedHeard p a v ms
-  unfolding AllDecidedHeard
-  all-decided [] a v s = tt
-  all-decided (m ∷ ms) a v s = (
-    decides p a v (m .query) (verifierTable p a (m .query) (m .shown)) (answers p v (m .query) (m .shown)) _
-        (asks p a v s (m .query) (m .shown)) (answers-told p v (m .query) (m .shown)),
-    all-decided ms _ _ (stands-next a v s (m .query) (m .shown)),
+  all-decided : (qs : List Posed) (h : Hearing) → Stands p (h .state) (h .verifier) → AllDecidedHeard p h qs
+  unfolding along
+  all-decided [] h s = tt
+  all-decided (q ∷ qs) h s = (
+    decides p (h .state) (h .verifier) (q .query) (q .shown) (verifierTable p (h .state) (q .query) (q .shown)) _
+        (asks p (h .state) (h .verifier) s (q .query) (q .shown)),
+    all-decided qs (hearsOn p h q) (stands-next (h .state) (h .verifier) s (q .query) (q .shown)),
   )
 
 -- REFUSED EXACTLY WHEN, AND WITH THE NUMBER THAT, THE TABLE SAYS
-pub every-query : (p : ℕ) (s : Start) → 1 ≤ s .items → s .items ≤ 32768 → s .rounds ≡ roundsOf (s .items) → (cs : List ℕ) (ms : List Asked)
-    → AllDecidedHeard p (freshVerifierState s cs) (startVerifier s cs) ms
-every-query p s least most rounds cs ms = all-decided p ms _ _ (fresh-stands s least most rounds cs p)
+pub every-query : (p : ℕ) (s : Start) → Startable s → (cs : List ℕ) (qs : List Posed) → AllDecidedHeard p (freshHearing s cs) qs
+every-query p s h cs qs = all-decided p qs (freshHearing s cs) (fresh-stands s h cs p)

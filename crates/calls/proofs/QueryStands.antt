@@ -7,28 +7,25 @@ use native.Mathlib.Omega.{arith}
 use lib.Dec.{eqb, ltb}
 use lib.ListN.{length}
 use borrow.Author.Tests.{eqb-true, le-leb, le-ltb}
-use Rattle.vector.specs.Rounds.{roundsOf}
 use Rattle.vector.specs.Slice.{fifteen}
 use Rattle.verifier.specs.declared.Verifier.{Verifier}
 use Rattle.verifier.specs.Records.{no}
-use Rattle.verifier.specs.WellFormed.{inCount, wellFormed}
-use Rattle.verifier.specs.Starts.{freshVerifier}
+use Rattle.verifier.specs.WellFormed.{wellFormed}
+use Rattle.verifier.specs.Starts.{freshVerifier, verifierOf}
 use Rattle.verifier.specs.Claims.{finds}
 use Rattle.verifier.specs.Calls.{messageTurn, verdictTurn}
 use Rattle.verifier.proofs.Invariant.{both}
 use Rattle.verifier.proofs.Kept.{fresh-formed}
-use Rattle.runs.specs.Trip.{Start}
+use Rattle.item.specs.declared.Start.{Start}
+use Rattle.item.specs.Start.{countFits}
 use Rattle.calls.specs.QueryState.{VerifierState, freshVerifierState}
-use Rattle.calls.specs.QueryStatement.{startVerifier}
+use Rattle.calls.specs.Starts.{Startable}
 use Rattle.calls.proofs.Guards.{both-and}
 
 -- what the start, the challenges and k answered items fix
 pub record Carries (s : Start) (cs : List ℕ) (k : ℕ) (v : Verifier) : Type 0 where
   pub formed : wellFormed v ≡ true
-  pub items : v .items ≡ s .items
-  pub rounds : v .rounds ≡ s .rounds
-  pub plain : v .plain ≡ s .plain
-  pub twists : v .twists ≡ s .twists
+  pub start : v .start ≡ s
   pub challenges : v .challenges ≡ fifteen (s .rounds) cs
   pub taken : v .taken ≡ k
 
@@ -51,15 +48,15 @@ pub spoken : (v : Verifier) → verdictTurn v ≡ true → messageTurn v ≡ fal
 unfolding verdictTurn messageTurn
 spoken v = by (v .closed) (v .failed)
   where
-    by : (c f : Bool) → cond c (cond f true (eqb (v .round) (v .rounds))) false ≡ true
-        → cond c (cond f false (ltb (v .round) (v .rounds))) false ≡ false
+    by : (c f : Bool) → cond c (cond f true (eqb (v .round) (v .start .rounds))) false ≡ true
+        → cond c (cond f false (ltb (v .round) (v .start .rounds))) false ≡ false
     by false f h = refl
     by true true h = refl
-    by true false h = let e = eqb-true (v .round) (v .rounds) h in le-ltb (v .round) (v .rounds) (omega arith)
+    by true false h = let e = eqb-true (v .round) (v .start .rounds) h in le-ltb (v .round) (v .start .rounds) (omega arith)
 
 pub verdict-closed : (v : Verifier) → verdictTurn v ≡ true → v .closed ≡ true
 unfolding verdictTurn
-verdict-closed v h = both (v .closed) (cond (v .failed) true (eqb (v .round) (v .rounds))) h .0
+verdict-closed v h = both (v .closed) (cond (v .failed) true (eqb (v .round) (v .start .rounds))) h .0
 
 module _ (p : ℕ) (a : VerifierState) (v : Verifier) (s : Stands p a v) where
   pub message-turn : messageTurn v ≡ (a .closed && (not (a .refuted) && ltb (a .round) (a .start .rounds)))
@@ -69,8 +66,8 @@ module _ (p : ℕ) (a : VerifierState) (v : Verifier) (s : Stands p a v) where
       by : (b : Bool) → a .refuted ≡ b → messageTurn v ≡ (a .closed && (not b && ltb (a .round) (a .start .rounds)))
       by false e =
           let g = s .going e in
-          message-test (v .closed) (a .closed) (v .failed) (v .round) (a .round) (v .rounds) (a .start .rounds) (s .closed) (g .0) (g .1)
-          (s .carries .rounds)
+          message-test (v .closed) (a .closed) (v .failed) (v .round) (a .round) (v .start .rounds) (a .start .rounds) (s .closed) (g .0) (g .1)
+          (ap (λ s. s .rounds) (s .carries .start))
       by true e = spoken v (s .over e .0) ∙ sym (and-false (a .closed))
 
   pub verdict-turn : verdictTurn v ≡ (a .closed && (a .refuted || eqb (a .round) (a .start .rounds)))
@@ -80,29 +77,25 @@ module _ (p : ℕ) (a : VerifierState) (v : Verifier) (s : Stands p a v) where
       by : (b : Bool) → a .refuted ≡ b → verdictTurn v ≡ (a .closed && (b || eqb (a .round) (a .start .rounds)))
       by false e =
           let g = s .going e in
-          verdict-test (v .closed) (a .closed) (v .failed) (v .round) (a .round) (v .rounds) (a .start .rounds) (s .closed) (g .0) (g .1)
-          (s .carries .rounds)
+          verdict-test (v .closed) (a .closed) (v .failed) (v .round) (a .round) (v .start .rounds) (a .start .rounds) (s .closed) (g .0) (g .1)
+          (ap (λ s. s .rounds) (s .carries .start))
       by true e =
           let t = s .over e .0 in
           t ∙ ap (λ c. c && (true || eqb (a .round) (a .start .rounds))) (sym (verdict-closed v t) ∙ s .closed)
 
-in-count : (items : ℕ) → 1 ≤ items → items ≤ 32768 → inCount items ≡ true
-unfolding inCount
-in-count items some most = rw (le-ltb items 1 some, le-leb items 32768 most)
+in-count : (items : ℕ) → 1 ≤ items → items ≤ 32768 → countFits items ≡ true
+in-count items some most = rw (le-leb 1 items some, le-leb items 32768 most)
 
 -- "starts from a fresh one for the run's L, twists and challenges"
-module _ (s : Start) (some : 1 ≤ s .items) (most : s .items ≤ 32768) (rounds : s .rounds ≡ roundsOf (s .items)) (cs : List ℕ) where
-  start-formed : wellFormed (startVerifier s cs) ≡ true
-  start-formed =
-      ap (λ n. wellFormed (freshVerifier (s .items) n (s .plain) (s .twists) (fifteen (s .rounds) cs))) rounds
-      ∙ fresh-formed (s .items) (s .plain) (s .twists) (fifteen (s .rounds) cs) (in-count (s .items) some most)
+module _ (s : Start) (h : Startable s) (cs : List ℕ) where
+  start-formed : wellFormed (verifierOf s cs) ≡ true
+  start-formed = fresh-formed s (fifteen (s .rounds) cs) (in-count (s .items) (h .least) (h .most)) (h .rounds)
 
-  pub fresh-stands : (p : ℕ) → Stands p (freshVerifierState s cs) (startVerifier s cs)
+  pub fresh-stands : (p : ℕ) → Stands p (freshVerifierState s cs) (verifierOf s cs)
   unfolding freshVerifier
   fresh-stands p =
       record {
-        carries =
-            record { formed = start-formed; items = refl; rounds = refl; plain = refl; twists = refl; challenges = refl; taken = refl };
+        carries = record { formed = start-formed; start = refl; challenges = refl; taken = refl };
         closed = refl;
         going = λ e. (refl, refl);
         over = λ e. absurd (true≢false (sym e));

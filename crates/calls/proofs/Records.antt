@@ -1,33 +1,70 @@
--- The records that a state stands for.
+-- The records that a state and what was answered stand for.
 use Prim.Native.Nat.{ℕ, _-_}
-use mathlib.Core.List.{List, _++_}
+use mathlib.Core.Path.{_≡_, refl}
+use mathlib.Core.List.{List, [], _∷_, _++_}
+use mathlib.Core.Option.{Option, none, some}
+use lib.IntN.{ℤ, pos}
 use lib.ListN.{length, replicate}
+use Rattle.refusal.specs.Outcome.{Outcome, answered, refused, refusedAt}
 use Rattle.prover.specs.declared.Run.{Run}
 use Rattle.prover.specs.declared.Pass.{Pass}
+use Rattle.prover.specs.Reply.{Reply}
+use Rattle.prover.specs.Reply as reply
 use Rattle.runs.specs.Passes.{passAfter}
 use Rattle.calls.specs.State.{State}
+use Rattle.calls.specs.Table.{refusedWith}
+
+-- what was answered: the plain total, the numbers of the messages in order, the end values
+pub record Notes : Type 0 where
+  pub total : ℤ
+  pub messages : List ℕ
+  pub fend : ℕ
+  pub gend : ℕ
+
+abbrev pub noNotes : Notes
+noNotes = record { total = pos 0; messages = []; fend = 0; gend = 0 }
+
+abbrev pub notes : Notes → Reply → Notes
+notes past reply.started = past
+notes past reply.opened = past
+notes past reply.taken = past
+notes past (reply.total t) = record { total = t; messages = past .messages; fend = past .fend; gend = past .gend }
+notes past (reply.fieldTotal t) = past
+notes past (reply.message even cross odd) =
+    record { total = past .total; messages = past .messages ++ even ∷ cross ∷ odd ∷ []; fend = past .fend; gend = past .gend }
+notes past reply.challenged = past
+notes past (reply.ends f g) = record { total = past .total; messages = past .messages; fend = f; gend = g }
+notes past reply.opening = past
+notes past reply.changed = past
+notes past (reply.written size) = past
+
+abbrev pub noted : Notes → Outcome Reply → Notes
+noted past (answered x) = notes past x
+noted past (refused k) = past
+noted past (refusedAt k i) = past
+
+pub refusal-noted : (past : Notes) (k : ℕ) (i : Option ℕ) → noted past (refusedWith k i) ≡ past
+refusal-noted past k none = refl
+refusal-noted past k (some i) = refl
 
 -- a list from the first place of an array on, the places past it zero
 abbrev pub inArray : ℕ → List ℕ → List ℕ
 inArray size xs = xs ++ replicate (size - length xs) 0
 
-abbrev pub runOf : State → Run
-runOf a =
+abbrev pub runOf : State → Notes → Run
+runOf a past =
     record {
-      items = a .start .items;
-      rounds = a .start .rounds;
-      plain = a .start .plain;
-      mode = a .mode;
-      next = a .next;
-      round = length (a .challenges);
-      twists = a .start .twists;
-      challenges = inArray 15 (a .challenges);
-      messages = inArray 45 (a .messages);
-      total = a .total;
-      fend = a .fend;
-      gend = a .gend;
+      start = a .start;
+      mode = a .turn .mode;
+      next = a .turn .next;
+      round = length (a .turn .challenges);
+      challenges = inArray 15 (a .turn .challenges);
+      messages = inArray 45 (past .messages);
+      total = past .total;
+      fend = past .fend;
+      gend = past .gend;
     }
 
 -- the pass record is what its items made of it
-abbrev pub passOf : ℕ → State → Pass
-passOf p a = passAfter p (runOf a) (a .kind) (a .point) (a .items)
+abbrev pub passOf : ℕ → State → Notes → Pass
+passOf p a past = passAfter p (runOf a past) (a .pass .kind) (a .pass .point) (a .pass .items)

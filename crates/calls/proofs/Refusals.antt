@@ -1,16 +1,16 @@
 -- THE FIRST LAYER, with nothing asked of the caller: each call of any list is refused exactly when the table says, and then changes
 -- nothing; and an open small pass has document 01's entries.
 use mathlib.Core.Path.{_≡_, refl, sym, ap, subst, _∙_}
-use mathlib.Core.Bool.{Bool, true, false, cond, not, true≢false}
+use mathlib.Core.Bool.{Bool, true, false, cond}
 use mathlib.Core.List.{List, [], _∷_}
 use mathlib.Core.Option.{Option, none, some}
-use Prim.Native.Nat.{ℕ, suc, _+_, _-_, _<_, _≤_}
+use Prim.Native.Nat.{ℕ, suc, _+_, _<_}
 use native.Mathlib.Omega.{arith}
 use lib.ListN.{length}
 use borrow.Author.Tests.{le-leb}
 use Rattle.refusal.specs.Limit.{maxWeight}
+use Rattle.refusal.specs.Outcome.{answered}
 use Rattle.field.specs.Total.{limit, inLimits}
-use Rattle.vector.specs.Rounds.{roundsOf}
 use Rattle.vector.specs.declared.kernel.Kernel.{Kernel}
 use Rattle.vector.proofs.StackCount.{ones-at-most}
 use Rattle.vector.proofs.KernelLevels.{Levelled, levelled-first, levelled-second, levelled-count}
@@ -23,14 +23,16 @@ use Rattle.prover.specs.declared.Kind.the-variants.{Shut, Asked, Change}
 use Rattle.prover.specs.declared.Run.{Run}
 use Rattle.prover.specs.declared.Pass.{Pass}
 use Rattle.prover.specs.declared.Answer.the-variants as answer
+use Rattle.prover.specs.Reply as reply
+use Rattle.prover.specs.Reply.{answerIn}
 use Rattle.prover.specs.Records.{kernelOf, answeredStep}
 use Rattle.prover.specs.Order.{isTotal, levelAt, levelOf, padding, roundOrEnds}
 use Rattle.prover.specs.Close.{withTotal, goneTo, shutPass}
-use Rattle.prover.specs.Start.{zeroPass}
 use Rattle.prover.specs.Full.{messageGiven}
 use Rattle.prover.specs.Opening.{openingGiven}
 use Rattle.prover.specs.Challenge.{challengedFull}
-use Rattle.runs.specs.Trip.{reading, numbers, partsIn, Start}
+use Rattle.item.specs.declared.Start.{Start}
+use Rattle.item.specs.Item.{contributes}
 use Rattle.runs.specs.Passes.{passAfter}
 use Rattle.runs.proofs.RunFacts.{bounds}
 use Rattle.runs.proofs.PassRecord.{takes-answer}
@@ -38,21 +40,24 @@ use Rattle.runs.proofs.PassKernel.{after-levels}
 use Rattle.calls.specs.declared.Call.{Call}
 use Rattle.calls.specs.declared.Call.the-variants as call
 use Rattle.calls.specs.Step.{Lent, Result, isAnswered, step}
-use Rattle.calls.specs.State.{State, fresh, goesOn, noted, follow}
-use Rattle.calls.specs.Table.{Refusal, waits, table}
-use Rattle.calls.specs.Statement.{Made, Sized, AllSized, refusedWith, refusedResult, Decides, isAsked, levelAsked, passLevel, taken, Counted, CountsHold, AllDecided, startRun}
-use Rattle.calls.proofs.Records.{runOf, passOf}
+use Rattle.calls.specs.State.{State, goesOn, follow}
+use Rattle.calls.specs.Table.{Refusal, refusedWith, levelNow, passLevel, taken, table}
+use Rattle.calls.specs.Statement.{Sized, Decides, Counted, CountsHold}
+use Rattle.calls.specs.World.{Made, World, freshWorld, came, onward}
+use Rattle.calls.specs.Lists.{along, always}
+use Rattle.calls.specs.Demand3.{AllSized, AllDecided}
+use Rattle.calls.specs.Starts.{Startable}
+use Rattle.calls.proofs.Records.{Notes, noNotes, noted, refusal-noted, runOf, passOf}
 use Rattle.calls.proofs.Guards.{challengeDoes, totals}
-use Rattle.calls.proofs.Steps.{some-none, closeStep, does, settled, steps}
+use Rattle.calls.proofs.Steps.{some-none, closeStep, does, refusedResult, settled, steps}
 use Rattle.calls.proofs.Fits.{Fits, few, run-formed, formed, kind-is, taken-is, sum-is, messages-below}
-use Rattle.calls.proofs.Turns.{both, not-so}
-use Rattle.calls.proofs.Follows.{Follows, positive, no-items, open-follows, open-at-follows, to-full-follows, item-follows, field-item-follows, close-follows, message-follows, ends-follows, challenge-follows}
+use Rattle.calls.proofs.Follows.{Follows, positive, no-items, open-follows, open-at-follows, to-full-follows, item-follows, close-follows, message-follows, ends-follows, challenge-follows}
 
-close-answered : (r : Run) (s : Pass) (t : Next) (k : Kind) → isAnswered (closeStep r s t k .answer) ≡ true
+close-answered : (r : Run) (s : Pass) (t : Next) (k : Kind) → isAnswered (answerIn (closeStep r s t k .answer)) ≡ true
 close-answered r s t Shut = refl
-close-answered r s next.Total Asked = by (r .plain)
+close-answered r s next.Total Asked = by (r .start .plain)
   where
-    by : (plain : Bool) → isAnswered (cond plain (answeredStep (withTotal r (s .total)) shutPass (answer.Total (s .total))) (answeredStep (goneTo r (roundOrEnds 0 (r .rounds))) shutPass (answer.FieldTotal (s .dot))) .answer) ≡ true
+    by : (plain : Bool) → isAnswered (answerIn (cond plain (answeredStep (withTotal r (s .total)) shutPass (answer.Total (s .total))) (answeredStep (goneTo r (roundOrEnds 0 (r .start .rounds))) shutPass (answer.FieldTotal (s .dot))) .answer)) ≡ true
     by true = refl
     by false = refl
 close-answered r s next.Message Asked = refl
@@ -61,91 +66,90 @@ close-answered r s next.Ends Asked = refl
 close-answered r s next.Openings Asked = refl
 close-answered r s t Change = refl
 
-pub refused-with : (k : ℕ) (i : Option ℕ) → isAnswered (refusedWith k i) ≡ false
-refused-with k none = refl
-refused-with k (some i) = refl
+pub refused-with : (A : Type 0) (k : ℕ) (i : Option ℕ) → isAnswered (refusedWith {A = A} k i) ≡ false
+refused-with A k none = refl
+refused-with A k (some i) = refl
 
 -- what an answered item notes: nothing
-take-noted : (p : ℕ) (a b : State) (o : Result) → o .answer ≡ answer.Taken → Follows p b o → (isAnswered (o .answer) ≡ true) × Follows p (noted b (o .answer)) o
-take-noted p a b o e h = (ap isAnswered e, subst (λ x. Follows p (noted b x) o) (sym e) h)
+take-noted : (p : ℕ) (b : State) (past : Notes) (o : Result) → o .answer ≡ answered reply.taken → Follows p b past o → (isAnswered (o .answer) ≡ true) × Follows p b (noted past (o .answer)) o
+take-noted p b past o e h = (ap isAnswered e, subst (λ x. Follows p b (noted past x) o) (sym e) h)
 
 module _ (p : ℕ) (large : maxWeight < p) where
-  abbrev Goes : State → Call → Lent → Result → Type 0
-  Goes a c l o = (isAnswered (o .answer) ≡ true) × Follows p (noted (goesOn a c (o .lent)) (o .answer)) o
+  abbrev Goes : State → Notes → Call → Result → Type 0
+  Goes a past c o = (isAnswered (o .answer) ≡ true) × Follows p (goesOn a c (o .lent)) (noted past (o .answer)) o
 
-  challenge-answered : (a : State) (s : Pass) (c : ℕ) (l : Lent) (m : Mode) → isAnswered (challengeDoes p (runOf a) s c l m .answer) ≡ true
+  challenge-answered : (r : Run) (s : Pass) (c : ℕ) (l : Lent) (m : Mode) → isAnswered (challengeDoes p r s c l m .answer) ≡ true
   unfolding challengedFull
-  challenge-answered a s c l Small = refl
-  challenge-answered a s c l Full = refl
+  challenge-answered r s c l Small = refl
+  challenge-answered r s c l Full = refl
 
   never : (a : State) (l : Lent) → table p a call.ToSmall l ≡ none → ⊥
   unfolding table
   never a l e = some-none e
 
   -- AN ANSWERED CALL
-  pub goes : (a : State) → Fits p a → (c : Call) → Sized c → (l : Lent) → table p a c l ≡ none → Goes a c l (does p (runOf a) (passOf p a) c l)
+  pub goes : (a : State) {past : Notes} → Fits p a past → (c : Call) → Sized c → (l : Lent) → table p a c l ≡ none → Goes a past c (does p (runOf a past) (passOf p a past) c l)
   unfolding messageGiven openingGiven
-  goes a h call.OpenPass z l e = (refl, open-follows p large a h l e)
-  goes a h (call.OpenAt b) z l e = (refl, open-at-follows p large a h b l e)
-  goes a h call.ToFull z l e = (refl, to-full-follows p large a h l e)
-  goes a h call.ToSmall z l e = absurd (never a l e)
-  goes a h (call.Item r w) z l e =
-      take-noted p a _ _ (takes-answer p (runOf a) (passOf p a) (partsIn p (reading r w)) (l .f) (l .g)) (item-follows p large a h r w l z e)
-  goes a h (call.FieldItem x y) z l e =
-      take-noted p a _ _ (takes-answer p (runOf a) (passOf p a) (partsIn p (numbers x y)) (l .f) (l .g)) (field-item-follows p large a h x y l e)
-  goes a h call.Close z l e = (close-answered (runOf a) (passOf p a) (a .next) (passOf p a .kind), close-follows p large a h l e)
-  goes a h call.Message z l e = (refl, message-follows p large a h l e)
-  goes a h (call.Challenge c) z l e = (challenge-answered a (passOf p a) c l (a .mode), challenge-follows p large a h c l e)
-  goes a h call.Ends z l e = (refl, ends-follows p large a h l e)
-  goes a h (call.Opening b) z l e = (refl, record { run = refl; pass = refl; fits = h })
-  goes a h call.WriteProof z l e = (refl, record { run = refl; pass = refl; fits = h })
+  goes a {past} h call.OpenPass z l e = (refl, open-follows p large a h l e)
+  goes a {past} h (call.OpenAt b) z l e = (refl, open-at-follows p large a h b l e)
+  goes a {past} h call.ToFull z l e = (refl, to-full-follows p large a h l e)
+  goes a {past} h call.ToSmall z l e = absurd (never a l e)
+  goes a {past} h (call.Give x) z l e =
+      take-noted p _ past _ (takes-answer p (runOf a past) (passOf p a past) (contributes p (a .start) x) (l .f) (l .g))
+      (item-follows p large a h x l (λ r w q. z r w (ap call.Give q)) e)
+  goes a {past} h call.Close z l e = (close-answered (runOf a past) (passOf p a past) (a .turn .next) (passOf p a past .kind), close-follows p large a h l e)
+  goes a {past} h call.Message z l e = (refl, message-follows p large a h l e)
+  goes a {past} h (call.Challenge c) z l e = (challenge-answered (runOf a past) (passOf p a past) c l (a .turn .mode), challenge-follows p large a h c l e)
+  goes a {past} h call.Ends z l e = (refl, ends-follows p large a h l e)
+  goes a {past} h (call.Opening b) z l e = (refl, record { run = refl; pass = refl; fits = h })
+  goes a {past} h call.WriteProof z l e = (refl, record { run = refl; pass = refl; fits = h })
 
   -- THE RECORDS STAND FOR THE STATE
-  pub record Inv (a : State) (r : Run) (s : Pass) : Type 0 where
-    pub run : r ≡ runOf a
-    pub pass : s ≡ passOf p a
-    pub fits : Fits p a
+  pub record Inv (a : State) (past : Notes) (r : Run) (s : Pass) : Type 0 where
+    pub run : r ≡ runOf a past
+    pub pass : s ≡ passOf p a past
+    pub fits : Fits p a past
 
-  pub step-is : (a : State) → Fits p a → (c : Call) (l : Lent)
-      → step p (runOf a) (passOf p a) c l ≡ settled (runOf a) (passOf p a) l (table p a c l) (does p (runOf a) (passOf p a) c l)
-  step-is a h c l =
-      steps p a (few p a h) (passOf p a) (formed p a h) (kind-is p a h) (taken-is p a h) (sum-is p a h) (h .pass .kind)
+  pub step-is : (a : State) {past : Notes} → Fits p a past → (c : Call) (l : Lent)
+      → step p (runOf a past) (passOf p a past) c l ≡ settled (runOf a past) (passOf p a past) l (table p a c l) (does p (runOf a past) (passOf p a past) c l)
+  step-is a {past} h c l =
+      steps p a past (few p a h) (passOf p a past) (formed p a h) (kind-is p a h) (taken-is p a h) (sum-is p a h) (h .pass .kind)
       (h .run .total) (messages-below p a h (positive p large)) (h .run .fend) (h .run .gend) c l
 
-  module _ (a : State) (h : Fits p a) (c : Call) (z : Sized c) (l : Lent) where
+  module _ (a : State) {past : Notes} (h : Fits p a past) (c : Call) (z : Sized c) (l : Lent) where
     abbrev did : Result
-    did = does p (runOf a) (passOf p a) c l
+    did = does p (runOf a past) (passOf p a past) c l
 
-    answered-so : (t : Option Refusal) → table p a c l ≡ t → Decides (runOf a) (passOf p a) l t (settled (runOf a) (passOf p a) l t did)
+    answered-so : (t : Option Refusal) → table p a c l ≡ t → Decides (runOf a past) (passOf p a past) l t (settled (runOf a past) (passOf p a past) l t did)
     answered-so none e = goes a h c z l e .0
     answered-so (some k) e = refl
 
     stands-so : (t : Option Refusal) → table p a c l ≡ t
-        → (let o : Result = settled (runOf a) (passOf p a) l t did in Inv (follow a c o) (o .run) (o .pass))
+        → (let o : Result = settled (runOf a past) (passOf p a past) l t did in Inv (follow a c o) (noted past (o .answer)) (o .run) (o .pass))
     stands-so none e =
         let g = goes a h c z l e in
-        subst (λ b. Inv (cond b (noted (goesOn a c (did .lent)) (did .answer)) a) (did .run) (did .pass)) (sym (g .0))
+        subst (λ b. Inv (cond b (goesOn a c (did .lent)) a) (noted past (did .answer)) (did .run) (did .pass)) (sym (g .0))
         (record { run = g .1 .run; pass = g .1 .pass; fits = g .1 .fits })
     stands-so (some k) e =
-        let o : Result = refusedResult (runOf a) (passOf p a) l k in
-        subst (λ b. Inv (cond b (noted (goesOn a c (o .lent)) (o .answer)) a) (runOf a) (passOf p a)) (sym (refused-with (k .0) (k .1)))
-        (record { run = refl; pass = refl; fits = h })
+        let o : Result = refusedResult (runOf a past) (passOf p a past) l k in
+        subst (λ b. Inv (cond b (goesOn a c (o .lent)) a) (noted past (o .answer)) (runOf a past) (passOf p a past)) (sym (refused-with _ (k .0) (k .1)))
+        (subst (λ n. Inv a n (runOf a past) (passOf p a past)) (sym (refusal-noted past (k .0) (k .1))) (record { run = refl; pass = refl; fits = h }))
 
-  pub decide-step : (a : State) (r : Run) (s : Pass) → Inv a r s → (c : Call) → Sized c → (l : Lent) → Decides r s l (table p a c l) (step p r s c l)
-  decide-step a r s i c z l =
+  pub decide-step : (a : State) {past : Notes} (r : Run) (s : Pass) → Inv a past r s → (c : Call) → Sized c → (l : Lent) → Decides r s l (table p a c l) (step p r s c l)
+  decide-step a {past} r s i c z l =
       subst (λ r. Decides r s l (table p a c l) (step p r s c l)) (sym (i .run))
-      (subst (λ s. Decides (runOf a) s l (table p a c l) (step p (runOf a) s c l)) (sym (i .pass))
-      (subst (Decides (runOf a) (passOf p a) l (table p a c l)) (sym (step-is a (i .fits) c l)) (answered-so a (i .fits) c z l (table p a c l) refl)))
+      (subst (λ s. Decides (runOf a past) s l (table p a c l) (step p (runOf a past) s c l)) (sym (i .pass))
+      (subst (Decides (runOf a past) (passOf p a past) l (table p a c l)) (sym (step-is a (i .fits) c l)) (answered-so a (i .fits) c z l (table p a c l) refl)))
 
-  pub inv-step : (a : State) (r : Run) (s : Pass) → Inv a r s → (c : Call) → Sized c → (l : Lent)
-      → (let o : Result = step p r s c l in Inv (follow a c o) (o .run) (o .pass))
-  inv-step a r s i c z l =
-      subst (λ r. (let o : Result = step p r s c l in Inv (follow a c o) (o .run) (o .pass))) (sym (i .run))
-      (subst (λ s. (let o : Result = step p (runOf a) s c l in Inv (follow a c o) (o .run) (o .pass))) (sym (i .pass))
-      (subst (λ o. Inv (follow a c o) (o .run) (o .pass)) (sym (step-is a (i .fits) c l)) (stands-so a (i .fits) c z l (table p a c l) refl)))
+  pub inv-step : (a : State) {past : Notes} (r : Run) (s : Pass) → Inv a past r s → (c : Call) → Sized c → (l : Lent)
+      → (let o : Result = step p r s c l in Inv (follow a c o) (noted past (o .answer)) (o .run) (o .pass))
+  inv-step a {past} r s i c z l =
+      subst (λ r. (let o : Result = step p r s c l in Inv (follow a c o) (noted past (o .answer)) (o .run) (o .pass))) (sym (i .run))
+      (subst (λ s. (let o : Result = step p (runOf a past) s c l in Inv (follow a c o) (noted past (o .answer)) (o .run) (o .pass))) (sym (i .pass))
+      (subst (λ o. Inv (follow a c o) (noted past (o .answer)) (o .run) (o .pass)) (sym (step-is a (i .fits) c l)) (stands-so a (i .fits) c z l (table p a c l) refl)))
 
   -- THE STACKS' LEVELS
-  pub asked-level : (n i : ℕ) (t : Next) → levelAt n i t Asked ≡ levelAsked n i t
+  pub asked-level : (n i : ℕ) (t : Next) → levelAt n i t Asked ≡ levelNow n i n t
   asked-level n i next.Total = refl
   asked-level n i next.Message = refl
   asked-level n i next.Challenge = refl
@@ -157,47 +161,47 @@ module _ (p : ℕ) (large : maxWeight < p) where
       let n = levelled-count i t k h in
       record { f = levelled-first i t k h; g = levelled-second i t k h; fcount = n; gcount = h .paired .counts ∙ n; few = ones-at-most (suc i) t }
 
-  counts-of : (a : State) → Fits p a → (k : Kind) → a .kind ≡ k → isAsked k ≡ true → not (waits next.Total (a .next)) ≡ true
-      → Counted (passLevel a) (taken a) (kernelOf (passOf p a))
-  counts-of a h Shut ek e w = absurd (true≢false (sym e))
-  counts-of a h Change ek e w = absurd (true≢false (sym e))
-  counts-of a h Asked ek e w =
-      let other : isTotal (a .next) ≡ false = totals (a .next) ∙ not-so (waits next.Total (a .next)) w in
-      let level : levelOf (runOf a) Asked ≡ passLevel a = asked-level (a .start .rounds) (length (a .challenges)) (a .next) in
-      let b = bounds p (runOf a) (run-formed p a h) in
-      let t : padding (runOf a) + length (a .items) ≡ taken a = ap (λ n. n + length (a .items)) (b .padding) in
-      let l = after-levels p (runOf a) (a .point) other Asked refl (run-formed p a h) (a .items) (h .pass .count) in
-      let K : Kernel = kernelOf (passAfter p (runOf a) Asked (a .point) (a .items)) in
-      subst (λ k. Counted (passLevel a) (taken a) (kernelOf (passAfter p (runOf a) k (a .point) (a .items)))) (sym ek)
-      (counted (passLevel a) (taken a) K (subst (λ i. Levelled i (taken a) K) level (subst (λ t. Levelled (levelOf (runOf a) Asked) t K) t l)))
-
-  pub counts-hold : (a : State) (r : Run) (s : Pass) → Inv a r s → CountsHold a s
-  counts-hold a r s i e =
-      let q = both (isAsked (a .kind)) (not (waits next.Total (a .next))) e in
-      subst (λ s. Counted (passLevel a) (taken a) (kernelOf s)) (sym (i .pass)) (counts-of a (i .fits) (a .kind) refl (q .0) (q .1))
+  pub counts-hold : (a : State) {past : Notes} (r : Run) (s : Pass) → Inv a past r s → CountsHold a s
+  counts-hold a {past} r s i e =
+      let h = i .fits in
+      let other : isTotal (a .turn .next) ≡ false = totals (a .turn .next) ∙ e .1 in
+      let level : levelOf (runOf a past) Asked ≡ passLevel a = asked-level (a .start .rounds) (length (a .turn .challenges)) (a .turn .next) in
+      let b = bounds p (runOf a past) (run-formed p a h) in
+      let t : padding (runOf a past) + length (a .pass .items) ≡ taken a = ap (λ n. n + length (a .pass .items)) (b .padding) in
+      let l = after-levels p (runOf a past) (a .pass .point) other Asked refl (run-formed p a h) (a .pass .items) (h .pass .count) in
+      let K : Kernel = kernelOf (passAfter p (runOf a past) Asked (a .pass .point) (a .pass .items)) in
+      subst (λ s. Counted (passLevel a) (taken a) (kernelOf s)) (sym (i .pass))
+      (subst (λ k. Counted (passLevel a) (taken a) (kernelOf (passAfter p (runOf a past) k (a .pass .point) (a .pass .items)))) (sym (e .0))
+      (counted (passLevel a) (taken a) K (subst (λ i. Levelled i (taken a) K) level (subst (λ t. Levelled (levelOf (runOf a past) Asked) t K) t l))))
 
   -- EVERY LIST
-  pub all-decided : (a : State) (r : Run) (s : Pass) → Inv a r s → (ms : List Made) → AllSized ms → AllDecided p a r s ms
-  unfolding AllDecided AllSized
-  all-decided a r s i [] z = counts-hold a r s i
-  all-decided a r s i (m ∷ ms) z = (
-    counts-hold a r s i,
-    decide-step a r s i (m .call) (z .0) (m .lent),
-    all-decided _ _ _ (inv-step a r s i (m .call) (z .0) (m .lent)) ms (z .1),
-  )
+  abbrev pub Faithful : World → Notes → Type 0
+  Faithful w past = Inv (w .state) past (w .run) (w .pass)
+
+  pub faithful-on : (w : World) {past : Notes} → Faithful w past → (m : Made) → Sized (m .call) → Faithful (onward p w m) (noted past (came p w m .answer))
+  faithful-on w i m z = inv-step (w .state) (w .run) (w .pass) i (m .call) z (m .lent)
+
+  pub all-decided : (w : World) {past : Notes} → Faithful w past → (ms : List Made) → AllSized p w ms → AllDecided p w ms
+  unfolding along always
+  all-decided w i [] z = (tt, counts-hold (w .state) (w .run) (w .pass) i)
+  all-decided w i (m ∷ ms) z =
+      let rest = all-decided (onward p w m) (faithful-on w i m (z .0)) ms (z .1) in (
+        (decide-step (w .state) (w .run) (w .pass) i (m .call) (z .0) (m .lent), rest .0),
+        (counts-hold (w .state) (w .run) (w .pass) i, rest .1),
+      )
 
   -- a fresh run, its buffers holding anything
-  pub fresh-inv : (s : Start) → 1 ≤ s .items → s .items ≤ 32768 → s .rounds ≡ roundsOf (s .items) → (f g : List ℕ) → Inv (fresh s f g) (startRun s) zeroPass
+  pub fresh-faithful : (s : Start) → Startable s → (f g : List ℕ) → Faithful (freshWorld s f g) noNotes
   unfolding passAfter inLimits
-  fresh-inv s least most rounds f g =
+  fresh-faithful s h f g =
       record {
         run = refl;
         pass = refl;
         fits = record {
           run = record {
-            some = least;
-            most = most;
-            rounds = rounds;
+            some = h .least;
+            most = h .most;
+            rounds = h .rounds;
             round = refl;
             total = le-leb 0 (limit p) (omega arith);
             given = refl;

@@ -11,12 +11,14 @@ use Rattle.vector.specs.Vector.{Vector, at, dot}
 use Rattle.vector.specs.Message.{message}
 use Rattle.vector.proofs.Rounds.{rounds-power}
 use Rattle.vector.proofs.TwistPowers.{twists-weight}
-use Rattle.prover.specs.declared.Answer.the-variants as answer
-use Rattle.runs.specs.Trip.{numbers, partsIn, Trip, itemOf, vectorF, vectorG}
+use Rattle.prover.specs.Reply as reply
+use Rattle.item.specs.declared.Given.the-variants.{Numbers}
+use Rattle.item.specs.Item.{contributes}
+use Rattle.runs.specs.Trip.{Trip, itemOf, vectorF, vectorG}
 use Rattle.r1cs.specs.Check.{ruleFirst, ruleSecond, ruleTotal, ruleMessage}
 use Rattle.r1cs.proofs.RuleTotals.{padded-same, rule-first}
-use Rattle.calls.specs.Meaning.{reply, says, total, messageAt}
-use Rattle.calls.specs.Demand3.{Whole}
+use Rattle.calls.specs.Meaning.{meant, says, total, messageAt}
+use Rattle.calls.specs.Starts.{Whole}
 use Rattle.calls.specs.RuleTrip.{pairsFrom, ruleTrip}
 
 pairs-length : (a b : Vector) (i m : ℕ) → length (pairsFrom a b i m) ≡ m
@@ -24,11 +26,11 @@ unfolding pairsFrom
 pairs-length a b i zero = refl
 pairs-length a b i (suc m) = ap suc (pairs-length a b (suc i) m)
 
-pairs-at : (a b : Vector) (i m j : ℕ) → j < m → getD (pairsFrom a b i m) j (numbers 0 0) ≡ numbers (a (i + j)) (b (i + j))
+pairs-at : (a b : Vector) (i m j : ℕ) → j < m → getD (pairsFrom a b i m) j (Numbers 0 0) ≡ Numbers (a (i + j)) (b (i + j))
 unfolding pairsFrom
 pairs-at a b i zero j h = absurd (omega arith)
-pairs-at a b i (suc m) zero h = ap (λ k. numbers (a k) (b k)) (sym (add-zero i))
-pairs-at a b i (suc m) (suc j) h = pairs-at a b (suc i) m j (omega arith) ∙ ap (λ k. numbers (a k) (b k)) (suc-add i j ∙ sym (add-suc i j))
+pairs-at a b i (suc m) zero h = ap (λ k. Numbers (a k) (b k)) (sym (add-zero i))
+pairs-at a b i (suc m) (suc j) h = pairs-at a b (suc i) m j (omega arith) ∙ ap (λ k. Numbers (a k) (b k)) (suc-add i j ∙ sym (add-suc i j))
 
 module _ (p v n : ℕ) (few : n ≤ 15) (a b : Vector) where
   abbrev T : Trip
@@ -40,21 +42,21 @@ module _ (p v n : ℕ) (few : n ≤ 15) (a b : Vector) where
       let most : 2 ^ n ≤ 2 ^ 15 = pow-mono few in
       record { start = record { least = pow-pos n; most = most; rounds = sym (rounds-power n few) }; items = pairs-length a b 0 (2 ^ n) }
 
-  item-at : (i : ℕ) → i < 2 ^ n → itemOf T i ≡ numbers (a i) (b i)
-  item-at i less = pairs-at a b 0 (2 ^ n) i less ∙ ap (λ k. numbers (a k) (b k)) (zero-add i)
+  item-at : (i : ℕ) → i < 2 ^ n → itemOf T i ≡ Numbers (a i) (b i)
+  item-at i less = pairs-at a b 0 (2 ^ n) i less ∙ ap (λ k. Numbers (a k) (b k)) (zero-add i)
 
   pub rule-vector-f : vectorF p T ≡ ruleFirst p v n a
   rule-vector-f =
       padded-same (2 ^ n) _ (λ i. mulMod p (a i) (powMod p v i))
-      (λ i less. ap₂ (λ x w. mulMod p (partsIn p x .f) w) (item-at i less) (twists-weight p v n i few less))
+      (λ i less. ap₂ (λ x w. mulMod p (contributes p (T .start) x .f) w) (item-at i less) (twists-weight p v n i few less))
       ∙ sym (rule-first p v n few a)
 
   pub rule-vector-g : vectorG p T ≡ ruleSecond n b
-  rule-vector-g = padded-same (2 ^ n) _ b (λ i less. ap (λ x. partsIn p x .g) (item-at i less))
+  rule-vector-g = padded-same (2 ^ n) _ b (λ i less. ap (λ x. contributes p (T .start) x .g) (item-at i less))
 
   -- the run's total is the check's, and so the claim where no row fails (r1cs: check-claim-total)
-  pub rule-run-total : (cs : List ℕ) → reply p T cs total ≡ says (answer.FieldTotal (ruleTotal p v n a b))
-  rule-run-total cs = ap₂ (λ f g. says (answer.FieldTotal (dot p (2 ^ n) f g))) rule-vector-f rule-vector-g
+  pub rule-run-total : (cs : List ℕ) → meant p T cs total ≡ says (reply.fieldTotal (ruleTotal p v n a b))
+  rule-run-total cs = ap₂ (λ f g. says (reply.fieldTotal (dot p (2 ^ n) f g))) rule-vector-f rule-vector-g
 
   -- and so are its messages
   pub rule-run-message : (cs : List ℕ) (i : ℕ) → messageAt p T cs i ≡ ruleMessage p v n (at cs) a b i

@@ -3,7 +3,7 @@ use mathlib.Core.Path.{_≡_, refl, sym, ap, subst, _∙_}
 use mathlib.Core.Bool.{Bool, true, false, cond, _&&_, true≢false}
 use mathlib.Core.List.{List, [], _++_}
 use mathlib.Core.Option.{Option, none, some}
-use Prim.Native.Nat.{ℕ, _+_, _*_, _-_, _≤_, _<_}
+use Prim.Native.Nat.{ℕ, _+_, _*_, _≤_, _<_}
 use lib.Dec.{leb}
 use lib.ListN.{length, getD, drop}
 use borrow.Author.Tests.{le-leb, lt-ltb}
@@ -20,8 +20,8 @@ use Rattle.prover.specs.declared.Kind.the-variants.{Shut, Asked, Change}
 use Rattle.prover.specs.declared.Run.{Run}
 use Rattle.prover.specs.declared.Pass.{Pass}
 use Rattle.prover.specs.declared.Step.{Step}
-use Rattle.prover.specs.declared.Answer.the-variants as answer
-use Rattle.prover.specs.Records.{Out, leaves, noValues}
+use Rattle.prover.specs.Reply as reply
+use Rattle.prover.specs.Records.{Out, out, leaves, noValues}
 use Rattle.prover.specs.Order.{isTotal, isOpenings}
 use Rattle.prover.specs.WellFormed.{kindFits, wellFormed}
 use Rattle.prover.specs.Open.{opened, noPoints, pointsOf, openKernel, paddedKernel, toSmallCall}
@@ -31,15 +31,15 @@ use Rattle.prover.specs.Close.{totalStep, messageStep, endsStep, openingStep, c
 use Rattle.prover.specs.Full.{messageGiven, endsGiven}
 use Rattle.prover.specs.Opening.{openingGiven}
 use Rattle.prover.specs.Written.{mayWrite, writeCall, writtenStep, proofOf}
-use Rattle.runs.specs.Trip.{reading, numbers, partsIn, sumOf}
+use Rattle.item.specs.Item.{contributes}
+use Rattle.runs.specs.Trip.{sumOf}
 use Rattle.calls.specs.declared.Call.{Call}
 use Rattle.calls.specs.declared.Call.the-variants as call
-use Rattle.calls.specs.Step.{Lent, Result, keeping, leaving, keepingStep, step}
-use Rattle.calls.specs.State.{State}
-use Rattle.calls.specs.Table.{Refusal, row, isOpen, waits, table}
-use Rattle.calls.specs.Statement.{refusedResult}
-use Rattle.calls.proofs.Records.{runOf}
-use Rattle.calls.proofs.Guards.{challengeDoes, decided, same-row, like-row, proof-next, open-decided, open-at-decided, to-full-decided, message-decided, ends-decided, opening-decided, challenge-decided, item-decided, field-item-decided, close-decided}
+use Rattle.calls.specs.Step.{Lent, Result, keeping, leaving, step}
+use Rattle.calls.specs.State.{isOpen, State}
+use Rattle.calls.specs.Table.{Refusal, refusedWith, decided, row, waits, table}
+use Rattle.calls.proofs.Records.{Notes, runOf}
+use Rattle.calls.proofs.Guards.{challengeDoes, same-row, like-row, proof-next, open-decided, open-at-decided, to-full-decided, message-decided, ends-decided, opening-decided, challenge-decided, item-decided, close-decided}
 
 -- what the close of a pass comes to; the first and the fourth line are met by no list
 abbrev pub closeStep : Run → Pass → Next → Kind → Step
@@ -51,14 +51,17 @@ closeStep r s next.Ends Asked = endsStep r s
 closeStep r s next.Openings Asked = openingStep r s
 closeStep r s t Change = changedStep r
 
+-- a call with no buffers
+abbrev pub keepingStep : Lent → Step → Result
+keepingStep l s = keeping l (out s [] [])
+
 -- an answered call
 abbrev pub does : ℕ → Run → Pass → Call → Lent → Result
 does p r s call.OpenPass l = keeping l (opened r noPoints (openKernel r))
 does p r s (call.OpenAt b) l = keeping l (opened r (pointsOf p b) (paddedKernel r))
 does p r s call.ToFull l = leaving l (changes r (l .f) (l .g))
 does p r s call.ToSmall l = keepingStep l (changedStep r)
-does p r s (call.Item z w) l = leaving l (takes p r s (partsIn p (reading z w)) (l .f) (l .g))
-does p r s (call.FieldItem x y) l = leaving l (takes p r s (partsIn p (numbers x y)) (l .f) (l .g))
+does p r s (call.Give x) l = leaving l (takes p r s (contributes p (r .start) x) (l .f) (l .g))
 does p r s call.Close l = keepingStep l (closeStep r s (r .next) (s .kind))
 does p r s call.Message l = leaving l (messageGiven p r s (l .f) (l .g))
 does p r s (call.Challenge c) l = leaving l (challengeDoes p r s c l (r .mode))
@@ -68,10 +71,13 @@ does p r s call.WriteProof l =
     record {
       run = r;
       pass = s;
-      answer = answer.Written (proofSize (r .rounds));
+      answer = answered (reply.written (proofSize (r .start .rounds)));
       values = noValues;
-      lent = record { f = l .f; g = l .g; file = proofOf r ++ drop (proofSize (r .rounds)) (l .file) };
+      lent = record { f = l .f; g = l .g; file = proofOf r ++ drop (proofSize (r .start .rounds)) (l .file) };
     }
+
+abbrev pub refusedResult : Run → Pass → Lent → Refusal → Result
+refusedResult r s l k = record { run = r; pass = s; answer = refusedWith (k .0) (k .1); values = noValues; lent = l }
 
 abbrev pub settled : Run → Pass → Lent → Option Refusal → Result → Result
 settled r s l none o = o
@@ -110,49 +116,43 @@ finishes r s Small next.Openings Asked h o e = ap (finished r s) e
 finishes r s Full t Asked h o e = absurd (true≢false (sym h))
 finishes r s m t Change h o e = refl
 
-module _ (p : ℕ) (a : State) (few : a .start .rounds ≤ 15) (s : Pass) (wf : wellFormed p (runOf a) s ≡ true) (kind : s .kind ≡ a .kind)
-    (count : s .taken ≡ length (a .items)) (sums : isTotal (a .next) ≡ true → s .total ≡ sumOf (a .items))
-    (fits : kindFits (a .kind) (a .mode) (a .next) ≡ true) where
+module _ (p : ℕ) (a : State) (past : Notes) (few : a .start .rounds ≤ 15) (s : Pass) (wf : wellFormed p (runOf a past) s ≡ true) (kind : s .kind ≡ a .pass .kind)
+    (count : s .taken ≡ length (a .pass .items)) (sums : isTotal (a .turn .next) ≡ true → s .total ≡ sumOf (a .pass .items))
+    (fits : kindFits (a .pass .kind) (a .turn .mode) (a .turn .next) ≡ true) where
   abbrev R : Run
-  R = runOf a
+  R = runOf a past
 
   close-so : (l : Lent) (t : Option Refusal) → table p a call.Close l ≡ t
-      → keepingStep l (leavesStep R s (decided t (closing R s (s .kind)))) ≡ settled R s l t (keepingStep l (closeStep R s (a .next) (s .kind)))
+      → keepingStep l (leavesStep R s (decided t (closing R s (s .kind)))) ≡ settled R s l t (keepingStep l (closeStep R s (a .turn .next) (s .kind)))
   unfolding table
   close-so l none e =
-      let q = row-passed (isOpen (a .kind)) 10 _ e .0 in
+      let q = row-passed (isOpen (a .pass .kind)) 10 _ e .0 in
       ap (λ o. keepingStep l (leavesStep R s o))
-      (finishes R s (a .mode) (a .next) (s .kind) (subst (λ k. kindFits k (a .mode) (a .next) ≡ true) (sym kind) fits)
+      (finishes R s (a .turn .mode) (a .turn .next) (s .kind) (subst (λ k. kindFits k (a .turn .mode) (a .turn .next) ≡ true) (sym kind) fits)
       (ap isOpen kind ∙ q) refl)
   close-so l (some (k, none)) e = refl
   close-so l (some (k, some i)) e = refl
 
-  -- the numbers that a plain run has given
-  module _ (total : inLimits p (a .total) ≡ true) (messages : allBelow p (λ k. getD (R .messages) k 0) (3 * a .start .rounds) ≡ true)
-      (fend : a .fend < p) (gend : a .gend < p) where
-    file-rows : (file : List ℕ) → writeProof p (a .start .rounds) (a .total) (R .messages) (a .fend) (a .gend) file
+  -- the Numbers that a plain run has given
+  module _ (total : inLimits p (past .total) ≡ true) (messages : allBelow p (λ k. getD (R .messages) k 0) (3 * a .start .rounds) ≡ true)
+      (fend : past .fend < p) (gend : past .gend < p) where
+    file-rows : (file : List ℕ) → writeProof p (a .start .rounds) (past .total) (R .messages) (past .fend) (past .gend) file
         ≡ decided (row (leb (18 + 12 * a .start .rounds) (length file)) 9 none) (answered (proofSize (a .start .rounds)))
     unfolding writeProof
     file-rows file =
-        rw (le-leb (a .start .rounds) maxRounds few, total, messages, lt-ltb (a .fend) p fend, lt-ltb (a .gend) p gend)
+        rw (le-leb (a .start .rounds) maxRounds few, total, messages, lt-ltb (past .fend) p fend, lt-ltb (past .gend) p gend)
         (same-row (leb (18 + 12 * a .start .rounds) (length file)) 9 _ none _ refl)
 
-    write-turn : mayWrite p R s ≡ (a .start .plain && waits next.Openings (a .next))
-    write-turn = ap (λ b. cond b (cond (a .start .plain) (isOpenings (a .next)) false) false) wf ∙ proof-next (a .start .plain) (a .next)
+    write-turn : mayWrite p R s ≡ (a .start .plain && waits next.Openings (a .turn .next))
+    write-turn = ap (λ b. cond b (cond (a .start .plain) (isOpenings (a .turn .next)) false) false) wf ∙ proof-next (a .start .plain) (a .turn .next)
 
     write-so : (l : Lent) → writeCall p R s (l .file) ≡ decided (table p a call.WriteProof l) (answered (proofSize (a .start .rounds)))
     unfolding writeCall table
     write-so l = like-row _ _ 10 _ _ _ write-turn (file-rows (l .file))
 
     write-settled : (l : Lent) (t : Option Refusal) (o : Outcome ℕ) → o ≡ decided t (answered (proofSize (a .start .rounds)))
-        → (let w : Step = writtenStep R s o in
-        _≡_ {A = Result} (record {
-          run = w .run;
-          pass = w .pass;
-          answer = w .answer;
-          values = w .values;
-          lent = record { f = l .f; g = l .g; file = writtenIn o (proofOf R) (l .file) };
-        }) (settled R s l t (does p R s call.WriteProof l)))
+        → keepingStep (record { f = l .f; g = l .g; file = writtenIn o (proofOf R) (l .file) }) (writtenStep R s o)
+        ≡ settled R s l t (does p R s call.WriteProof l)
     unfolding writtenIn
     write-settled l none o e = rw e
     write-settled l (some (k, none)) o e = rw e
@@ -165,15 +165,14 @@ module _ (p : ℕ) (a : State) (few : a .start .rounds ≤ 15) (s : Pass) (wf : 
     -- THE STEP
     pub steps : (c : Call) (l : Lent) → step p R s c l ≡ settled R s l (table p a c l) (does p R s c l)
     unfolding step
-    steps call.OpenPass l = ap (λ o. keeping l (leaves R s [] [] o)) (open-decided p a few s wf l) ∙ keeps R s l (table p a call.OpenPass l) _
-    steps (call.OpenAt b) l = ap (λ o. keeping l (leaves R s [] [] o)) (open-at-decided p a few s wf b l) ∙ keeps R s l (table p a (call.OpenAt b) l) _
-    steps call.ToFull l = ap (λ o. leaving l (leaves R s (l .f) (l .g) o)) (to-full-decided p a few s wf l) ∙ leaving-so R s l (table p a call.ToFull l) _
+    steps call.OpenPass l = ap (λ o. keeping l (leaves R s [] [] o)) (open-decided p a past few s wf l) ∙ keeps R s l (table p a call.OpenPass l) _
+    steps (call.OpenAt b) l = ap (λ o. keeping l (leaves R s [] [] o)) (open-at-decided p a past few s wf b l) ∙ keeps R s l (table p a (call.OpenAt b) l) _
+    steps call.ToFull l = ap (λ o. leaving l (leaves R s (l .f) (l .g) o)) (to-full-decided p a past few s wf l) ∙ leaving-so R s l (table p a call.ToFull l) _
     steps call.ToSmall l = to-small-so l
-    steps (call.Item z w) l = ap (λ o. leaving l (leaves R s (l .f) (l .g) o)) (item-decided p a few s wf kind count z w l) ∙ leaving-so R s l (table p a (call.Item z w) l) _
-    steps (call.FieldItem x y) l = ap (λ o. leaving l (leaves R s (l .f) (l .g) o)) (field-item-decided p a few s wf kind count x y l) ∙ leaving-so R s l (table p a (call.FieldItem x y) l) _
-    steps call.Close l = ap (λ o. keepingStep l (leavesStep R s o)) (close-decided p a few s wf kind count sums l) ∙ close-so l (table p a call.Close l) refl
-    steps call.Message l = ap (λ o. leaving l (leaves R s (l .f) (l .g) o)) (message-decided p a few s wf l) ∙ leaving-so R s l (table p a call.Message l) _
-    steps (call.Challenge c) l = ap (λ o. leaving l (leaves R s (l .f) (l .g) o)) (challenge-decided p a few s wf c l) ∙ leaving-so R s l (table p a (call.Challenge c) l) _
-    steps call.Ends l = ap (λ o. leaving l (leaves R s (l .f) (l .g) o)) (ends-decided p a few s wf l) ∙ leaving-so R s l (table p a call.Ends l) _
-    steps (call.Opening b) l = ap (λ o. leaving l (leaves R s (l .f) (l .g) o)) (opening-decided p a few s wf b l) ∙ leaving-so R s l (table p a (call.Opening b) l) _
+    steps (call.Give x) l = ap (λ o. leaving l (leaves R s (l .f) (l .g) o)) (item-decided p a past few s wf kind count x l) ∙ leaving-so R s l (table p a (call.Give x) l) _
+    steps call.Close l = ap (λ o. keepingStep l (leavesStep R s o)) (close-decided p a past few s wf kind count sums l) ∙ close-so l (table p a call.Close l) refl
+    steps call.Message l = ap (λ o. leaving l (leaves R s (l .f) (l .g) o)) (message-decided p a past few s wf l) ∙ leaving-so R s l (table p a call.Message l) _
+    steps (call.Challenge c) l = ap (λ o. leaving l (leaves R s (l .f) (l .g) o)) (challenge-decided p a past few s wf c l) ∙ leaving-so R s l (table p a (call.Challenge c) l) _
+    steps call.Ends l = ap (λ o. leaving l (leaves R s (l .f) (l .g) o)) (ends-decided p a past few s wf l) ∙ leaving-so R s l (table p a call.Ends l) _
+    steps (call.Opening b) l = ap (λ o. leaving l (leaves R s (l .f) (l .g) o)) (opening-decided p a past few s wf b l) ∙ leaving-so R s l (table p a (call.Opening b) l) _
     steps call.WriteProof l = write-settled l (table p a call.WriteProof l) _ (write-so l)

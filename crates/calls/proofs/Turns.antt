@@ -11,8 +11,8 @@ use Rattle.prover.specs.declared.Kind.{Kind}
 use Rattle.prover.specs.declared.Kind.the-variants.{Shut, Asked, Change}
 use Rattle.prover.specs.Order.{isOpenings}
 use Rattle.prover.specs.WellFormed.{kindFits}
-use Rattle.calls.specs.State.{isFull}
-use Rattle.calls.specs.Table.{Refusal, rowAt, isSmall, waits, openingsNext}
+use Rattle.calls.specs.State.{isFull, isSmall}
+use Rattle.calls.specs.Table.{Refusal, rowAt, waits, openingsNext}
 use Rattle.calls.proofs.Steps.{some-none}
 
 -- tests that hold

@@ -1,71 +1,132 @@
--- DEMAND 3: "a single theorem whose subject is the whole list". To be read top to bottom with Starts, State, Table, Meaning, Statement
--- (a run's list), Proper (a run's own list), QueryState, QueryStatement (a verifier's list) and Given (a verifier's beside a run's).
-use Prim.Native.Nat.{ℕ}
+-- DEMAND 3: "a single theorem whose subject is the whole list". To be read top to bottom with Lists, Starts, State, World, Table, Meaning,
+-- Statement (a run's list), Proper (a run's own list), QueryState (a verifier's list), Given (a verifier's beside a run's), Carried and
+-- WholeList (the verifier's own list) and Verdict (a verifier's verdicts).
+use Prim.Native.Nat.{ℕ, _+_, _<_, _≤_}
 use mathlib.Core.Path.{_≡_}
 use mathlib.Core.Bool.{Bool, true}
 use mathlib.Core.List.{List, [], _∷_, _++_}
-use lib.ListN.{length}
-use Rattle.prover.specs.declared.Run.{Run}
-use Rattle.prover.specs.declared.Pass.{Pass}
-use Rattle.prover.specs.Start.{zeroPass}
-use Rattle.runs.specs.Trip.{Start, Trip}
-use Rattle.calls.specs.Step.{Lent, Result, isAnswered, step}
-use Rattle.calls.specs.State.{State, fresh}
-use Rattle.calls.specs.Meaning.{question}
-use Rattle.calls.specs.Statement.{Made, AllSized, AllDecided, AllKept, AllRight, after, startRun}
-use Rattle.calls.specs.QueryState.{freshVerifierState}
-use Rattle.calls.specs.QueryStatement.{Asked, AllDecidedHeard, startVerifier}
-use Rattle.calls.specs.Proper.{Valid, Brings, properRun, AllAnswered}
-use Rattle.calls.specs.Given.{replyOf, AllTake, AllBringRun, AllSayRun}
-use Rattle.calls.specs.Starts.{Startable, Starts}
+use mathlib.Core.Option.{none}
+use lib.ListN.{length, take}
+use Rattle.refusal.specs.Outcome.{answered}
+use Rattle.vector.specs.Vector.{at}
+use Rattle.item.specs.declared.Start.{Start}
+use Rattle.runs.specs.Trip.{Trip}
+use Rattle.calls.specs.Lists.{after, along, always}
+use Rattle.calls.specs.Step.{Lent, Result, isAnswered}
+use Rattle.calls.specs.World.{Made, World, freshWorld, came, onward}
+use Rattle.calls.specs.Table.{table, fileSize}
+use Rattle.calls.specs.Meaning.{question, Kept}
+use Rattle.calls.specs.Statement.{Sized, Decides, CountsHold, Holds, Right}
+use Rattle.calls.specs.QueryState.{verifierTable, Posed, Hearing, freshHearing, heard, hearsOn, DecidesHeard}
+use Rattle.calls.specs.Proper.{Valid, Brings, properRun}
+use Rattle.calls.specs.Given.{replyOf, BringsRun, OpeningsChecked, agreed, OpensTrip}
+use Rattle.calls.specs.Carried.{byMessages, byFile, writesProof}
+use Rattle.calls.specs.WholeList.{wholeByMessages, wholeByFile}
+use Rattle.calls.specs.Verdict.{broughtWith, Judges, Account, freshAccount, accountOn}
+use Rattle.calls.specs.Starts.{Startable, Whole, Starts}
 
--- a trip of L items
-pub record Whole (T : Trip) : Type 0 where
-  pub start : Startable (T .start)
-  pub items : length (T .items) ≡ T .start .items
+-- ALONG A RUN'S LIST
+module _ (p : ℕ) where
+  abbrev pub AllSized : World → List Made → Type 0
+  AllSized = along (onward p) (λ w m. Sized (m .call))
 
--- from a fresh run of the trip whose lent buffers held f and g
-module _ (p : ℕ) (T : Trip) (f g : List ℕ) where
-  abbrev pub KeptFrom : Bool → List Made → Type 0
-  KeptFrom through ms = AllKept p through T (fresh (T .start) f g) (startRun (T .start)) zeroPass ms
+  abbrev pub AllAnswered : World → List Made → Type 0
+  AllAnswered = along (onward p) (λ w m. isAnswered (came p w m .answer) ≡ true)
 
-  abbrev pub stateAfter : List Made → State
-  stateAfter ms = after p (fresh (T .start) f g) (startRun (T .start)) zeroPass ms .0
+  -- each call is as the table says, and every small pass holds document 01's entries
+  abbrev pub AllDecided : World → List Made → Type 0
+  AllDecided w ms =
+      along (onward p) (λ w m. Decides (w .run) (w .pass) (m .lent) (table p (w .state) (m .call) (m .lent)) (came p w m)) w ms
+      × always (onward p) (λ w. CountsHold (w .state) (w .pass)) w ms
 
-  abbrev pub resultAfter : List Made → Made → Result
-  resultAfter ms m =
-      let w : State × Run × Pass = after p (fresh (T .start) f g) (startRun (T .start)) zeroPass ms in
-      step p (w .1) (w .2) (m .call) (m .lent)
+  -- every answered call is as "Lists of calls" asks
+  abbrev pub AllKept : Bool → Trip → World → List Made → Type 0
+  AllKept through T =
+      along (onward p) (λ w m. isAnswered (came p w m .answer) ≡ true → Kept p T through (w .state) (m .call) (m .lent))
+
+  -- each call that the table lets through is right, and so are the stacks and buffers
+  abbrev pub AllRight : Bool → Trip → World → List Made → Type 0
+  AllRight through T w ms =
+      along (onward p) (λ w m. table p (w .state) (m .call) (m .lent) ≡ none → Right p T (w .state) (m .call) (m .lent) (came p w m)) w ms
+      × always (onward p) (λ w. Holds p through T (w .state) (w .pass)) w ms
+
+  -- the challenges taken are the first of these
+  abbrev pub AllTake : List ℕ → World → List Made → Type 0
+  AllTake cs = always (onward p) (λ w. (j : ℕ) → j < length (w .state .turn .challenges) → at (w .state .turn .challenges) j ≡ at cs j)
+
+  -- ALONG A VERIFIER'S LIST, and one beside a run's
+  abbrev pub AllDecidedHeard : Hearing → List Posed → Type 0
+  AllDecidedHeard = along (hearsOn p) (λ h q. DecidesHeard (h .verifier) (verifierTable p (h .state) (q .query) (q .shown)) (heard p h q))
+
+  abbrev pub AllBringRun : Trip → World → List Made → Hearing → List Posed → Type 0
+  AllBringRun T w ms =
+      along (hearsOn p) (λ h q. isAnswered (heard p h q .told) ≡ true → BringsRun p T w ms (h .state) (q .query) (q .shown))
+
+  -- the verifier agrees with what the table lets through, with a check where it is of an opening of the trip
+  abbrev pub AllSay : Trip → Hearing → List Posed → Type 0
+  AllSay T =
+      along (hearsOn p) (λ h q. verifierTable p (h .state) (q .query) (q .shown) ≡ none → OpensTrip p T (h .state) q → heard p h q .told ≡ answered (agreed (q .query)))
+
+  -- every call is answered, and the verifier agrees
+  abbrev pub AllAgreed : Hearing → List Posed → Type 0
+  AllAgreed = along (hearsOn p) (λ h q. heard p h q .told ≡ answered (agreed (q .query)))
+
+  -- every answered call answers to the equations of what was brought up to and with it
+  abbrev pub AllJudged : Start → List ℕ → Account → List Posed → Type 0
+  AllJudged s cs =
+      along (accountOn p (s .rounds))
+      (λ w q. isAnswered (heard p (w .now) q .told) ≡ true → Judges p s cs (broughtWith p (s .rounds) (w .brought) (q .query) (q .shown)) (q .query) (heard p (w .now) q .told))
 
 pub record Demand3 (p : ℕ) : Type 0 where
   -- each start is refused exactly by 3 and 6, and otherwise gives the records that the lists below begin with
   pub starts : Starts p
   -- WHATEVER THE LIST: refused exactly when, and with the number that, the table says, and then nothing changes; and every small pass
   -- for a round, the ends or openings holds exactly document 01's entries, level by level
-  pub refusals : (s : Start) → Startable s → (f g : List ℕ) (ms : List Made) → AllSized ms → AllDecided p (fresh s f g) (startRun s) zeroPass ms
+  pub refusals : (s : Start) → Startable s → (f g : List ℕ) (ms : List Made) → (let w : World = freshWorld s f g in AllSized p w ms → AllDecided p w ms)
   -- WHERE EVERY PASS GIVES THE TRIP'S ITEMS AND THE BUFFERS ARE KEPT: every answer is what is meant, every stack entry is the fold's item,
   -- every buffer and every proof file is as document 01 says, after every call
-  pub answers : (through : Bool) (T : Trip) → Whole T → (f g : List ℕ) (ms : List Made) → AllSized ms
-      → KeptFrom p T f g through ms → AllRight p through T (fresh (T .start) f g) (startRun (T .start)) zeroPass ms
+  pub answers : (through : Bool) (T : Trip) → Whole T → (f g : List ℕ) (ms : List Made)
+      → (let w : World = freshWorld (T .start) f g in AllSized p w ms → AllKept p through T w ms → AllRight p through T w ms)
   -- A PROPER RUN IS ANSWERED THROUGHOUT, in small mode, in full mode and with a change at every place; and it meets what is asked above
   pub proper : (T : Trip) → Valid p T → (k : ℕ) (cs bs : List ℕ) (l : Lent) → Brings p T k cs bs l
-      → AllAnswered p (startRun (T .start)) zeroPass (properRun p T k cs bs l)
-      × AllSized (properRun p T k cs bs l)
-      × ((through : Bool) → KeptFrom p T (l .f) (l .g) through (properRun p T k cs bs l))
+      → (let w : World = freshWorld (T .start) (l .f) (l .g) in
+      let ms : List Made = properRun p T k cs bs l in AllAnswered p w ms × AllSized p w ms × ((through : Bool) → AllKept p through T w ms))
   -- ALIKE: two lists for the same trip, each in any mode and with any change; where the same challenges were taken and the same is asked,
   -- the same is answered
   pub alike : (T : Trip) → Whole T → (th th′ : Bool) (f g f′ g′ : List ℕ) (ms ns : List Made) (m n : Made)
-      → AllSized (ms ++ m ∷ []) → AllSized (ns ++ n ∷ []) → KeptFrom p T f g th (ms ++ m ∷ []) → KeptFrom p T f′ g′ th′ (ns ++ n ∷ [])
-      → stateAfter p T f g ms .challenges ≡ stateAfter p T f′ g′ ns .challenges
-      → question (stateAfter p T f g ms) (m .call) ≡ question (stateAfter p T f′ g′ ns) (n .call)
-      → isAnswered (resultAfter p T f g ms m .answer) ≡ true → isAnswered (resultAfter p T f′ g′ ns n .answer) ≡ true
-      → replyOf (resultAfter p T f g ms m) ≡ replyOf (resultAfter p T f′ g′ ns n)
+      → (let w : World = freshWorld (T .start) f g in
+      let v : World = freshWorld (T .start) f′ g′ in
+      let x : World = after (onward p) w ms in
+      let y : World = after (onward p) v ns in
+      AllSized p w (ms ++ m ∷ []) → AllSized p v (ns ++ n ∷ []) → AllKept p th T w (ms ++ m ∷ []) → AllKept p th′ T v (ns ++ n ∷ [])
+      → x .state .turn .challenges ≡ y .state .turn .challenges → question (x .state) (m .call) ≡ question (y .state) (n .call)
+      → isAnswered (came p x m .answer) ≡ true → isAnswered (came p y n .answer) ≡ true → replyOf (came p x m) ≡ replyOf (came p y n))
   -- A VERIFIER'S LIST, whatever it is: refused exactly when, and with the number that, the table says, and then nothing changes
-  pub verifierRefusals : (s : Start) → Startable s → (cs : List ℕ) (qs : List Asked)
-      → AllDecidedHeard p (freshVerifierState s cs) (startVerifier s cs) qs
+  pub verifierRefusals : (s : Start) → Startable s → (cs : List ℕ) (qs : List Posed) → AllDecidedHeard p (freshHearing s cs) qs
   -- BESIDE A RUN'S LIST that took the verifier's challenges: where the answered calls bring the trip's items first to last and what the run
-  -- gave, every message passes, every verdict is yes, and every opening that the run gave opens
-  pub verifierAnswers : (through : Bool) (T : Trip) → Whole T → (f g : List ℕ) (ms : List Made) → AllSized ms → KeptFrom p T f g through ms
-      → (cs : List ℕ) → length cs ≡ T .start .rounds → AllTake p cs (fresh (T .start) f g) (startRun (T .start)) zeroPass ms → (qs : List Asked)
-      → AllBringRun p T (fresh (T .start) f g) (startRun (T .start)) zeroPass ms (freshVerifierState (T .start) cs) (startVerifier (T .start) cs) qs
-      → AllSayRun p T (fresh (T .start) f g) (startRun (T .start)) zeroPass ms (freshVerifierState (T .start) cs) (startVerifier (T .start) cs) qs
+  -- gave, every message passes and every verdict is yes
+  pub verifierAnswers : (through : Bool) (T : Trip) → Whole T → (f g : List ℕ) (ms : List Made)
+      → (let w : World = freshWorld (T .start) f g in
+      AllSized p w ms → AllKept p through T w ms → (cs : List ℕ) → length cs ≡ T .start .rounds → AllTake p cs w ms
+      → (qs : List Posed) → AllBringRun p T w ms (freshHearing (T .start) cs) qs → AllSay p T (freshHearing (T .start) cs) qs)
+  -- and "at any time", whatever the verifier was asked before, every check of the run's openings is yes
+  pub openingsChecked : (through : Bool) (T : Trip) → Whole T → (f g : List ℕ) (ms : List Made)
+      → (let w : World = freshWorld (T .start) f g in
+      AllSized p w ms → AllKept p through T w ms → (cs : List ℕ) → length cs ≡ T .start .rounds → AllTake p cs w ms
+      → (qs : List Posed) → OpeningsChecked p T w ms (after (hearsOn p) (freshHearing (T .start) cs) qs))
+  -- A PROPER RUN'S VERIFIER has for its own list the L items, the close, n messages, the verdict and a check of each opening, answers it
+  -- throughout and agrees: every message passes, the verdict and every check are yes; and so with the proof file of a plain run, which the run
+  -- writes into any file that has room for it: the L items, the file, the checks
+  pub verifierProper : (T : Trip) → Valid p T → (k : ℕ) (cs bs : List ℕ) (l : Lent) → Brings p T k cs bs l
+      → (let w : World = freshWorld (T .start) (l .f) (l .g) in
+      let ms : List Made = properRun p T k cs bs l in
+      let h : Hearing = freshHearing (T .start) cs in
+      (byMessages p T w ms ≡ wholeByMessages p T cs bs)
+      × AllAgreed p h (byMessages p T w ms)
+      × (T .start .plain ≡ true → (m : Lent) → fileSize (T .start .rounds) ≤ length (m .file)
+      → (let o : Result = came p (after (onward p) w ms) (writesProof m) in
+      let file : List ℕ = take (fileSize (T .start .rounds)) (o .lent .file) in
+      (isAnswered (o .answer) ≡ true) × (byFile p T w ms file ≡ wholeByFile p T cs bs) × AllAgreed p h (byFile p T w ms file))))
+  -- A VERIFIER'S VERDICTS, whatever its list: yes for exactly the messages that meet its equations, else no with the first round that
+  -- failed, or n
+  pub verdicts : (s : Start) → Startable s → (cs : List ℕ) → length cs ≡ s .rounds → (qs : List Posed) → AllJudged p s cs (freshAccount s cs) qs

@@ -1,11 +1,12 @@
 -- What the function that makes a call hands back, as the result of a step.
 use Prim.Native.Nat.{ℕ}
-use mathlib.Core.List.{List}
+use mathlib.Core.List.{List, []}
 use Rattle.prover.specs.declared.Step.{Step}
-use Rattle.calls.specs.Step.{Lent, Result, keepingStep}
+use Rattle.prover.specs.Records.{out}
+use Rattle.calls.specs.Step.{Lent, Result, keeping}
 
 abbrev pub lending : List ℕ → List ℕ → List ℕ → Lent
 lending f g file = record { f = f; g = g; file = file }
 
 abbrev pub result : Step → List ℕ → List ℕ → List ℕ → Result
-result s f g file = keepingStep (lending f g file) s
+result s f g file = keeping (lending f g file) (out s [] [])

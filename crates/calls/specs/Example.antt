@@ -6,23 +6,24 @@ use mathlib.Core.List.{List, [], _∷_, _++_}
 use mathlib.Core.Option.{Option, none, some}
 use lib.IntN.{pos, negsuc}
 use lib.ListN.{replicate}
-use Rattle.refusal.specs.Outcome.{answered}
+use Rattle.refusal.specs.Outcome.{Outcome, answered, refused, refusedAt}
 use Rattle.vector.specs.Rounds.{powers, firstFrom}
-use Rattle.prover.specs.declared.Run.{Run}
-use Rattle.prover.specs.declared.Pass.{Pass}
-use Rattle.prover.specs.declared.Answer.{Answer}
-use Rattle.prover.specs.declared.Answer.the-variants as answer
+use Rattle.item.specs.declared.Start.{Start}
+use Rattle.item.specs.declared.Given.the-variants.{Reading}
+use Rattle.prover.specs.Reply as reply
+use Rattle.prover.specs.Records.{noValues}
 use Rattle.prover.specs.Values.{inNinety}
-use Rattle.prover.specs.Start.{zeroPass, started, startPlain}
-use Rattle.runs.specs.Trip.{Start, Trip, reading}
+use Rattle.prover.specs.Start.{started, freshRun, startPlain}
+use Rattle.runs.specs.Trip.{Trip}
 use Rattle.calls.specs.declared.Call.{Call}
 use Rattle.calls.specs.declared.Call.the-variants as call
-use Rattle.calls.specs.Step.{Result, step}
 use Rattle.calls.specs.Dispatch.{lending}
-use Rattle.calls.specs.State.{State, fresh, follow}
 use Rattle.calls.specs.Table.{Refusal, table}
-use Rattle.calls.specs.Meaning.{Reply, says}
-use Rattle.calls.specs.Statement.{Made, AllSized, AllKept, startRun}
+use Rattle.calls.specs.Meaning.{Answer, says}
+use Rattle.calls.specs.Lists.{each}
+use Rattle.calls.specs.World.{Made, World, came, onward}
+use Rattle.calls.specs.Given.{replyOf}
+use Rattle.calls.specs.Demand3.{AllSized, AllKept}
 
 abbrev pub P : ℕ
 P = 2147483647
@@ -31,22 +32,22 @@ abbrev pub tripStart : Start
 tripStart = record { items = 3; rounds = 2; plain = true; twists = replicate 15 0 }
 
 -- the start is answered so
-pub trip-starts : startPlain 3 ≡ answered (started (startRun tripStart))
+pub trip-starts : startPlain 3 ≡ answered (started (freshRun tripStart))
 unfolding startPlain powers firstFrom
 trip-starts = refl
 
 abbrev pub trip : Trip
-trip = record { start = tripStart; items = reading (negsuc 179) 10 ∷ reading (negsuc 174) 20 ∷ reading (pos 40) 5 ∷ [] }
+trip = record { start = tripStart; items = Reading (negsuc 179) 10 ∷ Reading (negsuc 174) 20 ∷ Reading (pos 40) 5 ∷ [] }
 
 -- the trip's items as calls
 abbrev pub item0 : Call
-item0 = call.Item (negsuc 179) 10
+item0 = call.Give (Reading (negsuc 179) 10)
 
 abbrev pub item1 : Call
-item1 = call.Item (negsuc 174) 20
+item1 = call.Give (Reading (negsuc 174) 20)
 
 abbrev pub item2 : Call
-item2 = call.Item (pos 40) 5
+item2 = call.Give (Reading (pos 40) 5)
 
 -- a call that is lent nothing, one that is lent the two buffers, and one that is lent a file of so many bytes
 abbrev pub alone : Call → Made
@@ -58,82 +59,57 @@ lent c f g = record { call = c; lent = lending f g [] }
 abbrev pub proofInto : ℕ → Made
 proofInto size = record { call = call.WriteProof; lent = lending [] [] (replicate size 255) }
 
+-- what each call of a list replies
+abbrev pub repliesFrom : World → List Made → List Answer
+repliesFrom = each (onward P) (λ w m. replyOf (came P w m))
+
 -- a call and its answer
 abbrev pub Exchange : Type 0
-Exchange = Made × Reply
+Exchange = Made × Answer
 
-abbrev pub refuses : ℕ → Reply
-refuses k = says (answer.Refused k)
+abbrev pub refuses : ℕ → Answer
+refuses k = record { answer = refused k; values = noValues }
 
 unfoldable pub callsOf : List Exchange → List Made
 callsOf [] = []
 callsOf (x ∷ xs) = x .0 ∷ callsOf xs
 
-unfoldable pub answersOf : List Exchange → List Reply
+unfoldable pub answersOf : List Exchange → List Answer
 answersOf [] = []
 answersOf (x ∷ xs) = x .1 ∷ answersOf xs
 
 -- the refusals among the answers
-abbrev pub refusalIn : Answer → Option Refusal
-refusalIn answer.Started = none
-refusalIn answer.Opened = none
-refusalIn answer.Taken = none
-refusalIn (answer.Total t) = none
-refusalIn (answer.FieldTotal t) = none
-refusalIn (answer.Message even cross odd) = none
-refusalIn answer.Challenged = none
-refusalIn (answer.Ends f g) = none
-refusalIn answer.Opening = none
-refusalIn answer.Changed = none
-refusalIn (answer.Written size) = none
-refusalIn (answer.Refused k) = some (k, none)
-refusalIn (answer.RefusedAt k i) = some (k, some i)
+abbrev pub refusalIn : {A : Type 0} → Outcome A → Option Refusal
+refusalIn (answered x) = none
+refusalIn (refused k) = some (k, none)
+refusalIn (refusedAt k i) = some (k, some i)
 
 unfoldable pub refusalsOf : List Exchange → List (Option Refusal)
 refusalsOf [] = []
 refusalsOf (x ∷ xs) = refusalIn (x .1 .answer) ∷ refusalsOf xs
 
 -- a pass of small mode that is whole, its close answered so
-abbrev pub wholePass : Call → Reply → List Exchange
-wholePass opens closes =
-    (alone opens, says answer.Opened)
-    ∷ (alone item2, says answer.Taken)
-    ∷ (alone item1, says answer.Taken)
-    ∷ (alone item0, says answer.Taken)
+abbrev pub answeredPass : Call → Answer → List Exchange
+answeredPass opens closes =
+    (alone opens, says reply.opened)
+    ∷ (alone item2, says reply.taken)
+    ∷ (alone item1, says reply.taken)
+    ∷ (alone item0, says reply.taken)
     ∷ (alone call.Close, closes)
     ∷ []
 
--- what the calls of a list answer
-unfoldable pub repliesFrom : Run → Pass → List Made → List Reply
-repliesFrom r s [] = []
-repliesFrom r s (m ∷ ms) =
-    let o : Result = step P r s (m .call) (m .lent) in
-    (record { answer = o .answer; values = o .values }) ∷ repliesFrom (o .run) (o .pass) ms
-
--- what the table says at each
-unfoldable pub tableFrom : State → Run → Pass → List Made → List (Option Refusal)
-tableFrom a r s [] = []
-tableFrom a r s (m ∷ ms) =
-    let o : Result = step P r s (m .call) (m .lent) in
-    table P a (m .call) (m .lent) ∷ tableFrom (follow a (m .call) o) (o .run) (o .pass) ms
-
--- what the last leaves in its file
-unfoldable pub fileFrom : Run → Pass → List Made → List ℕ → List ℕ
-fileFrom r s [] file = file
-fileFrom r s (m ∷ ms) file = let o : Result = step P r s (m .call) (m .lent) in fileFrom (o .run) (o .pass) ms (o .lent .file)
-
 -- the lines of the output
-abbrev pub tripTotal : Reply
-tripTotal = says (answer.Total (negsuc 5099))
+abbrev pub tripTotal : Answer
+tripTotal = says (reply.total (negsuc 5099))
 
-abbrev pub round0 : Reply
-round0 = says (answer.Message 2147482047 2147478297 2147480147)
+abbrev pub round0 : Answer
+round0 = says (reply.message 2147482047 2147478297 2147480147)
 
-abbrev pub round1 : Reply
-round1 = says (answer.Message 2147457147 2147482997 200)
+abbrev pub round1 : Answer
+round1 = says (reply.message 2147457147 2147482997 200)
 
-abbrev pub tripEnds : Reply
-tripEnds = says (answer.Ends 2147483237 65)
+abbrev pub tripEnds : Answer
+tripEnds = says (reply.ends 2147483237 65)
 
 abbrev pub openF : List ℕ
 openF = 2147483277 ∷ 330 ∷ 2147483277 ∷ 2147483197 ∷ 2147483037 ∷ 2147483237 ∷ []
@@ -141,8 +117,8 @@ openF = 2147483277 ∷ 330 ∷ 2147483277 ∷ 2147483197 ∷ 2147483037 ∷ 2147
 abbrev pub openG : List ℕ
 openG = 70 ∷ 2147483637 ∷ 70 ∷ 60 ∷ 40 ∷ 65 ∷ []
 
-abbrev pub tripOpening : Reply
-tripOpening = record { answer = answer.Opening; values = inNinety 2 (openF ++ openG) }
+abbrev pub tripOpening : Answer
+tripOpening = record { answer = answered reply.opening; values = inNinety 2 (openF ++ openG) }
 
 -- RVP, version 1, n and the total; two messages; the end values; then eight bytes that were there before
 abbrev pub tripFile : List ℕ
@@ -153,11 +129,16 @@ tripFile =
     ++ (101 ∷ 254 ∷ 255 ∷ 127 ∷ 65 ∷ 0 ∷ 0 ∷ 0 ∷ [])
     ++ replicate 8 255
 
+-- the last of some files
+unfoldable pub lastOf : List ℕ → List (List ℕ) → List ℕ
+lastOf file [] = file
+lastOf file (x ∷ xs) = lastOf x xs
+
 -- a list of calls that brings the trip and keeps the buffers is answered so, its refusals are the table's, and it leaves the trip's
 -- proof file
-pub record TripList (xs : List Exchange) : Type 0 where
-  pub sized : AllSized (callsOf xs)
-  pub kept : (f g : List ℕ) → AllKept P true trip (fresh tripStart f g) (startRun tripStart) zeroPass (callsOf xs)
-  pub replies : repliesFrom (startRun tripStart) zeroPass (callsOf xs) ≡ answersOf xs
-  pub refusals : (f g : List ℕ) → tableFrom (fresh tripStart f g) (startRun tripStart) zeroPass (callsOf xs) ≡ refusalsOf xs
-  pub file : fileFrom (startRun tripStart) zeroPass (callsOf xs) [] ≡ tripFile
+pub record TripList (xs : List Exchange) (w : World) : Type 0 where
+  pub sized : AllSized P w (callsOf xs)
+  pub kept : AllKept P true trip w (callsOf xs)
+  pub replies : repliesFrom w (callsOf xs) ≡ answersOf xs
+  pub refusals : each (onward P) (λ w m. table P (w .state) (m .call) (m .lent)) w (callsOf xs) ≡ refusalsOf xs
+  pub file : lastOf [] (each (onward P) (λ w m. came P w m .lent .file) w (callsOf xs)) ≡ tripFile

@@ -1,117 +1,74 @@
 -- What a run's list of calls gave, and a verifier's list that brings it: document 01, "Its answered calls bring the trip's items first
 -- to last, the run's total, and the run's messages in order or its proof file."
-use Prim.Native.Nat.{ℕ, _+_, _*_}
+use Prim.Native.Nat.{ℕ, _*_}
 use mathlib.Core.Path.{_≡_}
 use mathlib.Core.Bool.{true}
-use mathlib.Core.List.{List, [], _∷_}
-use mathlib.Core.Logic.{_⊎_}
-use mathlib.Core.Option.{Option, none, some}
+use mathlib.Core.List.{List}
 use lib.ListN.{length, take}
+use Rattle.refusal.specs.Outcome.{answered}
 use Rattle.vector.specs.Vector.{at}
-use Rattle.prover.specs.declared.Run.{Run}
-use Rattle.prover.specs.declared.Pass.{Pass}
-use Rattle.prover.specs.declared.Answer.the-variants as answer
-use Rattle.verifier.specs.declared.Verifier.{Verifier}
-use Rattle.runs.specs.Trip.{reading, numbers, Trip, itemOf}
-use Rattle.calls.specs.declared.Call.{Call}
-use Rattle.calls.specs.declared.Call.the-variants as call
+use Rattle.vector.specs.Opening.{opening}
+use Rattle.prover.specs.Reply as reply
+use Rattle.verifier.specs.Reply as verifier
+use Rattle.verifier.specs.Records.{yes, holds}
+use Rattle.runs.specs.Trip.{Trip, itemOf, vectorF, vectorG}
 use Rattle.calls.specs.declared.query.Query.{Query}
 use Rattle.calls.specs.declared.query.Query.the-variants as query
-use Rattle.calls.specs.declared.query.Told.{Told}
-use Rattle.calls.specs.declared.query.Told.the-variants as told
-use Rattle.calls.specs.declared.query.Heard.{Heard}
-use Rattle.calls.specs.Step.{Result, isAnswered, step}
-use Rattle.calls.specs.State.{State, follow}
-use Rattle.calls.specs.Table.{Refusal}
-use Rattle.calls.specs.Meaning.{Question, total, roundMessage, openingAt, proof, question, Reply, says}
-use Rattle.calls.specs.Statement.{Made}
-use Rattle.calls.specs.QueryStep.{Shown, ask, isTold}
-use Rattle.calls.specs.QueryState.{VerifierState, followHeard, verifierTable}
-use Rattle.calls.specs.QueryStatement.{Asked}
+use Rattle.calls.specs.Lists.{somewhere}
+use Rattle.calls.specs.Step.{Result, isAnswered}
+use Rattle.calls.specs.World.{Made, World, came, onward}
+use Rattle.calls.specs.Meaning.{Question, total, roundMessage, openingAt, proof, question, Answer, says}
+use Rattle.calls.specs.Table.{fileSize}
+use Rattle.calls.specs.QueryStep.{Shown, Said, replies, finds, opens}
+use Rattle.calls.specs.QueryState.{VerifierState, Posed, Hearing, heard}
 
-abbrev pub replyOf : Result → Reply
+abbrev pub replyOf : Result → Answer
 replyOf o = record { answer = o .answer; values = o .values }
 
--- an answered challenge is the one that the verifier has for the round
-abbrev pub TakesFrom : List ℕ → State → Call → Type 0
-TakesFrom cs a call.OpenPass = Unit {0}
-TakesFrom cs a (call.OpenAt b) = Unit {0}
-TakesFrom cs a call.ToFull = Unit {0}
-TakesFrom cs a call.ToSmall = Unit {0}
-TakesFrom cs a (call.Item r w) = Unit {0}
-TakesFrom cs a (call.FieldItem x y) = Unit {0}
-TakesFrom cs a call.Close = Unit {0}
-TakesFrom cs a call.Message = Unit {0}
-TakesFrom cs a (call.Challenge c) = c ≡ at cs (length (a .challenges))
-TakesFrom cs a call.Ends = Unit {0}
-TakesFrom cs a (call.Opening b) = Unit {0}
-TakesFrom cs a call.WriteProof = Unit {0}
-
 module _ (p : ℕ) where
-  abbrev came : Run → Pass → Made → Result
-  came r s m = step p r s (m .call) (m .lent)
+  -- an answered call was asked q
+  abbrev pub Answered : Question → World → Made → Type 0
+  Answered q w m = (isAnswered (came p w m .answer) ≡ true) × (question (w .state) (m .call) ≡ q)
 
-  unfoldable pub AllTake : List ℕ → State → Run → Pass → List Made → Type 0
-  AllTake cs a r s [] = Unit {0}
-  AllTake cs a r s (m ∷ ms) =
-      (isAnswered (came r s m .answer) ≡ true → TakesFrom cs a (m .call))
-      × AllTake cs (follow a (m .call) (came r s m)) (came r s m .run) (came r s m .pass) ms
+  -- one of the list was, and replied x
+  abbrev pub Gave : World → List Made → Question → Answer → Type 0
+  Gave w ms q x = somewhere (onward p) (λ w m. Answered q w m × (replyOf (came p w m) ≡ x)) w ms
 
-  -- somewhere in the list an answered call was asked q and replied x
-  unfoldable pub Gave : State → Run → Pass → List Made → Question → Reply → Type 0
-  Gave a r s [] q x = ⊥
-  Gave a r s (m ∷ ms) q x =
-      ((isAnswered (came r s m .answer) ≡ true) × (question a (m .call) ≡ q) × (replyOf (came r s m) ≡ x))
-      ⊎ Gave (follow a (m .call) (came r s m)) (came r s m .run) (came r s m .pass) ms q x
+  -- one wrote a proof, and these are its bytes
+  abbrev pub Wrote : World → List Made → List ℕ → Type 0
+  Wrote w ms file =
+      somewhere (onward p) (λ w m. Answered proof w m × (take (fileSize (w .state .start .rounds)) (came p w m .lent .file) ≡ file)) w ms
 
-  -- somewhere in the list a proof was written, and these are its bytes
-  unfoldable pub Wrote : State → Run → Pass → List Made → List ℕ → Type 0
-  Wrote a r s [] file = ⊥
-  Wrote a r s (m ∷ ms) file =
-      ((isAnswered (came r s m .answer) ≡ true) × (question a (m .call) ≡ proof)
-      × (take (18 + 12 * a .start .rounds) (came r s m .lent .file) ≡ file))
-      ⊎ Wrote (follow a (m .call) (came r s m)) (came r s m .run) (came r s m .pass) ms file
-
-  -- A VERIFIER'S LIST beside a run's, from a state and its records
-  module _ (T : Trip) (a : State) (r : Run) (s : Pass) (ms : List Made) where
+  -- A VERIFIER'S CALL beside a run's list
+  module _ (T : Trip) (w : World) (ms : List Made) where
     abbrev pub BringsRun : VerifierState → Query → Shown → Type 0
-    BringsRun b (query.Item z w) l = reading z w ≡ itemOf T (length (b .items))
-    BringsRun b (query.FieldItem x y) l = numbers x y ≡ itemOf T (length (b .items))
-    BringsRun b (query.Close t) l = Gave a r s ms total (says (answer.Total t))
-    BringsRun b (query.CloseClaim c) l = Gave a r s ms total (says (answer.FieldTotal c))
-    BringsRun b (query.Message even cross odd) l = Gave a r s ms (roundMessage (b .round)) (says (answer.Message even cross odd))
+    BringsRun b (query.Give x) l = x ≡ itemOf T (length (b .items))
+    BringsRun b (query.Close t) l = Gave w ms total (says (reply.total t))
+    BringsRun b (query.CloseClaim c) l = Gave w ms total (says (reply.fieldTotal c))
+    BringsRun b (query.Message even cross odd) l = Gave w ms (roundMessage (b .round)) (says (reply.message even cross odd))
     BringsRun b query.Verdict l = Unit {0}
-    BringsRun b query.Proof l = Wrote a r s ms (l .file)
+    BringsRun b query.Proof l = Wrote w ms (l .file)
     BringsRun b (query.CheckOpening x) l = Unit {0}
 
-    -- every message passes, every verdict is yes; "every opening check .. is yes if point and values are an opening that the run gave"
-    abbrev pub SaysRun : VerifierState → Query → Shown → Told → Type 0
-    SaysRun b (query.Item z w) l t = t ≡ told.Taken
-    SaysRun b (query.FieldItem x y) l t = t ≡ told.Taken
-    SaysRun b (query.Close z) l t = t ≡ told.Closed
-    SaysRun b (query.CloseClaim c) l t = t ≡ told.Closed
-    SaysRun b (query.Message even cross odd) l t = t ≡ told.Passed
-    SaysRun b query.Verdict l t = t ≡ told.Yes
-    SaysRun b query.Proof l t = t ≡ told.Yes
-    SaysRun b (query.CheckOpening x) l t =
-        (values : List ℕ) → Gave a r s ms (openingAt x) (record { answer = answer.Opening; values = values })
-        → l .values ≡ take (6 * b .start .rounds) values → t ≡ told.Yes
+    -- "every opening check .. is yes if point and values are an opening that the run gave": answered, and yes
+    abbrev pub OpeningsChecked : Hearing → Type 0
+    OpeningsChecked h =
+        (b : ℕ) (values : List ℕ) → Gave w ms (openingAt b) (record { answer = answered reply.opening; values = values }) → (file : List ℕ)
+        → heard p h (record { query = query.CheckOpening b; shown = record { file = file; values = take (6 * T .start .rounds) values } }) .told
+        ≡ answered (opens holds)
 
-    abbrev heardBy : Verifier → Asked → Heard
-    heardBy v m = ask p v (m .query) (m .shown)
+-- WHAT A VERIFIER THAT AGREES SAYS: an item taken, the pass closed, a message passed; a verdict, a file and an opening: yes
+abbrev pub agreed : Query → Said
+agreed (query.Give x) = replies verifier.taken
+agreed (query.Close z) = replies verifier.closed
+agreed (query.CloseClaim c) = replies verifier.closed
+agreed (query.Message even cross odd) = replies verifier.passed
+agreed query.Verdict = finds yes
+agreed query.Proof = finds yes
+agreed (query.CheckOpening b) = opens holds
 
-    unfoldable pub AllBringRun : VerifierState → Verifier → List Asked → Type 0
-    AllBringRun b v [] = Unit {0}
-    AllBringRun b v (m ∷ qs) =
-        (isTold (heardBy v m .told) ≡ true → BringsRun b (m .query) (m .shown))
-        × AllBringRun (followHeard b (m .query) (heardBy v m)) (heardBy v m .verifier) qs
-
-    abbrev pub SaysRunWhere : VerifierState → Asked → Option Refusal → Told → Type 0
-    SaysRunWhere b m none t = SaysRun b (m .query) (m .shown) t
-    SaysRunWhere b m (some k) t = Unit {0}
-
-    unfoldable pub AllSayRun : VerifierState → Verifier → List Asked → Type 0
-    AllSayRun b v [] = Unit {0}
-    AllSayRun b v (m ∷ qs) =
-        SaysRunWhere b m (verifierTable p b (m .query) (m .shown)) (heardBy v m .told)
-        × AllSayRun (followHeard b (m .query) (heardBy v m)) (heardBy v m .verifier) qs
+-- what is checked is an opening of the trip at the point
+abbrev pub OpensTrip : ℕ → Trip → VerifierState → Posed → Type 0
+OpensTrip p T b q =
+    (x : ℕ) → q .query ≡ query.CheckOpening x
+    → q .shown .values ≡ opening p (T .start .rounds) (at (b .challenges)) (vectorF p T) (vectorG p T) x

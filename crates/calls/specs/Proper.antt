@@ -2,36 +2,36 @@
 -- and the host that makes them. A prover that refuses trips cannot answer such a list throughout.
 use Prim.Native.Nat.{ℕ, zero, suc, _^_, _<_, _≤_}
 use mathlib.Core.Path.{_≡_}
-use mathlib.Core.Bool.{Bool, true, false, cond}
+use mathlib.Core.Bool.{Bool, true, false, cond, _&&_}
 use mathlib.Core.List.{List, [], _∷_, _++_}
 use lib.Dec.{eqb, leb, ltb}
 use lib.IntN.{natAbs}
 use lib.ListN.{length}
-use Rattle.refusal.specs.Limit.{maxItems, maxWeight}
+use Rattle.refusal.specs.Limit.{maxWeight}
 use Rattle.field.specs.Total.{inLimits}
-use Rattle.vector.specs.Rounds.{roundsOf}
 use Rattle.vector.specs.Vector.{at}
 use Rattle.vector.specs.Slice.{overwrite, isNonzero}
-use Rattle.prover.specs.declared.Run.{Run}
-use Rattle.prover.specs.declared.Pass.{Pass}
-use Rattle.prover.specs.Start.{zeroPass}
-use Rattle.runs.specs.Trip.{Raw, reading, numbers, Trip, itemOf, vectorF, vectorG, totalOf}
+use Rattle.prover.specs.declared.Next.the-variants as next
+use Rattle.item.specs.declared.Given.{Given}
+use Rattle.item.specs.declared.Given.the-variants.{Reading, Numbers}
+use Rattle.runs.specs.Trip.{Trip, itemOf, vectorF, vectorG, totalOf}
 use Rattle.calls.specs.declared.Call.{Call}
 use Rattle.calls.specs.declared.Call.the-variants as call
-use Rattle.calls.specs.Step.{Lent, Result, isAnswered, step}
-use Rattle.calls.specs.Statement.{Made, startRun}
+use Rattle.calls.specs.Lists.{each}
+use Rattle.calls.specs.Step.{Lent}
+use Rattle.calls.specs.State.{isFull, State}
+use Rattle.calls.specs.Table.{waits}
+use Rattle.calls.specs.World.{Made, World, freshWorld, came, onward}
+use Rattle.calls.specs.Starts.{Whole}
 
 -- "An item of a plain run is a reading and a weight, of a twisted run two field numbers", within their limits
-abbrev pub ItemFits : ℕ → Bool → Raw → Type 0
-ItemFits p plain (reading r w) = (plain ≡ true) × (natAbs r ≤ 32768) × (w ≤ maxWeight)
-ItemFits p plain (numbers a b) = (plain ≡ false) × (a < p) × (b < p)
+abbrev pub ItemFits : ℕ → Bool → Given → Type 0
+ItemFits p plain (Reading r w) = (plain ≡ true) × (natAbs r ≤ 32768) × (w ≤ maxWeight)
+ItemFits p plain (Numbers a b) = (plain ≡ false) × (a < p) × (b < p)
 
 -- a trip that a run takes whole
 pub record Valid (p : ℕ) (T : Trip) : Type 0 where
-  pub some : 1 ≤ T .start .items
-  pub most : T .start .items ≤ maxItems
-  pub rounds : T .start .rounds ≡ roundsOf (T .start .items)
-  pub whole : length (T .items) ≡ T .start .items
+  pub whole : Whole T
   pub items : (i : ℕ) → i < T .start .items → ItemFits p (T .start .plain) (itemOf T i)
   pub total : T .start .plain ≡ true → inLimits p (totalOf T) ≡ true
 
@@ -39,16 +39,12 @@ pub record Valid (p : ℕ) (T : Trip) : Type 0 where
 abbrev pub AllNonzero : ℕ → List ℕ → Type 0
 AllNonzero p xs = (j : ℕ) → j < length xs → isNonzero p (at xs j) ≡ true
 
-abbrev pub handsIn : Raw → Call
-handsIn (reading r w) = call.Item r w
-handsIn (numbers a b) = call.FieldItem a b
-
 -- THE CALLS OF A RUN
 module _ (T : Trip) where
   -- "the L pairs from index L-1 down"
   unfoldable pub itemsBelow : ℕ → List Call
   itemsBelow zero = []
-  itemsBelow (suc i) = handsIn (itemOf T i) ∷ itemsBelow i
+  itemsBelow (suc i) = call.Give (itemOf T i) ∷ itemsBelow i
 
   -- opened, given the trip's items, closed
   abbrev pub wholePass : Call → List Call
@@ -85,9 +81,15 @@ module _ (T : Trip) where
     abbrev pub wholeRun : List ℕ → List ℕ → List Call
     wholeRun cs bs = wholePass call.OpenPass ++ roundsFrom 0 cs ++ endCalls ++ openingCalls bs
 
--- THE HOST lends each call what the last one left; "the openings are worked from fold 0, which the host lends again"
+-- THE HOST, and the buffers and file in its hands
+pub record Host : Type 0 where
+  pub world : World
+  pub lent : Lent
+
+-- it lends each call what the last one left, but after the ends, in full mode: "the openings are worked from fold 0, which the host lends
+-- again"
 module _ (p : ℕ) (T : Trip) where
-  abbrev foldZero : Lent → Lent
+  abbrev pub foldZero : Lent → Lent
   foldZero l =
       record {
         f = overwrite (vectorF p T) (2 ^ T .start .rounds) (l .f);
@@ -95,27 +97,14 @@ module _ (p : ℕ) (T : Trip) where
         file = l .file;
       }
 
-  abbrev pub lends : Call → Lent → Lent
-  lends call.OpenPass l = l
-  lends (call.OpenAt b) l = l
-  lends call.ToFull l = l
-  lends call.ToSmall l = l
-  lends (call.Item r w) l = l
-  lends (call.FieldItem x y) l = l
-  lends call.Close l = l
-  lends call.Message l = l
-  lends (call.Challenge c) l = l
-  lends call.Ends l = l
-  lends (call.Opening b) l = foldZero l
-  lends call.WriteProof l = l
+  abbrev pub lends : State → Lent → Lent
+  lends a l = cond (isFull (a .turn .mode) && waits next.Openings (a .turn .next)) (foldZero l) l
 
-  -- the calls with what they are lent, from these records and buffers on
-  unfoldable pub hosted : Run → Pass → Lent → List Call → List Made
-  hosted r s l [] = []
-  hosted r s l (c ∷ cs) =
-      let m : Lent = lends c l in
-      let o : Result = step p r s c m in
-      record { call = c; lent = m } ∷ hosted (o .run) (o .pass) (o .lent) cs
+  abbrev pub makes : Host → Call → Made
+  makes h c = record { call = c; lent = lends (h .world .state) (h .lent) }
+
+  abbrev pub hostOn : Host → Call → Host
+  hostOn h c = record { world = onward p (h .world) (makes h c); lent = came p (h .world) (makes h c) .lent }
 
 -- what the host brings: n challenges and any number of points, and, where the run changes to full mode, two buffers that hold anything
 -- and have room for N numbers
@@ -125,12 +114,6 @@ pub record Brings (p : ℕ) (T : Trip) (k : ℕ) (cs bs : List ℕ) (l : Lent) :
   pub points : AllNonzero p bs
   pub room : k ≤ suc (T .start .rounds) → (2 ^ T .start .rounds ≤ length (l .f)) × (2 ^ T .start .rounds ≤ length (l .g))
 
--- a whole run from a fresh one on
+-- a whole run from a fresh one on: the calls with what they are lent
 abbrev pub properRun : ℕ → Trip → ℕ → List ℕ → List ℕ → Lent → List Made
-properRun p T k cs bs l = hosted p T (startRun (T .start)) zeroPass l (wholeRun T k cs bs)
-
--- every call of the list is answered
-unfoldable pub AllAnswered : ℕ → Run → Pass → List Made → Type 0
-AllAnswered p r s [] = Unit {0}
-AllAnswered p r s (m ∷ ms) =
-    let o : Result = step p r s (m .call) (m .lent) in (isAnswered (o .answer) ≡ true) × AllAnswered p (o .run) (o .pass) ms
+properRun p T k cs bs l = each (hostOn p T) (makes p T) (record { world = freshWorld (T .start) (l .f) (l .g); lent = l }) (wholeRun T k cs bs)

@@ -15,44 +15,42 @@ use Rattle.vector.specs.Rounds.{powers, firstFrom}
 use Rattle.vector.specs.Vector.{weight}
 use Rattle.vector.specs.Opening.{opens}
 use Rattle.vector.specs.Slice.{overwrite, fifteen, every}
-use Rattle.vector.specs.Item.{plainParts}
-use Rattle.verifier.specs.declared.Verifier.{Verifier}
-use Rattle.verifier.specs.WellFormed.{inCount, turnFits, wellFormed}
+use Rattle.verifier.specs.WellFormed.{turnOf, wellFormed}
 use Rattle.verifier.specs.Starts.{freshVerifier}
+use Rattle.verifier.specs.Reply as reply
+use Rattle.verifier.specs.Records.{yes, holds}
 use Rattle.verifier.specs.Sums.{entering, oneMore}
 use Rattle.verifier.specs.Claims.{closedWith, passedWith, failedNow, hears, finds}
 use Rattle.verifier.specs.Openings.{firstFault, openingFinds}
-use Rattle.verifier.specs.Calls.{passOpen, item, close, messageTurn, allReduced3, message, verdictTurn, verdict, hasRounds, checkOpening}
+use Rattle.verifier.specs.Calls.{passOpen, give, close, messageTurn, allReduced3, message, verdictTurn, verdict, hasRounds, checkOpening}
 use Rattle.verifier.specs.ProofFile.{hearsNext, hearsFirst, endsAgree, compares, afterFile, proof}
-use Rattle.runs.specs.Trip.{Start}
-use Rattle.calls.specs.declared.query.Query.{Query}
+use Rattle.item.specs.declared.Start.{Start}
+use Rattle.item.specs.declared.Given.the-variants.{Reading}
+use Rattle.item.specs.Item.{partsOf}
 use Rattle.calls.specs.declared.query.Query.the-variants as query
-use Rattle.calls.specs.declared.query.Told.{Told}
-use Rattle.calls.specs.declared.query.Told.the-variants as told
-use Rattle.calls.specs.QueryStep.{ask}
-use Rattle.calls.specs.QueryStatement.{Asked, startVerifier}
+use Rattle.refusal.specs.Outcome.{Outcome, answered, refused}
+use Rattle.calls.specs.QueryStep.{Said, ask}
+use Rattle.calls.specs.QueryStep as said
+use Rattle.calls.specs.Lists.{each}
+use Rattle.calls.specs.QueryState.{Posed, plainly, Hearing, freshHearing, heard, hearsOn}
 
 abbrev P : ℕ
 P = 2147483647
 
 -- what each call of a list is told
-unfoldable pub toldAll : Verifier → List Asked → List Told
-toldAll v [] = []
-toldAll v (m ∷ ms) = ask P v (m .query) (m .shown) .told ∷ toldAll (ask P v (m .query) (m .shown) .verifier) ms
+abbrev pub toldAll : Hearing → List Posed → List (Outcome Said)
+toldAll = each (hearsOn P) (λ h q. heard P h q .told)
 
 abbrev start : Start
 start = record { items = 3; rounds = 2; plain = true; twists = replicate 15 0 }
 
-abbrev plainly : Query → Asked
-plainly q = record { query = q; shown = record { file = []; values = [] } }
-
 abbrev file : List ℕ
 file = proofFile 2 (negsuc 5099) (2147482047 ∷ 2147478297 ∷ 2147480147 ∷ 2147457147 ∷ 2147482997 ∷ 200 ∷ 2147483237 ∷ 65 ∷ [])
 
-abbrev withFile : Asked
+abbrev withFile : Posed
 withFile = record { query = query.Proof; shown = record { file = file; values = [] } }
 
-abbrev opening : Asked
+abbrev opening : Posed
 opening =
     record {
       query = query.CheckOpening 2;
@@ -63,16 +61,16 @@ opening =
           };
     }
 
-abbrev items : List Asked → List Asked
-items rest = plainly (query.Item (negsuc 179) 10) ∷ plainly (query.Item (negsuc 174) 20) ∷ plainly (query.Item (pos 40) 5) ∷ rest
+abbrev items : List Posed → List Posed
+items rest = plainly (query.Give (Reading (negsuc 179) 10)) ∷ plainly (query.Give (Reading (negsuc 174) 20)) ∷ plainly (query.Give (Reading (pos 40) 5)) ∷ rest
 
 -- call by call, with a message too early, an item too late and an opening between
 pub trip-told :
-    toldAll (startVerifier start (2 ∷ 3 ∷ []))
+    toldAll (freshHearing start (2 ∷ 3 ∷ []))
     (plainly (query.Message 2147482047 2147478297 2147480147)
     ∷ items
     (plainly (query.Close (negsuc 5099))
-    ∷ plainly (query.Item (pos 40) 5)
+    ∷ plainly (query.Give (Reading (pos 40) 5))
     ∷ plainly (query.Message 2147482047 2147478297 2147480147)
     ∷ opening
     ∷ plainly query.Verdict
@@ -81,26 +79,32 @@ pub trip-told :
     ∷ opening
     ∷ plainly query.Verdict
     ∷ []))
-    ≡ told.Refused 12
-    ∷ told.Taken
-    ∷ told.Taken
-    ∷ told.Taken
-    ∷ told.Closed
-    ∷ told.Refused 10
-    ∷ told.Passed
-    ∷ told.Yes
-    ∷ told.Refused 12
-    ∷ told.Passed
-    ∷ told.Yes
-    ∷ told.Yes
-    ∷ told.Yes
+    ≡ refused 12
+    ∷ answered (said.replies reply.taken)
+    ∷ answered (said.replies reply.taken)
+    ∷ answered (said.replies reply.taken)
+    ∷ answered (said.replies reply.closed)
+    ∷ refused 10
+    ∷ answered (said.replies reply.passed)
+    ∷ answered (said.opens holds)
+    ∷ refused 12
+    ∷ answered (said.replies reply.passed)
+    ∷ answered (said.finds yes)
+    ∷ answered (said.opens holds)
+    ∷ answered (said.finds yes)
     ∷ []
-unfolding toldAll ask item passOpen wellFormed inCount turnFits plainParts oneMore entering freshVerifier fifteen overwrite powers firstFrom weight image residue addMod negMod mulMod close closedWith inLimits message messageTurn allReduced3 hears passedWith failedNow verdict verdictTurn finds checkOpening hasRounds every openingFinds firstFault opens divMod inverseMod inverseIn halfMod halfOne subMod
+unfolding each ask give passOpen wellFormed turnOf partsOf oneMore entering freshVerifier fifteen overwrite powers firstFrom weight image residue addMod negMod mulMod close closedWith inLimits message messageTurn allReduced3 hears passedWith failedNow verdict verdictTurn finds checkOpening hasRounds every openingFinds firstFault opens divMod inverseMod inverseIn halfMod halfOne subMod
 trip-told = refl
 
 -- with the proof file, given once
 pub trip-file-told :
-    toldAll (startVerifier start (2 ∷ 3 ∷ [])) (items (withFile ∷ plainly query.Verdict ∷ withFile ∷ []))
-    ≡ told.Taken ∷ told.Taken ∷ told.Taken ∷ told.Yes ∷ told.Yes ∷ told.Refused 10 ∷ []
-unfolding toldAll ask item passOpen wellFormed inCount turnFits plainParts oneMore entering freshVerifier fifteen overwrite powers firstFrom weight image residue addMod negMod mulMod closedWith inLimits hears passedWith failedNow verdict verdictTurn finds proof readProofOf readProof marked allBelow numAt num bytes signed bits proofHeader numbers hearsNext hearsFirst endsAgree compares afterFile
+    toldAll (freshHearing start (2 ∷ 3 ∷ [])) (items (withFile ∷ plainly query.Verdict ∷ withFile ∷ []))
+    ≡ answered (said.replies reply.taken)
+    ∷ answered (said.replies reply.taken)
+    ∷ answered (said.replies reply.taken)
+    ∷ answered (said.finds yes)
+    ∷ answered (said.finds yes)
+    ∷ refused 10
+    ∷ []
+unfolding each ask give passOpen wellFormed turnOf partsOf oneMore entering freshVerifier fifteen overwrite powers firstFrom weight image residue addMod negMod mulMod closedWith inLimits hears passedWith failedNow verdict verdictTurn finds proof readProofOf readProof marked allBelow numAt num bytes signed bits proofHeader numbers hearsNext hearsFirst endsAgree compares afterFile
 trip-file-told = refl

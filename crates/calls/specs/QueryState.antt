@@ -1,35 +1,34 @@
--- What follows of a verifier from its start and the answered calls alone, the table over it, and what is asked of the caller.
-use Prim.Native.Nat.{ℕ, suc, _+_, _*_, _^_}
+-- What follows of a verifier from its start and the answered calls alone, the table over it, and its list of calls.
+use Prim.Native.Nat.{ℕ, suc, _+_, _*_}
 use mathlib.Core.Path.{_≡_}
-use mathlib.Core.Bool.{Bool, true, false, cond, not, _&&_, _||_}
+use mathlib.Core.Bool.{Bool, true, false, not, _&&_, _||_}
 use mathlib.Core.List.{List, [], _∷_}
-use mathlib.Core.Option.{Option, none}
-use lib.Dec.{eqb, leb, ltb}
+use mathlib.Core.Option.{Option, none, some}
+use lib.Dec.{eqb, ltb}
 use lib.ListN.{length}
-use Rattle.refusal.specs.Limit.{maxWeight}
+use Rattle.refusal.specs.Outcome.{Outcome, answered, refused, refusedAt}
 use Rattle.field.specs.Total.{inLimits}
 use Rattle.wire.specs.Header.{marked, versionOf}
 use Rattle.wire.specs.Proof.{proofRounds, proofTotal, proofNumber, allBelow}
-use Rattle.vector.specs.Vector.{at, dot}
-use Rattle.vector.specs.Message.{Message}
-use Rattle.vector.specs.Opening.{opening}
 use Rattle.vector.specs.Slice.{isNonzero, allReduced}
-use Rattle.runs.specs.Trip.{Raw, reading, numbers, Start, Trip, itemOf, vectorF, vectorG, totalOf}
+use Rattle.verifier.specs.declared.Verifier.{Verifier}
+use Rattle.verifier.specs.Reply as reply
+use Rattle.verifier.specs.Records.{yes, no}
+use Rattle.verifier.specs.Starts.{verifierOf}
+use Rattle.item.specs.declared.Start.{Start}
+use Rattle.item.specs.declared.Given.{Given}
 use Rattle.calls.specs.declared.query.Query.{Query}
 use Rattle.calls.specs.declared.query.Query.the-variants as query
-use Rattle.calls.specs.declared.query.Told.{Told}
-use Rattle.calls.specs.declared.query.Told.the-variants as told
-use Rattle.calls.specs.declared.query.Heard.{Heard}
-use Rattle.calls.specs.QueryStep.{Shown, isTold}
-use Rattle.calls.specs.Table.{Refusal, row, rowAt}
-use Rattle.calls.specs.Meaning.{messageAt, proofOfTrip}
+use Rattle.calls.specs.Step.{isAnswered}
+use Rattle.calls.specs.QueryStep.{Shown, Said, replies, finds, opens, Spoken, ask}
+use Rattle.calls.specs.Table.{Refusal, refusedWith, row, givenRows, fileSize}
 
 pub record VerifierState : Type 0 where
   pub start : Start
   -- "challenges known beforehand", n of them
   pub challenges : List ℕ
   -- the items answered, the newest first
-  pub items : List Raw
+  pub items : List Given
   pub closed : Bool
   -- how many messages passed; after a no, its round
   pub round : ℕ
@@ -39,7 +38,7 @@ pub record VerifierState : Type 0 where
 abbrev pub freshVerifierState : Start → List ℕ → VerifierState
 freshVerifierState s cs = record { start = s; challenges = cs; items = []; closed = false; round = 0; refuted = false }
 
-abbrev pub takesItem : VerifierState → Raw → VerifierState
+abbrev pub takesItem : VerifierState → Given → VerifierState
 takesItem a x =
     record { start = a .start; challenges = a .challenges; items = x ∷ a .items; closed = a .closed; round = a .round; refuted = a .refuted }
 
@@ -47,21 +46,19 @@ abbrev pub atRound : VerifierState → ℕ → Bool → VerifierState
 atRound a i over = record { start = a .start; challenges = a .challenges; items = a .items; closed = true; round = i; refuted = over }
 
 -- a message that passed, or a no with its round; a yes to a file heard every message
-abbrev pub hearing : VerifierState → Told → VerifierState
-hearing a told.Taken = a
-hearing a told.Closed = atRound a (a .round) (a .refuted)
-hearing a told.Passed = atRound a (suc (a .round)) false
-hearing a told.Yes = atRound a (a .start .rounds) false
-hearing a (told.No k) = atRound a k true
-hearing a (told.NoF j) = a
-hearing a (told.NoG j) = a
-hearing a (told.Refused k) = a
-hearing a (told.RefusedAt k i) = a
+abbrev pub hearing : VerifierState → Said → VerifierState
+hearing a (replies reply.started) = a
+hearing a (replies reply.taken) = a
+hearing a (replies reply.closed) = atRound a (a .round) (a .refuted)
+hearing a (replies reply.passed) = atRound a (suc (a .round)) false
+hearing a (replies (reply.no k)) = atRound a k true
+hearing a (finds yes) = atRound a (a .start .rounds) false
+hearing a (finds (no k)) = atRound a k true
+hearing a (opens x) = a
 
 -- the state after an answered call
-abbrev pub hears : VerifierState → Query → Told → VerifierState
-hears a (query.Item z w) t = takesItem a (reading z w)
-hears a (query.FieldItem x y) t = takesItem a (numbers x y)
+abbrev pub hears : VerifierState → Query → Said → VerifierState
+hears a (query.Give x) t = takesItem a x
 hears a (query.Close z) t = hearing a t
 hears a (query.CloseClaim c) t = hearing a t
 hears a (query.Message even cross odd) t = hearing a t
@@ -69,19 +66,21 @@ hears a query.Verdict t = hearing a t
 hears a query.Proof t = hearing a t
 hears a (query.CheckOpening b) t = a
 
-abbrev pub followHeard : VerifierState → Query → Heard → VerifierState
-followHeard a c o = cond (isTold (o .told)) (hears a c (o .told)) a
+abbrev pub followHeard : VerifierState → Query → Outcome Said → VerifierState
+followHeard a c (answered x) = hears a c x
+followHeard a c (refused k) = a
+followHeard a c (refusedAt k i) = a
 
 -- THE TABLE
--- "item or close with no pass open", here after the close; 8; the other kind of run
-abbrev pub passRows : VerifierState → Bool → Bool → Option Refusal → Option Refusal
-passRows a count kind rest = row (not (a .closed)) 10 (row count 8 (row kind 10 rest))
-
 abbrev pub isWanted : VerifierState → Bool
 isWanted a = ltb (length (a .items)) (a .start .items)
 
 abbrev pub isWhole : VerifierState → Bool
 isWhole a = eqb (length (a .items)) (a .start .items)
+
+-- "item or close with no pass open", here after the close; 8; the other kind of run
+abbrev pub closeRows : VerifierState → Bool → Option Refusal → Option Refusal
+closeRows a kind rest = row (not (a .closed)) 10 (row (isWhole a) 8 (row kind 10 rest))
 
 -- the rows of the proof file, for the verifier's n
 abbrev pub fileRows : ℕ → ℕ → List ℕ → Option Refusal
@@ -89,46 +88,52 @@ fileRows p n file =
     row (marked 80 10 file) 1
     (row (eqb (versionOf file) 1) 2
     (row (eqb (proofRounds file) n) 3
-    (row (eqb (length file) (18 + 12 * n)) 4
+    (row (eqb (length file) (fileSize n)) 4
     (row (inLimits p (proofTotal file)) 7 (row (allBelow p (proofNumber file) (3 * n + 2)) 11 none)))))
 
 unfoldable pub verifierTable : ℕ → VerifierState → Query → Shown → Option Refusal
-verifierTable p a (query.Item z w) l = passRows a (isWanted a) (a .start .plain) (rowAt (leb w maxWeight) 5 (length (a .items)) none)
-verifierTable p a (query.FieldItem x y) l = passRows a (isWanted a) (not (a .start .plain)) (row (ltb x p && ltb y p) 16 none)
-verifierTable p a (query.Close t) l = passRows a (isWhole a) (a .start .plain) (row (inLimits p t) 7 none)
-verifierTable p a (query.CloseClaim c) l = passRows a (isWhole a) (not (a .start .plain)) (row (ltb c p) 11 none)
+verifierTable p a (query.Give x) l = row (not (a .closed)) 10 (row (isWanted a) 8 (givenRows p (a .start) (length (a .items)) x none))
+verifierTable p a (query.Close t) l = closeRows a (a .start .plain) (row (inLimits p t) 7 none)
+verifierTable p a (query.CloseClaim c) l = closeRows a (not (a .start .plain)) (row (ltb c p) 11 none)
 -- "message or verdict before its pass is closed; message after the last or after a no; verdict before the last message without a no"
 verifierTable p a (query.Message even cross odd) l =
     row (a .closed && (not (a .refuted) && ltb (a .round) (a .start .rounds))) 12
     (row (ltb even p && (ltb cross p && ltb odd p)) 11 none)
 verifierTable p a query.Verdict l = row (a .closed && (a .refuted || eqb (a .round) (a .start .rounds))) 12 none
-verifierTable p a query.Proof l = passRows a (isWhole a) (a .start .plain) (fileRows p (a .start .rounds) (l .file))
+verifierTable p a query.Proof l = closeRows a (a .start .plain) (fileRows p (a .start .rounds) (l .file))
 verifierTable p a (query.CheckOpening b) l =
     row (ltb 0 (a .start .rounds)) 10
     (row (isNonzero p b) 6
     (row (eqb (length (l .values)) (6 * a .start .rounds)) 6
     (row (allReduced p (length (l .values)) (l .values)) 11 none)))
 
--- WHAT IS ASKED of an answered call: "the trip's items first to last, the run's total, and the run's messages in order or its proof file"
-abbrev pub Brings : ℕ → Trip → VerifierState → Query → Shown → Type 0
-Brings p T a (query.Item z w) l = reading z w ≡ itemOf T (length (a .items))
-Brings p T a (query.FieldItem x y) l = numbers x y ≡ itemOf T (length (a .items))
-Brings p T a (query.Close t) l = t ≡ totalOf T
-Brings p T a (query.CloseClaim c) l = c ≡ dot p (2 ^ T .start .rounds) (vectorF p T) (vectorG p T)
-Brings p T a (query.Message even cross odd) l = record { even = even; cross = cross; odd = odd } ≡ messageAt p T (a .challenges) (a .round)
-Brings p T a query.Verdict l = Unit {0}
--- there is a proof file where the run's total is within its limits
-Brings p T a query.Proof l = (l .file ≡ proofOfTrip p T (a .challenges)) × (inLimits p (totalOf T) ≡ true)
-Brings p T a (query.CheckOpening b) l = Unit {0}
+-- A LIST OF CALLS: "each call given the record that the last returned"
+-- a call with what it is lent
+pub record Posed : Type 0 where
+  pub query : Query
+  pub shown : Shown
 
--- WHAT AN ANSWERED CALL SAYS: every message passes, every verdict is yes, and an opening of the trip at the point opens
-abbrev pub Says : ℕ → Trip → VerifierState → Query → Shown → Told → Type 0
-Says p T a (query.Item z w) l t = t ≡ told.Taken
-Says p T a (query.FieldItem x y) l t = t ≡ told.Taken
-Says p T a (query.Close z) l t = t ≡ told.Closed
-Says p T a (query.CloseClaim c) l t = t ≡ told.Closed
-Says p T a (query.Message even cross odd) l t = t ≡ told.Passed
-Says p T a query.Verdict l t = t ≡ told.Yes
-Says p T a query.Proof l t = t ≡ told.Yes
-Says p T a (query.CheckOpening b) l t =
-    l .values ≡ opening p (T .start .rounds) (at (a .challenges)) (vectorF p T) (vectorG p T) b → t ≡ told.Yes
+-- one that is lent nothing
+abbrev pub plainly : Query → Posed
+plainly q = record { query = q; shown = record { file = []; values = [] } }
+
+-- the verifier, and the state that follows from the answered calls
+pub record Hearing : Type 0 where
+  pub state : VerifierState
+  pub verifier : Verifier
+
+-- what an answered start gives
+abbrev pub freshHearing : Start → List ℕ → Hearing
+freshHearing s cs = record { state = freshVerifierState s cs; verifier = verifierOf s cs }
+
+module _ (p : ℕ) where
+  abbrev pub heard : Hearing → Posed → Spoken
+  heard h m = ask p (h .verifier) (m .query) (m .shown)
+
+  abbrev pub hearsOn : Hearing → Posed → Hearing
+  hearsOn h m = record { state = followHeard (h .state) (m .query) (heard h m .told); verifier = heard h m .verifier }
+
+-- refused exactly when, and with the number that, the table says; then nothing changes
+abbrev pub DecidesHeard : Verifier → Option Refusal → Spoken → Type 0
+DecidesHeard v none o = isAnswered (o .told) ≡ true
+DecidesHeard v (some k) o = o ≡ record { verifier = v; told = refusedWith (k .0) (k .1) }

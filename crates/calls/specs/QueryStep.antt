@@ -1,14 +1,12 @@
 -- A call of a verifier as data, and what it hands back: exactly the definitions that the methods' contracts cite.
 use Prim.Native.Nat.{ℕ}
-use mathlib.Core.Bool.{Bool, true, false}
 use mathlib.Core.List.{List}
 use Rattle.refusal.specs.Outcome.{Outcome, answered, refused, refusedAt}
 use Rattle.verifier.specs.declared.Verifier.{Verifier}
-use Rattle.verifier.specs.declared.Step.{Step}
-use Rattle.verifier.specs.declared.Answer.{Answer}
-use Rattle.verifier.specs.declared.Answer.the-variants as answer
-use Rattle.verifier.specs.Records.{leaves, Finding, yes, no, OpeningFinding, holds, failsF, failsG}
-use Rattle.verifier.specs.Calls.{item, fieldItem, close, closeClaim, message, verdict, checkOpening}
+use Rattle.verifier.specs.Reply.{Reply}
+use Rattle.verifier.specs.Reply as reply
+use Rattle.verifier.specs.Records.{Handed, leaves, Finding, yes, no, OpeningFinding, holds, failsF, failsG}
+use Rattle.verifier.specs.Calls.{give, close, closeClaim, message, verdict, checkOpening}
 use Rattle.verifier.specs.ProofFile.{proof, leavesJudged}
 use Rattle.calls.specs.declared.query.Query.{Query}
 use Rattle.calls.specs.declared.query.Query.the-variants as query
@@ -21,50 +19,50 @@ pub record Shown : Type 0 where
   pub file : List ℕ
   pub values : List ℕ
 
--- each answer of the verifier in these terms
-abbrev pub toldOf : Answer → Told
-toldOf answer.Started = told.Closed
-toldOf answer.Taken = told.Taken
-toldOf answer.Closed = told.Closed
-toldOf answer.Passed = told.Passed
-toldOf (answer.No k) = told.No k
-toldOf (answer.Refused k) = told.Refused k
-toldOf (answer.RefusedAt k i) = told.RefusedAt k i
+-- what an answered call says: a reply, the verdict, or the verdict on an opening
+pub data Said : Type 0 where
+  replies : Reply → Said
+  finds : Finding → Said
+  opens : OpeningFinding → Said
 
-abbrev pub toldVerdict : Outcome Finding → Told
-toldVerdict (answered yes) = told.Yes
-toldVerdict (answered (no k)) = told.No k
-toldVerdict (refused k) = told.Refused k
-toldVerdict (refusedAt k i) = told.RefusedAt k i
+abbrev pub toldIn : Told → Outcome Said
+toldIn told.Started = answered (replies reply.started)
+toldIn told.Taken = answered (replies reply.taken)
+toldIn told.Closed = answered (replies reply.closed)
+toldIn told.Passed = answered (replies reply.passed)
+toldIn (told.Failed k) = answered (replies (reply.no k))
+toldIn told.Yes = answered (finds yes)
+toldIn (told.No k) = answered (finds (no k))
+toldIn told.Opens = answered (opens holds)
+toldIn (told.FailsF j) = answered (opens (failsF j))
+toldIn (told.FailsG j) = answered (opens (failsG j))
+toldIn (told.Refused k) = refused k
+toldIn (told.RefusedAt k i) = refusedAt k i
 
-abbrev pub toldOpening : Outcome OpeningFinding → Told
-toldOpening (answered holds) = told.Yes
-toldOpening (answered (failsF j)) = told.NoF j
-toldOpening (answered (failsG j)) = told.NoG j
-toldOpening (refused k) = told.Refused k
-toldOpening (refusedAt k i) = told.RefusedAt k i
+-- the verifier that a call hands back, and what it says or its refusal
+pub record Spoken : Type 0 where
+  pub verifier : Verifier
+  pub told : Outcome Said
 
-abbrev pub heardStep : Step → Heard
-heardStep s = record { verifier = s .verifier; told = toldOf (s .answer) }
+abbrev pub heardIn : Heard → Spoken
+heardIn h = record { verifier = h .verifier; told = toldIn (h .told) }
 
-unfoldable pub ask : ℕ → Verifier → Query → Shown → Heard
-ask p v (query.Item z w) l = heardStep (leaves v (item p v z w))
-ask p v (query.FieldItem x y) l = heardStep (leaves v (fieldItem p v x y))
-ask p v (query.Close t) l = heardStep (leaves v (close p v t))
-ask p v (query.CloseClaim c) l = heardStep (leaves v (closeClaim p v c))
-ask p v (query.Message even cross odd) l = heardStep (leaves v (message p v even cross odd))
-ask p v query.Verdict l = record { verifier = v; told = toldVerdict (verdict p v) }
-ask p v query.Proof l =
-    record { verifier = leavesJudged v (proof p v (l .file)) .0; told = toldVerdict (leavesJudged v (proof p v (l .file)) .1) }
-ask p v (query.CheckOpening b) l = record { verifier = v; told = toldOpening (checkOpening p v b (l .values)) }
+abbrev pub saidAs : {A : Type 0} → (A → Said) → Outcome A → Outcome Said
+saidAs f (answered x) = answered (f x)
+saidAs f (refused k) = refused k
+saidAs f (refusedAt k i) = refusedAt k i
 
-abbrev pub isTold : Told → Bool
-isTold told.Taken = true
-isTold told.Closed = true
-isTold told.Passed = true
-isTold told.Yes = true
-isTold (told.No k) = true
-isTold (told.NoF j) = true
-isTold (told.NoG j) = true
-isTold (told.Refused k) = false
-isTold (told.RefusedAt k i) = false
+abbrev pub saying : {A : Type 0} → (A → Said) → Verifier → Outcome A → Spoken
+saying f v o = record { verifier = v; told = saidAs f o }
+
+abbrev pub replying : Handed → Spoken
+replying h = saying replies (h .verifier) (h .outcome)
+
+unfoldable pub ask : ℕ → Verifier → Query → Shown → Spoken
+ask p v (query.Give x) l = replying (leaves v (give p v x))
+ask p v (query.Close t) l = replying (leaves v (close p v t))
+ask p v (query.CloseClaim c) l = replying (leaves v (closeClaim p v c))
+ask p v (query.Message even cross odd) l = replying (leaves v (message p v even cross odd))
+ask p v query.Verdict l = saying finds v (verdict p v)
+ask p v query.Proof l = saying finds (leavesJudged v (proof p v (l .file)) .0) (leavesJudged v (proof p v (l .file)) .1)
+ask p v (query.CheckOpening b) l = saying opens v (checkOpening p v b (l .values))

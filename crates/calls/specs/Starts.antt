@@ -1,39 +1,33 @@
 -- The starts of a run and of a verifier: refused exactly by 3 and 6, and otherwise the fresh record that every list begins with.
-use Prim.Native.Nat.{ℕ, _^_, _≤_}
+use Prim.Native.Nat.{ℕ, _≤_}
 use mathlib.Core.Path.{_≡_}
-use mathlib.Core.Bool.{true, false, _&&_}
+use mathlib.Core.Bool.{_&&_}
 use mathlib.Core.List.{List}
-use mathlib.Core.Option.{Option, none, some}
+use mathlib.Core.Option.{Option, none}
 use lib.Dec.{eqb, leb}
-use lib.ListN.{length, replicate}
-use Rattle.refusal.specs.Outcome.{Outcome, answered, refused, refusedAt}
+use lib.ListN.{length}
+use Rattle.refusal.specs.Outcome.{Outcome, answered}
 use Rattle.vector.specs.Rounds.{roundsOf}
-use Rattle.vector.specs.Slice.{isNonzero, allNonzero, fifteen}
-use Rattle.vector.specs.Twist.{twistsOf}
+use Rattle.vector.specs.Slice.{isNonzero, allNonzero}
+use Rattle.item.specs.declared.Start.{Start}
+use Rattle.item.specs.Start.{plainStart, twistedStart, ruleStart}
 use Rattle.prover.specs.Records.{Out}
 use Rattle.prover.specs.Start as prover
-use Rattle.verifier.specs.declared.Step.{Step}
+use Rattle.verifier.specs.Records.{Replied}
 use Rattle.verifier.specs.Starts as verifier
-use Rattle.runs.specs.Trip.{Start}
-use Rattle.calls.specs.Table.{Refusal, row}
-use Rattle.calls.specs.Statement.{startRun}
-use Rattle.calls.specs.QueryStatement.{startVerifier}
-
--- what the three starts fix
-abbrev pub plainStart : ℕ → Start
-plainStart items = record { items = items; rounds = roundsOf items; plain = true; twists = replicate 15 0 }
-
-abbrev pub twistedStart : ℕ → List ℕ → Start
-twistedStart items twists = record { items = items; rounds = roundsOf items; plain = false; twists = fifteen (roundsOf items) twists }
-
-abbrev pub ruleStart : ℕ → ℕ → ℕ → Start
-ruleStart p n v = record { items = 2 ^ n; rounds = n; plain = false; twists = twistsOf p v n }
+use Rattle.runs.specs.Trip.{Trip}
+use Rattle.calls.specs.Table.{Refusal, row, decided}
 
 -- L from 1 to 32,768, and n of it
 pub record Startable (s : Start) : Type 0 where
   pub least : 1 ≤ s .items
   pub most : s .items ≤ 32768
   pub rounds : s .rounds ≡ roundsOf (s .items)
+
+-- a trip of L items
+pub record Whole (T : Trip) : Type 0 where
+  pub start : Startable (T .start)
+  pub items : length (T .items) ≡ T .start .items
 
 -- "L outside 1..32,768 .. at a run's start; n above 15"; "challenge, twist, v .. outside 1..P-1; a list .. not as long as n asks"
 abbrev pub countRow : ℕ → Option Refusal → Option Refusal
@@ -45,15 +39,13 @@ listRow p n xs rest = row (eqb (length xs) n && allNonzero p n xs) 6 rest
 abbrev pub ruleRows : ℕ → ℕ → ℕ → Option Refusal → Option Refusal
 ruleRows p n v rest = row (leb n 15) 3 (row (isNonzero p v) 6 rest)
 
+-- refused by these rows, and otherwise the run's fresh record, or the verifier's
 abbrev pub StartsRun : Option Refusal → Start → Outcome Out → Type 0
-StartsRun none s o = (o ≡ answered (prover.started (startRun s))) × Startable s
-StartsRun (some (k, none)) s o = o ≡ refused k
-StartsRun (some (k, some i)) s o = o ≡ refusedAt k i
+StartsRun t s o = (o ≡ decided t (answered (prover.started (prover.freshRun s)))) × (t ≡ none → Startable s)
 
-abbrev pub StartsVerifier : Option Refusal → Start → List ℕ → Outcome Step → Type 0
-StartsVerifier none s cs o = (o ≡ answered (verifier.startedWith (startVerifier s cs))) × Startable s × (length cs ≡ s .rounds)
-StartsVerifier (some (k, none)) s cs o = o ≡ refused k
-StartsVerifier (some (k, some i)) s cs o = o ≡ refusedAt k i
+abbrev pub StartsVerifier : Option Refusal → Start → List ℕ → Outcome Replied → Type 0
+StartsVerifier t s cs o =
+    (o ≡ decided t (answered (verifier.startedWith (verifier.verifierOf s cs)))) × (t ≡ none → Startable s × (length cs ≡ s .rounds))
 
 pub record Starts (p : ℕ) : Type 0 where
   pub plain : (items : ℕ) → StartsRun (countRow items none) (plainStart items) (prover.startPlain items)

@@ -2,16 +2,15 @@
 use Prim.Native.Nat.{ℕ}
 use mathlib.Core.Bool.{Bool, true, false}
 use mathlib.Core.List.{List, []}
+use Rattle.refusal.specs.Outcome.{Outcome, answered, refused, refusedAt}
 use Rattle.wire.specs.Proof.{writtenIn}
 use Rattle.prover.specs.declared.Run.{Run}
 use Rattle.prover.specs.declared.Pass.{Pass}
-use Rattle.prover.specs.declared.Step.{Step}
-use Rattle.prover.specs.declared.Answer.{Answer}
-use Rattle.prover.specs.declared.Answer.the-variants as answer
-use Rattle.prover.specs.Records.{Out, leaves}
+use Rattle.prover.specs.Reply.{Reply}
+use Rattle.prover.specs.Records.{Out, out, leaves}
 use Rattle.prover.specs.Open.{openCall, openAtCall, toSmallCall}
 use Rattle.prover.specs.Change.{toFullCall}
-use Rattle.prover.specs.Calls.{itemCall, fieldItemCall}
+use Rattle.prover.specs.Calls.{giveCall}
 use Rattle.prover.specs.Close.{closeCall, leavesStep}
 use Rattle.prover.specs.Full.{messageCall, endsCall}
 use Rattle.prover.specs.Challenge.{challengeCall}
@@ -30,24 +29,14 @@ pub record Lent : Type 0 where
 pub record Result : Type 0 where
   pub run : Run
   pub pass : Pass
-  pub answer : Answer
+  pub answer : Outcome Reply
   pub values : List ℕ
   pub lent : Lent
 
-abbrev pub isAnswered : Answer → Bool
-isAnswered answer.Started = true
-isAnswered answer.Opened = true
-isAnswered answer.Taken = true
-isAnswered (answer.Total t) = true
-isAnswered (answer.FieldTotal t) = true
-isAnswered (answer.Message even cross odd) = true
-isAnswered answer.Challenged = true
-isAnswered (answer.Ends f g) = true
-isAnswered answer.Opening = true
-isAnswered answer.Changed = true
-isAnswered (answer.Written size) = true
-isAnswered (answer.Refused k) = false
-isAnswered (answer.RefusedAt k i) = false
+abbrev pub isAnswered : {A : Type 0} → Outcome A → Bool
+isAnswered (answered x) = true
+isAnswered (refused k) = false
+isAnswered (refusedAt k i) = false
 
 -- a call with no buffers leaves them; one that has them leaves what its definition says
 abbrev pub keeping : Lent → Out → Result
@@ -57,28 +46,19 @@ abbrev pub leaving : Lent → Out → Result
 leaving l o =
     record { run = o .run; pass = o .pass; answer = o .answer; values = o .values; lent = record { f = o .f; g = o .g; file = l .file } }
 
-abbrev pub keepingStep : Lent → Step → Result
-keepingStep l s = record { run = s .run; pass = s .pass; answer = s .answer; values = s .values; lent = l }
-
+-- and this file
 abbrev pub writing : ℕ → Run → Pass → Lent → Result
 writing p r s l =
-    let o : Step = writtenStep r s (writeCall p r s (l .file)) in
-    record {
-      run = o .run;
-      pass = o .pass;
-      answer = o .answer;
-      values = o .values;
-      lent = record { f = l .f; g = l .g; file = writtenIn (writeCall p r s (l .file)) (proofOf r) (l .file) };
-    }
+    keeping (record { f = l .f; g = l .g; file = writtenIn (writeCall p r s (l .file)) (proofOf r) (l .file) })
+    (out (writtenStep r s (writeCall p r s (l .file))) [] [])
 
 unfoldable pub step : ℕ → Run → Pass → Call → Lent → Result
 step p r s call.OpenPass l = keeping l (leaves r s [] [] (openCall p r s))
 step p r s (call.OpenAt b) l = keeping l (leaves r s [] [] (openAtCall p r s b))
 step p r s call.ToFull l = leaving l (leaves r s (l .f) (l .g) (toFullCall p r s (l .f) (l .g)))
 step p r s call.ToSmall l = keeping l (leaves r s [] [] (toSmallCall r s))
-step p r s (call.Item reading weight) l = leaving l (leaves r s (l .f) (l .g) (itemCall p r s reading weight (l .f) (l .g)))
-step p r s (call.FieldItem a b) l = leaving l (leaves r s (l .f) (l .g) (fieldItemCall p r s a b (l .f) (l .g)))
-step p r s call.Close l = keepingStep l (leavesStep r s (closeCall p r s))
+step p r s (call.Give x) l = leaving l (leaves r s (l .f) (l .g) (giveCall p r s x (l .f) (l .g)))
+step p r s call.Close l = keeping l (out (leavesStep r s (closeCall p r s)) [] [])
 step p r s call.Message l = leaving l (leaves r s (l .f) (l .g) (messageCall p r s (l .f) (l .g)))
 step p r s (call.Challenge c) l = leaving l (leaves r s (l .f) (l .g) (challengeCall p r s c (l .f) (l .g)))
 step p r s call.Ends l = leaving l (leaves r s (l .f) (l .g) (endsCall p r s (l .f) (l .g)))

@@ -1,23 +1,25 @@
 -- Document 01, "Refused, by place", for the calls of a run: over the state and what the call itself is given. No record is read.
-use Prim.Native.Nat.{ℕ, _+_, _*_, _-_}
-use mathlib.Core.Bool.{Bool, true, false, cond, not, _&&_, _||_}
+use Prim.Native.Nat.{ℕ, _+_, _*_, _-_, _/_, _^_}
+use mathlib.Core.Bool.{Bool, cond, not, _&&_, _||_}
 use mathlib.Core.Option.{Option, none, some}
 use lib.Dec.{eqb, leb, ltb}
 use lib.ListN.{length}
 use Rattle.refusal.specs.Limit.{maxWeight}
+use Rattle.refusal.specs.Outcome.{Outcome, refused, refusedAt}
 use Rattle.field.specs.Total.{inLimits}
 use Rattle.vector.specs.Rounds.{size}
 use Rattle.vector.specs.Slice.{allReduced, isNonzero}
+use Rattle.item.specs.declared.Start.{Start}
+use Rattle.item.specs.declared.Given.{Given}
+use Rattle.item.specs.declared.Given.the-variants.{Reading, Numbers}
 use Rattle.prover.specs.declared.Mode.{Mode}
 use Rattle.prover.specs.declared.Next.{Next}
 use Rattle.prover.specs.declared.Next.the-variants as next
-use Rattle.prover.specs.declared.Kind.{Kind}
-use Rattle.prover.specs.declared.Kind.the-variants.{Shut, Asked, Change}
 use Rattle.runs.specs.Trip.{sumOf}
 use Rattle.calls.specs.declared.Call.{Call}
 use Rattle.calls.specs.declared.Call.the-variants as call
 use Rattle.calls.specs.Step.{Lent}
-use Rattle.calls.specs.State.{State, isChange, isFull}
+use Rattle.calls.specs.State.{isFull, isSmall, isOpen, isChange, State}
 
 -- "It carries its number and, for 5 and 13 to 15, the index"
 abbrev pub Refusal : Type 0
@@ -30,13 +32,14 @@ row ok k rest = cond ok rest (some (k, none))
 abbrev pub rowAt : Bool → ℕ → ℕ → Option Refusal → Option Refusal
 rowAt ok k i rest = cond ok rest (some (k, some i))
 
-abbrev pub isOpen : Kind → Bool
-isOpen Shut = false
-isOpen Asked = true
-isOpen Change = true
+-- what such a number makes of an outcome
+abbrev pub refusedWith : {A : Type 0} → ℕ → Option ℕ → Outcome A
+refusedWith k none = refused k
+refusedWith k (some i) = refusedAt k i
 
-abbrev pub isSmall : Mode → Bool
-isSmall m = not (isFull m)
+abbrev pub decided : {A : Type 0} → Option Refusal → Outcome A → Outcome A
+decided none o = o
+decided (some k) o = refusedWith (k .0) (k .1)
 
 abbrev pub rank : Next → ℕ
 rank next.Total = 0
@@ -61,20 +64,33 @@ openingsNext t n = waits next.Openings t && ltb 0 n
 abbrev pub changeNext : Mode → Next → ℕ → Bool
 changeNext m t n = isSmall m && (waits next.Message t || (waits next.Ends t || openingsNext t n))
 
--- the current fold: fold i before message i and its challenge, fold n before the ends, fold 0 after them
-abbrev pub levelNow : ℕ → ℕ → Next → ℕ
-levelNow n i next.Total = 0
-levelNow n i next.Message = i
-levelNow n i next.Challenge = i
-levelNow n i next.Ends = n
-levelNow n i next.Openings = 0
+-- before message i and its challenge fold i, before the ends fold n, and after them the last of the three
+abbrev pub levelNow : ℕ → ℕ → ℕ → Next → ℕ
+levelNow n i last next.Total = 0
+levelNow n i last next.Message = i
+levelNow n i last next.Challenge = i
+levelNow n i last next.Ends = n
+levelNow n i last next.Openings = last
 
+-- the current fold, which is fold 0 after the ends
 abbrev pub level : State → ℕ
-level a = levelNow (a .start .rounds) (length (a .challenges)) (a .next)
+level a = levelNow (a .start .rounds) (length (a .turn .challenges)) 0 (a .turn .next)
 
--- how long it is
+-- "For round i it folds to level i ..; The passes for ends and openings use i = n"
+abbrev pub passLevel : State → ℕ
+passLevel a = levelNow (a .start .rounds) (length (a .turn .challenges)) (a .start .rounds) (a .turn .next)
+
+-- how long the current fold is
 abbrev pub long : State → ℕ
 long a = size (a .start .rounds) (level a)
+
+-- "Items taken, t in number, are the padding and the items answered since the pass was opened"
+abbrev pub taken : State → ℕ
+taken a = 2 ^ a .start .rounds - a .start .items + length (a .pass .items)
+
+-- a change pass has completed the last t/2^i items of fold i after t of them
+abbrev pub completed : State → ℕ → ℕ
+completed a t = t / 2 ^ level a
 
 -- 9: "shorter than the fold"
 abbrev pub bothLong : State → Lent → Bool
@@ -84,34 +100,41 @@ bothLong a l = leb (long a) (length (l .f)) && leb (long a) (length (l .g))
 abbrev pub readRows : ℕ → State → Lent → Option Refusal
 readRows p a l = row (bothLong a l) 9 (row (allReduced p (long a) (l .f) && allReduced p (long a) (l .g)) 16 none)
 
--- "item or close with no pass open"; "item beyond L"; an item of the other kind of run is not next
-abbrev pub itemRows : State → Bool → Option Refusal → Option Refusal
-itemRows a kind rest = row (isOpen (a .kind)) 10 (row (ltb (length (a .items)) (a .start .items)) 8 (row kind 10 rest))
+-- an item of the other kind of run is not next; "weight above 1,440", with the index i; a number "P or more"
+abbrev pub givenRows : ℕ → Start → ℕ → Given → Option Refusal → Option Refusal
+givenRows p s i (Reading r w) rest = row (s .plain) 10 (rowAt (leb w maxWeight) 5 i rest)
+givenRows p s i (Numbers x y) rest = row (not (s .plain)) 10 (row (ltb x p && ltb y p) 16 rest)
 
 -- only a change pass has the buffers
 abbrev pub placeRow : State → Lent → Option Refusal
-placeRow a l = row (not (isChange (a .kind)) || bothLong a l) 9 none
+placeRow a l = row (not (isChange (a .pass .kind)) || bothLong a l) 9 none
 
 -- 7: "plain total outside its limits", where the pass is the total's
 abbrev pub totalFits : ℕ → State → Bool
-totalFits p a = not (waits next.Total (a .next) && a .start .plain) || inLimits p (sumOf (a .items))
+totalFits p a = not (waits next.Total (a .turn .next) && a .start .plain) || inLimits p (sumOf (a .pass .items))
+
+-- the proof file of n rounds, in bytes
+abbrev pub fileSize : ℕ → ℕ
+fileSize n = 18 + 12 * n
 
 -- THE TABLE: none where the call is answered
 unfoldable pub table : ℕ → State → Call → Lent → Option Refusal
-table p a call.OpenPass l = row (passNext (a .mode) (a .next)) 10 none
-table p a (call.OpenAt b) l = row (isSmall (a .mode) && openingsNext (a .next) (a .start .rounds)) 10 (row (isNonzero p b) 6 none)
-table p a call.ToFull l = row (changeNext (a .mode) (a .next) (a .start .rounds)) 10 (row (bothLong a l) 9 none)
+table p a call.OpenPass l = row (passNext (a .turn .mode) (a .turn .next)) 10 none
+table p a (call.OpenAt b) l = row (isSmall (a .turn .mode) && openingsNext (a .turn .next) (a .start .rounds)) 10 (row (isNonzero p b) 6 none)
+table p a call.ToFull l = row (changeNext (a .turn .mode) (a .turn .next) (a .start .rounds)) 10 (row (bothLong a l) 9 none)
 table p a call.ToSmall l = some (10, none)
-table p a (call.Item r w) l =
-    itemRows a (a .start .plain) (rowAt (leb w maxWeight) 5 (a .start .items - 1 - length (a .items)) (placeRow a l))
-table p a (call.FieldItem x y) l = itemRows a (not (a .start .plain)) (row (ltb x p && ltb y p) 16 (placeRow a l))
+-- "item or close with no pass open"; "item beyond L"
+table p a (call.Give x) l =
+    row (isOpen (a .pass .kind)) 10
+    (row (ltb (length (a .pass .items)) (a .start .items)) 8
+    (givenRows p (a .start) (a .start .items - 1 - length (a .pass .items)) x (placeRow a l)))
 table p a call.Close l =
-    row (isOpen (a .kind)) 10 (row (eqb (length (a .items)) (a .start .items)) 8 (row (totalFits p a) 7 none))
-table p a call.Message l = row (isFull (a .mode) && waits next.Message (a .next)) 10 (readRows p a l)
+    row (isOpen (a .pass .kind)) 10 (row (eqb (length (a .pass .items)) (a .start .items)) 8 (row (totalFits p a) 7 none))
+table p a call.Message l = row (isFull (a .turn .mode) && waits next.Message (a .turn .next)) 10 (readRows p a l)
 table p a (call.Challenge c) l =
-    row (waits next.Challenge (a .next)) 10 (row (isNonzero p c) 6 (cond (isFull (a .mode)) (readRows p a l) none))
-table p a call.Ends l = row (isFull (a .mode) && waits next.Ends (a .next)) 10 (readRows p a l)
+    row (waits next.Challenge (a .turn .next)) 10 (row (isNonzero p c) 6 (cond (isFull (a .turn .mode)) (readRows p a l) none))
+table p a call.Ends l = row (isFull (a .turn .mode) && waits next.Ends (a .turn .next)) 10 (readRows p a l)
 table p a (call.Opening b) l =
-    row (isFull (a .mode) && openingsNext (a .next) (a .start .rounds)) 10 (row (isNonzero p b) 6 (readRows p a l))
+    row (isFull (a .turn .mode) && openingsNext (a .turn .next) (a .start .rounds)) 10 (row (isNonzero p b) 6 (readRows p a l))
 table p a call.WriteProof l =
-    row (a .start .plain && waits next.Openings (a .next)) 10 (row (leb (18 + 12 * a .start .rounds) (length (l .file))) 9 none)
+    row (a .start .plain && waits next.Openings (a .turn .next)) 10 (row (leb (fileSize (a .start .rounds)) (length (l .file))) 9 none)

@@ -1,7 +1,10 @@
 // Calls of a verifier as data, and the function that makes the call.
 ghost use mathlib.Core.Path.{_≡_};
-ghost use Rattle.verifier.specs.Records.{verdictIn, openedIn};
-ghost use Rattle.calls.specs.QueryStep.{toldVerdict, toldOpening, heardStep, ask};
+ghost use Rattle.item.specs.Start.{modulusOf};
+ghost use Rattle.verifier.specs.Records.{stepIn, leaves, verdictIn, openedIn};
+ghost use Rattle.verifier.specs.Calls.{give};
+ghost use Rattle.calls.specs.QueryStep.{heardIn, saying, replying, finds, opens, ask};
+use item::Given;
 use verifier::Answer;
 use verifier::Opened;
 use verifier::Step;
@@ -9,8 +12,7 @@ use verifier::Verdict;
 use verifier::Verifier;
 
 pub enum Query {
-    Item(i16, u16),
-    FieldItem(u32, u32),
+    Give(Given),
     Close(i64),
     CloseClaim(u32),
     Message(u32, u32, u32),
@@ -22,16 +24,19 @@ pub enum Query {
 }
 
 pub enum Told {
+    Started,
     Taken,
     Closed,
-    // The message passed.
+    // A message, which passed or failed; with its round.
     Passed,
-    // The verdict, or that on an opening.
+    Failed(u32),
+    // The verdict; a no with its round.
     Yes,
-    // A message or the verdict, with the round.
     No(u32),
-    NoF(u32),
-    NoG(u32),
+    // An opening: it opens, or the first vector and j that fail.
+    Opens,
+    FailsF(u32),
+    FailsG(u32),
     Refused(u8),
     RefusedAt(u8, u32),
 }
@@ -49,23 +54,23 @@ fn hands(verifier: Verifier, told: Told) -> Heard
 }
 
 fn stepped(step: Step) -> Heard
-    ensures { λ r. ⌜ r ≡ heardStep step ⌝ }
+    ensures { λ r. ⌜ heardIn r ≡ replying (stepIn step) ⌝ }
 {
     let verifier = step.verifier;
     let answer = step.answer;
     match answer {
-        Answer::Started => hands(verifier, Told::Closed),
+        Answer::Started => hands(verifier, Told::Started),
         Answer::Taken => hands(verifier, Told::Taken),
         Answer::Closed => hands(verifier, Told::Closed),
         Answer::Passed => hands(verifier, Told::Passed),
-        Answer::No(round) => hands(verifier, Told::No(round)),
+        Answer::No(round) => hands(verifier, Told::Failed(round)),
         Answer::Refused(number) => hands(verifier, Told::Refused(number)),
         Answer::RefusedAt(number, index) => hands(verifier, Told::RefusedAt(number, index)),
     }
 }
 
 fn judged(verifier: Verifier, verdict: Verdict) -> Heard
-    ensures { λ r. ⌜ r ≡ record { verifier = verifier; told = toldVerdict (verdictIn verdict) } ⌝ }
+    ensures { λ r. ⌜ heardIn r ≡ saying finds verifier (verdictIn verdict) ⌝ }
 {
     match verdict {
         Verdict::Yes => hands(verifier, Told::Yes),
@@ -75,23 +80,32 @@ fn judged(verifier: Verifier, verdict: Verdict) -> Heard
 }
 
 fn opened(verifier: Verifier, verdict: Opened) -> Heard
-    ensures { λ r. ⌜ r ≡ record { verifier = verifier; told = toldOpening (openedIn verdict) } ⌝ }
+    ensures { λ r. ⌜ heardIn r ≡ saying opens verifier (openedIn verdict) ⌝ }
 {
     match verdict {
-        Opened::Yes => hands(verifier, Told::Yes),
-        Opened::NoF(j) => hands(verifier, Told::NoF(j)),
-        Opened::NoG(j) => hands(verifier, Told::NoG(j)),
+        Opened::Yes => hands(verifier, Told::Opens),
+        Opened::NoF(j) => hands(verifier, Told::FailsF(j)),
+        Opened::NoG(j) => hands(verifier, Told::FailsG(j)),
         Opened::Refused(number) => hands(verifier, Told::Refused(number)),
+    }
+}
+
+// An item of either kind of run.
+fn give(verifier: Verifier, given: Given) -> Step
+    ensures { λ r. ⌜ stepIn r ≡ leaves verifier (give (modulusOf (verifier .start)) verifier given) ⌝ }
+{
+    match given {
+        Given::Reading(reading, weight) => verifier.item(reading, weight),
+        Given::Numbers(a, b) => verifier.field_item(a, b),
     }
 }
 
 // What each call is lent beside its numbers: the file and the opening values, which may be empty where it has no use for them.
 pub fn ask(verifier: Verifier, query: Query, file: &[u8], values: &[u32]) -> Heard
-    ensures { λ r. ⌜ r ≡ ask 2147483647 verifier query (record { file = now (file .entry); values = now (values .entry) }) ⌝ }
+    ensures { λ r. ⌜ heardIn r ≡ ask (modulusOf (verifier .start)) verifier query (record { file = now (file .entry); values = now (values .entry) }) ⌝ }
 {
     match query {
-        Query::Item(reading, weight) => stepped(verifier.item(reading, weight)),
-        Query::FieldItem(a, b) => stepped(verifier.field_item(a, b)),
+        Query::Give(given) => stepped(give(verifier, given)),
         Query::Close(total) => stepped(verifier.close(total)),
         Query::CloseClaim(claim) => stepped(verifier.close_claim(claim)),
         Query::Message(even, cross, odd) => stepped(verifier.message(even, cross, odd)),

@@ -1,7 +1,6 @@
-use mir.Syntax.{w16}
-use mir.Facts.{toZ-ofZ}
 use denote.Ref.{now}
-use Rattle.calls.proofs.Dispatch.{made-open-pass, made-open-at, made-to-full, made-to-small, made-item, made-field-item, made-close, made-message, made-challenge, made-ends, made-opening, made-write-proof}
+use Rattle.item.specs.Start.{modulusOf}
+use Rattle.calls.proofs.Dispatch.{made-open-pass, made-open-at, made-to-full, made-to-small, made-item, made-close, made-message, made-challenge, made-ends, made-opening, made-write-proof}
 use borrow.Author.Needs.{needs}
 use Rattle.calls.proofs.make.Statement.{statement}
 use Rattle.calls.proofs.make.Tie as tie
@@ -33,14 +32,8 @@ to-small-requires c κs = search needs
 enum-known-call-2 : tie.Need-enum-known-call-2
 enum-known-call-2 c = search needs
 
-item-requires : tie.Need-item-requires
-item-requires c κs = search needs
-
-enum-known-call-3 : tie.Need-enum-known-call-3
-enum-known-call-3 c = search needs
-
-field-item-requires : tie.Need-field-item-requires
-field-item-requires c κs = search needs
+give-requires : tie.Need-give-requires
+give-requires c κs = search needs
 
 enum-told-4 : tie.Need-enum-told-4
 enum-told-4 c = search needs
@@ -54,8 +47,8 @@ enum-told-5 c = search needs
 message-requires : tie.Need-message-requires
 message-requires c κs = search needs
 
-enum-known-call-4 : tie.Need-enum-known-call-4
-enum-known-call-4 c = search needs
+enum-known-call-3 : tie.Need-enum-known-call-3
+enum-known-call-3 c = search needs
 
 challenge-requires : tie.Need-challenge-requires
 challenge-requires c κs = search needs
@@ -66,8 +59,8 @@ enum-told-6 c = search needs
 ends-requires : tie.Need-ends-requires
 ends-requires c κs = search needs
 
-enum-known-call-5 : tie.Need-enum-known-call-5
-enum-known-call-5 c = search needs
+enum-known-call-4 : tie.Need-enum-known-call-4
+enum-known-call-4 c = search needs
 
 opening-requires : tie.Need-opening-requires
 opening-requires c κs = search needs
@@ -81,12 +74,12 @@ write-proof-requires c κs = search needs
 returns : tie.Need-returns
 returns c =
     let s = c .before .before .before .before .before .before .args in
-    made-open-pass 2147483647 (s .run) (s .pass) (now (s .f)) (now (s .g)) (now (s .file)) (c .open-pass .result) (s .call) (c .before .enum-told .given .1) (c .open-pass .ensures)
+    made-open-pass (modulusOf (s .run .start)) (s .run) (s .pass) (now (s .f)) (now (s .g)) (now (s .file)) (c .open-pass .result) (s .call) (c .before .enum-told .given .1) (c .open-pass .ensures)
 
 returns-2 : tie.Need-returns-2
 returns-2 c =
     let s = c .before .before .before .before .before .before .before .args in
-    made-open-at 2147483647 (s .run) (s .pass) (now (s .f)) (now (s .g)) (now (s .file)) (c .open-at .result) (s .call) _ (c .before .before .call .given .1) (c .open-at .ensures)
+    made-open-at (modulusOf (s .run .start)) (s .run) (s .pass) (now (s .f)) (now (s .g)) (now (s .file)) (c .open-at .result) (s .call) _ (c .before .before .call .given .1) (c .open-at .ensures)
 
 same-length : tie.Need-same-length
 same-length c = search needs
@@ -97,12 +90,12 @@ same-length-2 c = search needs
 returns-3 : tie.Need-returns-3
 returns-3 c =
     let s = c .before .before .before .before .before .before .before .before .before .before .before .before .args in
-    made-to-full 2147483647 (s .run) (s .pass) (now (s .f)) (now (s .g)) (now (s .file)) (c .before .before .before .before .to-full .result) _ _ (s .call) (c .before .before .before .before .before .before .before .enum-told2 .given .1) (c .before .before .before .before .to-full .ensures)
+    made-to-full (modulusOf (s .run .start)) (s .run) (s .pass) (now (s .f)) (now (s .g)) (now (s .file)) (c .before .before .before .before .to-full .result) _ _ (s .call) (c .before .before .before .before .before .before .before .enum-told2 .given .1) (c .before .before .before .before .to-full .ensures)
 
 returns-4 : tie.Need-returns-4
 returns-4 c =
     let s = c .before .before .before .before .before .before .args in
-    made-to-small 2147483647 (s .run) (s .pass) (now (s .f)) (now (s .g)) (now (s .file)) (c .to-small .result) (s .call) (c .before .enum-told3 .given .1) (c .to-small .ensures)
+    made-to-small (modulusOf (s .run .start)) (s .run) (s .pass) (now (s .f)) (now (s .g)) (now (s .file)) (c .to-small .result) (s .call) (c .before .enum-told3 .given .1) (c .to-small .ensures)
 
 same-length-3 : tie.Need-same-length-3
 same-length-3 c = search needs
@@ -113,7 +106,12 @@ same-length-4 c = search needs
 returns-5 : tie.Need-returns-5
 returns-5 c =
     let s = c .before .before .before .before .before .before .before .before .before .before .before .before .before .args in
-    made-item 2147483647 (s .run) (s .pass) (now (s .f)) (now (s .g)) (now (s .file)) (c .before .before .before .before .item .result) _ _ (s .call) _ _ _ (c .before .before .before .before .before .before .before .before .call2 .given .1) (toZ-ofZ {w = w16} (record { sfits = c .before .before .before .before .before .before .before .known-told2 .given .0 .1 })) (c .before .before .before .before .item .ensures)
+    made-item (modulusOf (s .run .start)) (s .run) (s .pass) (now (s .f)) (now (s .g)) (now (s .file)) (c .before .before .before .before .give .result) _ _ (s .call) _ (c .before .before .before .before .before .before .before .before .call2 .given .1) (c .before .before .before .before .give .ensures)
+
+returns-6 : tie.Need-returns-6
+returns-6 c =
+    let s = c .before .before .before .before .before .before .args in
+    made-close (modulusOf (s .run .start)) (s .run) (s .pass) (now (s .f)) (now (s .g)) (now (s .file)) (c .close .result) (s .call) (c .before .enum-told4 .given .1) (c .close .ensures)
 
 same-length-5 : tie.Need-same-length-5
 same-length-5 c = search needs
@@ -121,15 +119,10 @@ same-length-5 c = search needs
 same-length-6 : tie.Need-same-length-6
 same-length-6 c = search needs
 
-returns-6 : tie.Need-returns-6
-returns-6 c =
-    let s = c .before .before .before .before .before .before .before .before .before .before .before .before .before .args in
-    made-field-item 2147483647 (s .run) (s .pass) (now (s .f)) (now (s .g)) (now (s .file)) (c .before .before .before .before .field-item .result) _ _ (s .call) _ _ (c .before .before .before .before .before .before .before .before .call3 .given .1) (c .before .before .before .before .field-item .ensures)
-
 returns-7 : tie.Need-returns-7
 returns-7 c =
-    let s = c .before .before .before .before .before .before .args in
-    made-close 2147483647 (s .run) (s .pass) (now (s .f)) (now (s .g)) (now (s .file)) (c .close .result) (s .call) (c .before .enum-told4 .given .1) (c .close .ensures)
+    let s = c .before .before .before .before .before .before .before .before .args in
+    made-message (modulusOf (s .run .start)) (s .run) (s .pass) (now (s .f)) (now (s .g)) (now (s .file)) (c .message .result) (s .call) (c .before .before .before .enum-told5 .given .1) (c .message .ensures)
 
 same-length-7 : tie.Need-same-length-7
 same-length-7 c = search needs
@@ -139,8 +132,8 @@ same-length-8 c = search needs
 
 returns-8 : tie.Need-returns-8
 returns-8 c =
-    let s = c .before .before .before .before .before .before .before .before .args in
-    made-message 2147483647 (s .run) (s .pass) (now (s .f)) (now (s .g)) (now (s .file)) (c .message .result) (s .call) (c .before .before .before .enum-told5 .given .1) (c .message .ensures)
+    let s = c .before .before .before .before .before .before .before .before .before .before .before .before .before .args in
+    made-challenge (modulusOf (s .run .start)) (s .run) (s .pass) (now (s .f)) (now (s .g)) (now (s .file)) (c .before .before .before .before .challenge .result) _ _ (s .call) _ (c .before .before .before .before .before .before .before .before .call3 .given .1) (c .before .before .before .before .challenge .ensures)
 
 same-length-9 : tie.Need-same-length-9
 same-length-9 c = search needs
@@ -150,8 +143,8 @@ same-length-10 c = search needs
 
 returns-9 : tie.Need-returns-9
 returns-9 c =
-    let s = c .before .before .before .before .before .before .before .before .before .before .before .before .before .args in
-    made-challenge 2147483647 (s .run) (s .pass) (now (s .f)) (now (s .g)) (now (s .file)) (c .before .before .before .before .challenge .result) _ _ (s .call) _ (c .before .before .before .before .before .before .before .before .call4 .given .1) (c .before .before .before .before .challenge .ensures)
+    let s = c .before .before .before .before .before .before .before .before .args in
+    made-ends (modulusOf (s .run .start)) (s .run) (s .pass) (now (s .f)) (now (s .g)) (now (s .file)) (c .ends .result) (s .call) (c .before .before .before .enum-told6 .given .1) (c .ends .ensures)
 
 same-length-11 : tie.Need-same-length-11
 same-length-11 c = search needs
@@ -161,27 +154,16 @@ same-length-12 c = search needs
 
 returns-10 : tie.Need-returns-10
 returns-10 c =
-    let s = c .before .before .before .before .before .before .before .before .args in
-    made-ends 2147483647 (s .run) (s .pass) (now (s .f)) (now (s .g)) (now (s .file)) (c .ends .result) (s .call) (c .before .before .before .enum-told6 .given .1) (c .ends .ensures)
+    let s = c .before .before .before .before .before .before .before .before .before .args in
+    made-opening (modulusOf (s .run .start)) (s .run) (s .pass) (now (s .f)) (now (s .g)) (now (s .file)) (c .opening .result) (s .call) _ (c .before .before .before .before .call4 .given .1) (c .opening .ensures)
 
 same-length-13 : tie.Need-same-length-13
 same-length-13 c = search needs
 
-same-length-14 : tie.Need-same-length-14
-same-length-14 c = search needs
-
 returns-11 : tie.Need-returns-11
 returns-11 c =
     let s = c .before .before .before .before .before .before .before .before .before .args in
-    made-opening 2147483647 (s .run) (s .pass) (now (s .f)) (now (s .g)) (now (s .file)) (c .opening .result) (s .call) _ (c .before .before .before .before .call5 .given .1) (c .opening .ensures)
-
-same-length-15 : tie.Need-same-length-15
-same-length-15 c = search needs
-
-returns-12 : tie.Need-returns-12
-returns-12 c =
-    let s = c .before .before .before .before .before .before .before .before .before .args in
-    made-write-proof 2147483647 (s .run) (s .pass) (now (s .f)) (now (s .g)) (now (s .file)) (c .before .before .write-proof .result) _ (s .call) (c .before .before .before .before .enum-told7 .given .1) (c .before .before .write-proof .ensures .0) (c .before .before .write-proof .ensures .1)
+    made-write-proof (modulusOf (s .run .start)) (s .run) (s .pass) (now (s .f)) (now (s .g)) (now (s .file)) (c .before .before .write-proof .result) _ (s .call) (c .before .before .before .before .enum-told7 .given .1) (c .before .before .write-proof .ensures .0) (c .before .before .write-proof .ensures .1)
 
 pub make-spec : {M : Type 1} → statement M
 make-spec =
@@ -196,18 +178,16 @@ make-spec =
     enum-told-3
     to-small-requires
     enum-known-call-2
-    item-requires
-    enum-known-call-3
-    field-item-requires
+    give-requires
     enum-told-4
     close-requires
     enum-told-5
     message-requires
-    enum-known-call-4
+    enum-known-call-3
     challenge-requires
     enum-told-6
     ends-requires
-    enum-known-call-5
+    enum-known-call-4
     opening-requires
     enum-told-7
     write-proof-requires
@@ -220,9 +200,9 @@ make-spec =
     same-length-3
     same-length-4
     returns-5
+    returns-6
     same-length-5
     same-length-6
-    returns-6
     returns-7
     same-length-7
     same-length-8
@@ -234,7 +214,4 @@ make-spec =
     same-length-12
     returns-10
     same-length-13
-    same-length-14
-    returns-11
-    same-length-15
-    returns-12)
+    returns-11)

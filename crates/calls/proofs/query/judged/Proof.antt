@@ -1,3 +1,5 @@
+use mathlib.Core.Path.{ap}
+use Rattle.calls.specs.QueryStep.{heardIn}
 use borrow.Author.Needs.{needs}
 use Rattle.calls.proofs.query.judged.Statement.{statement}
 use Rattle.calls.proofs.query.judged.Tie as tie
@@ -21,13 +23,13 @@ hands-requires-3 : tie.Need-hands-requires-3
 hands-requires-3 c κs = search needs
 
 returns : tie.Need-returns
-returns c = rw (c .before .enum-told .given .1) (c .hands .ensures)
+returns c = rw (c .before .enum-told .given .1) (ap heardIn (c .hands .ensures))
 
 returns-2 : tie.Need-returns-2
-returns-2 c = rw (c .before .before .verdict .given .1) (c .hands2 .ensures)
+returns-2 c = rw (c .before .before .verdict .given .1) (ap heardIn (c .hands2 .ensures))
 
 returns-3 : tie.Need-returns-3
-returns-3 c = rw (c .before .before .verdict2 .given .1) (c .hands3 .ensures)
+returns-3 c = rw (c .before .before .verdict2 .given .1) (ap heardIn (c .hands3 .ensures))
 
 pub judged-spec : {M : Type 1} → statement M
 judged-spec =

@@ -1,3 +1,5 @@
+use mathlib.Core.Path.{ap}
+use Rattle.calls.specs.QueryStep.{heardIn}
 use borrow.Author.Needs.{needs}
 use Rattle.calls.proofs.query.opened.Statement.{statement}
 use Rattle.calls.proofs.query.opened.Tie as tie
@@ -27,16 +29,16 @@ hands-requires-4 : tie.Need-hands-requires-4
 hands-requires-4 c κs = search needs
 
 returns : tie.Need-returns
-returns c = rw (c .before .enum-told .given .1) (c .hands .ensures)
+returns c = rw (c .before .enum-told .given .1) (ap heardIn (c .hands .ensures))
 
 returns-2 : tie.Need-returns-2
-returns-2 c = rw (c .before .before .verdict .given .1) (c .hands2 .ensures)
+returns-2 c = rw (c .before .before .verdict .given .1) (ap heardIn (c .hands2 .ensures))
 
 returns-3 : tie.Need-returns-3
-returns-3 c = rw (c .before .before .verdict2 .given .1) (c .hands3 .ensures)
+returns-3 c = rw (c .before .before .verdict2 .given .1) (ap heardIn (c .hands3 .ensures))
 
 returns-4 : tie.Need-returns-4
-returns-4 c = rw (c .before .before .verdict3 .given .1) (c .hands4 .ensures)
+returns-4 c = rw (c .before .before .verdict3 .given .1) (ap heardIn (c .hands4 .ensures))
 
 pub opened-spec : {M : Type 1} → statement M
 opened-spec =

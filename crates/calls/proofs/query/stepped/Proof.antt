@@ -1,5 +1,6 @@
 use mathlib.Core.Path.{sym, ap, _∙_}
-use Rattle.calls.specs.QueryStep.{toldOf}
+use Rattle.verifier.specs.Reply.{answerIn}
+use Rattle.calls.specs.QueryStep.{replies, heardIn, saidAs}
 use borrow.Author.Needs.{needs}
 use Rattle.calls.proofs.query.stepped.Statement.{statement}
 use Rattle.calls.proofs.query.stepped.Tie as tie
@@ -47,25 +48,25 @@ hands-requires-7 : tie.Need-hands-requires-7
 hands-requires-7 c κs = search needs
 
 returns : tie.Need-returns
-returns c = c .hands .ensures ∙ ap (λ a. record { verifier = c .before .before .before .before .args .step .verifier; told = toldOf a }) (sym (c .before .enum-told .given .1))
+returns c = ap heardIn (c .hands .ensures) ∙ ap (λ a. record { verifier = c .before .before .before .before .args .step .verifier; told = saidAs replies (answerIn a) }) (sym (c .before .enum-told .given .1))
 
 returns-2 : tie.Need-returns-2
-returns-2 c = c .hands2 .ensures ∙ ap (λ a. record { verifier = c .before .before .before .before .args .step .verifier; told = toldOf a }) (sym (c .before .enum-told2 .given .1))
+returns-2 c = ap heardIn (c .hands2 .ensures) ∙ ap (λ a. record { verifier = c .before .before .before .before .args .step .verifier; told = saidAs replies (answerIn a) }) (sym (c .before .enum-told2 .given .1))
 
 returns-3 : tie.Need-returns-3
-returns-3 c = c .hands3 .ensures ∙ ap (λ a. record { verifier = c .before .before .before .before .args .step .verifier; told = toldOf a }) (sym (c .before .enum-told3 .given .1))
+returns-3 c = ap heardIn (c .hands3 .ensures) ∙ ap (λ a. record { verifier = c .before .before .before .before .args .step .verifier; told = saidAs replies (answerIn a) }) (sym (c .before .enum-told3 .given .1))
 
 returns-4 : tie.Need-returns-4
-returns-4 c = c .hands4 .ensures ∙ ap (λ a. record { verifier = c .before .before .before .before .args .step .verifier; told = toldOf a }) (sym (c .before .enum-told4 .given .1))
+returns-4 c = ap heardIn (c .hands4 .ensures) ∙ ap (λ a. record { verifier = c .before .before .before .before .args .step .verifier; told = saidAs replies (answerIn a) }) (sym (c .before .enum-told4 .given .1))
 
 returns-5 : tie.Need-returns-5
-returns-5 c = c .hands5 .ensures ∙ ap (λ a. record { verifier = c .before .before .before .before .before .args .step .verifier; told = toldOf a }) (sym (c .before .before .answer .given .1))
+returns-5 c = ap heardIn (c .hands5 .ensures) ∙ ap (λ a. record { verifier = c .before .before .before .before .before .args .step .verifier; told = saidAs replies (answerIn a) }) (sym (c .before .before .answer .given .1))
 
 returns-6 : tie.Need-returns-6
-returns-6 c = c .hands6 .ensures ∙ ap (λ a. record { verifier = c .before .before .before .before .before .args .step .verifier; told = toldOf a }) (sym (c .before .before .answer2 .given .1))
+returns-6 c = ap heardIn (c .hands6 .ensures) ∙ ap (λ a. record { verifier = c .before .before .before .before .before .args .step .verifier; told = saidAs replies (answerIn a) }) (sym (c .before .before .answer2 .given .1))
 
 returns-7 : tie.Need-returns-7
-returns-7 c = c .hands7 .ensures ∙ ap (λ a. record { verifier = c .before .before .before .before .before .args .step .verifier; told = toldOf a }) (sym (c .before .before .answer3 .given .1))
+returns-7 c = ap heardIn (c .hands7 .ensures) ∙ ap (λ a. record { verifier = c .before .before .before .before .before .args .step .verifier; told = saidAs replies (answerIn a) }) (sym (c .before .before .answer3 .given .1))
 
 pub stepped-spec : {M : Type 1} → statement M
 stepped-spec =

@@ -1,0 +1,73 @@
+-- "One trip, whole", in small mode, in full mode and with a change: the lists are answered as written, by computation.
+use Prim.Native.Nat.{ℕ}
+use mathlib.Core.Path.{refl}
+use mathlib.Core.Bool.{true}
+use mathlib.Core.List.{List}
+use Rattle.algebra.specs.Mod.{residue, addMod, negMod, mulMod}
+use Rattle.field.specs.Integer.{image}
+use Rattle.field.specs.Total.{inLimits, plus}
+use Rattle.vector.specs.Fold.{foldWith}
+use Rattle.vector.specs.Kernel.{arrived, topsAt, climbFrom, climbed, meetsAt, settled, entered, paddingFrom, paddingKernel, hornerAt}
+use Rattle.vector.specs.Opening.{tripleValues}
+use Rattle.vector.specs.Power.{sizeIn32}
+use Rattle.vector.specs.Rounds.{powers, firstFrom}
+use Rattle.vector.specs.Slice.{overwrite, foldSlice, messageSlice, every}
+use Rattle.vector.specs.Vector.{sum}
+use Rattle.wire.specs.Number.{bytes, bits}
+use Rattle.wire.specs.Proof.{allBelow, numbers, proofHeader, writeProof, writtenIn}
+use Rattle.prover.specs.Calls.{giveCall}
+use Rattle.prover.specs.Challenge.{challengeCall, challengedFull}
+use Rattle.prover.specs.Change.{cleared, toFullCall}
+use Rattle.prover.specs.Close.{closeCall}
+use Rattle.prover.specs.Full.{messageCall, messageGiven, endsCall}
+use Rattle.prover.specs.Open.{openCall, openAtCall, toSmallCall}
+use Rattle.prover.specs.Opening.{openingGiven, openingCall}
+use Rattle.prover.specs.Take.{entering, summedItem, enteredItem, takes}
+use Rattle.prover.specs.Values.{valuesOf}
+use Rattle.prover.specs.WellFormed.{runFormed, passFormed, wellFormed}
+use Rattle.prover.specs.Written.{writeCall}
+use Rattle.item.specs.Item.{partsOf}
+use Rattle.runs.specs.Trip.{sumOf}
+use Rattle.calls.specs.Lists.{each}
+use Rattle.calls.specs.Step.{step}
+use Rattle.calls.specs.World.{freshWorld}
+use Rattle.calls.specs.Table.{table}
+use Rattle.calls.specs.Example.{P, tripStart, trip, callsOf, answersOf, refusalsOf, lastOf, TripList}
+use Rattle.calls.specs.ExampleSmall.{inSmall}
+use Rattle.calls.specs.ExampleFull.{inFull}
+use Rattle.calls.specs.ExampleChange.{changing}
+use Rattle.calls.proofs.ExampleKept.{allTrue, all-sized, all-kept}
+
+module _ (f g : List ℕ) where
+  pub small-run : TripList inSmall (freshWorld tripStart f g)
+  unfolding each allTrue lastOf callsOf answersOf refusalsOf table sumOf step messageCall giveCall openCall openAtCall closeCall challengeCall toFullCall writeCall wellFormed runFormed passFormed powers firstFrom inLimits sizeIn32 partsOf takes entering summedItem enteredItem plus image residue negMod addMod mulMod hornerAt arrived topsAt climbFrom climbed meetsAt settled entered paddingFrom paddingKernel valuesOf tripleValues bytes bits allBelow numbers proofHeader writeProof writtenIn
+  small-run =
+      record {
+        sized = all-sized P (freshWorld tripStart f g) (callsOf inSmall) refl;
+        kept = all-kept P true trip (freshWorld tripStart f g) (callsOf inSmall) refl;
+        replies = refl;
+        refusals = refl;
+        file = refl;
+      }
+
+  pub full-run : TripList inFull (freshWorld tripStart f g)
+  unfolding each allTrue lastOf callsOf answersOf refusalsOf every table sumOf step messageGiven messageCall endsCall giveCall openCall toSmallCall closeCall challengedFull challengeCall cleared toFullCall openingGiven openingCall writeCall wellFormed runFormed passFormed powers firstFrom inLimits sizeIn32 partsOf takes entering summedItem enteredItem plus image residue negMod addMod mulMod sum foldWith overwrite foldSlice messageSlice arrived topsAt climbFrom climbed meetsAt settled entered paddingFrom paddingKernel tripleValues bytes bits allBelow numbers proofHeader writeProof writtenIn
+  full-run =
+      record {
+        sized = all-sized P (freshWorld tripStart f g) (callsOf inFull) refl;
+        kept = all-kept P true trip (freshWorld tripStart f g) (callsOf inFull) refl;
+        replies = refl;
+        refusals = refl;
+        file = refl;
+      }
+
+  pub changing-run : TripList changing (freshWorld tripStart f g)
+  unfolding each allTrue lastOf callsOf answersOf refusalsOf every table sumOf step messageGiven messageCall endsCall giveCall openCall openAtCall closeCall challengedFull challengeCall cleared toFullCall openingGiven openingCall writeCall wellFormed runFormed passFormed powers firstFrom inLimits sizeIn32 partsOf takes entering summedItem enteredItem plus image residue negMod addMod mulMod sum foldWith overwrite foldSlice messageSlice arrived topsAt climbFrom climbed meetsAt settled entered paddingFrom paddingKernel tripleValues bytes bits allBelow numbers proofHeader writeProof writtenIn
+  changing-run =
+      record {
+        sized = all-sized P (freshWorld tripStart f g) (callsOf changing) refl;
+        kept = all-kept P true trip (freshWorld tripStart f g) (callsOf changing) refl;
+        replies = refl;
+        refusals = refl;
+        file = refl;
+      }

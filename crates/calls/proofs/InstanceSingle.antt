@@ -1,0 +1,184 @@
+-- A run of one item, at the customer's modulus: no messages and no openings; its answers, its verifier's two lists, and demand 3 at it.
+use mathlib.Core.Path.{_≡_, refl}
+use mathlib.Core.Bool.{Bool, true}
+use mathlib.Core.List.{List, [], _∷_}
+use Prim.Native.Nat.{ℕ, zero, suc, _<_}
+use native.Mathlib.Omega.{arith}
+use lib.IntN.{negsuc}
+use lib.ListN.{replicate, take}
+use Rattle.algebra.specs.Mod.{residue, addMod, negMod, mulMod}
+use Rattle.refusal.specs.Outcome.{answered}
+use Rattle.field.specs.Integer.{image}
+use Rattle.field.specs.Total.{inLimits, plus}
+use Rattle.wire.specs.Number.{num, bytes, numAt, signed, bits}
+use Rattle.wire.specs.Header.{marked}
+use Rattle.wire.specs.Proof.{allBelow, readProof, readProofOf, numbers as fileNumbers, proofHeader}
+use Rattle.vector.specs.Rounds.{powers, firstFrom}
+use Rattle.vector.specs.Power.{sizeIn32}
+use Rattle.vector.specs.Vector.{weight, sum}
+use Rattle.vector.specs.Fold.{foldWith}
+use Rattle.vector.specs.Slice.{overwrite, fifteen, every}
+use Rattle.vector.specs.Kernel.{arrived, topsAt, climbFrom, climbed, meetsAt, settled, entered, paddingFrom, paddingKernel}
+use Rattle.prover.specs.Reply as reply
+use Rattle.prover.specs.WellFormed.{runFormed, passFormed, wellFormed}
+use Rattle.prover.specs.Take.{entering, summedItem, enteredItem, takes}
+use Rattle.prover.specs.Calls.{giveCall}
+use Rattle.prover.specs.Open.{openCall}
+use Rattle.prover.specs.Change.{cleared, toFullCall}
+use Rattle.prover.specs.Close.{closeCall}
+use Rattle.prover.specs.Full.{endsCall}
+use Rattle.prover.specs.Start.{started, freshRun, startPlain}
+use Rattle.verifier.specs.Reply as heard
+use Rattle.verifier.specs.Records.{yes}
+use Rattle.verifier.specs.WellFormed.{turnOf, wellFormed as verifierFormed}
+use Rattle.verifier.specs.Starts.{freshVerifier}
+use Rattle.verifier.specs.Sums.{entering as verifierEntering, oneMore}
+use Rattle.verifier.specs.Claims.{closedWith, passedWith, failedNow, hears, finds}
+use Rattle.verifier.specs.Calls.{passOpen, give, close, verdictTurn, verdict}
+use Rattle.verifier.specs.ProofFile.{hearsNext, hearsFirst, endsAgree, compares, afterFile, proof}
+use Rattle.item.specs.declared.Given.the-variants.{Reading}
+use Rattle.item.specs.Item.{partsOf}
+use Rattle.runs.specs.Trip.{Trip, itemOf, sumOf}
+use Rattle.calls.specs.declared.query.Query.the-variants as query
+use Rattle.calls.specs.Lists.{after, each}
+use Rattle.calls.specs.Step.{Lent, Result, isAnswered, step}
+use Rattle.calls.specs.Meaning.{says, messagesTo}
+use Rattle.calls.specs.World.{Made, World, freshWorld, came, onward}
+use Rattle.calls.specs.QueryStep.{ask}
+use Rattle.calls.specs.QueryStep as said
+use Rattle.calls.specs.QueryState.{Posed, plainly, freshHearing}
+use Rattle.calls.specs.Starts.{Whole}
+use Rattle.calls.specs.Proper.{ItemFits, Valid, AllNonzero, itemsBelow, roundsFrom, openingsAt, Brings, properRun}
+use Rattle.calls.specs.Carried.{byMessages, byFile, writesProof}
+use Rattle.calls.specs.WholeList.{messagesFrom, wholeByMessages, wholeByFile}
+use Rattle.calls.specs.Demand3.{AllSized, AllAnswered, AllKept, AllRight, AllAgreed}
+use Rattle.calls.specs.Example.{repliesFrom}
+use Rattle.calls.specs.QueryExample.{toldAll}
+use Rattle.calls.proofs.Demand3.{demand3-31}
+
+abbrev P : ℕ
+P = 2147483647
+
+-- the reading -180 for 10 minutes
+abbrev single : Trip
+single = record { start = record { items = 1; rounds = 0; plain = true; twists = replicate 15 0 }; items = Reading (negsuc 179) 10 ∷ [] }
+
+pub single-starts : startPlain 1 ≡ answered (started (freshRun (single .start)))
+unfolding startPlain powers firstFrom
+single-starts = refl
+
+single-whole : Whole single
+unfolding powers firstFrom
+single-whole = record { start = record { least = omega arith; most = omega arith; rounds = refl }; items = refl }
+
+single-valid : Valid P single
+unfolding powers firstFrom inLimits sumOf
+single-valid = record { whole = single-whole; items = fits; total = λ e. refl }
+  where
+    fits : (i : ℕ) → i < 1 → ItemFits P true (itemOf single i)
+    fits zero h = (refl, omega arith, omega arith)
+    fits (suc i) h = absurd (omega arith)
+
+-- one place that holds anything
+abbrev singleLent : Lent
+singleLent = record { f = 91 ∷ []; g = 81 ∷ []; file = [] }
+
+-- no challenges, and a point at which nothing is asked
+single-brings : (k : ℕ) → Brings P single k [] (2 ∷ []) singleLent
+single-brings k = record { count = refl; challenges = none; points = one; room = λ h. (omega arith, omega arith) }
+  where
+    none : AllNonzero P []
+    none j h = absurd (omega arith)
+
+    one : AllNonzero P (2 ∷ [])
+    one zero h = refl
+    one (suc j) h = absurd (omega arith)
+
+abbrev singleWorld : World
+singleWorld = freshWorld (single .start) (singleLent .f) (singleLent .g)
+
+abbrev singleRun : ℕ → List Made
+singleRun k = properRun P single k [] (2 ∷ []) singleLent
+
+-- its answers, in small mode
+pub single-replies :
+    repliesFrom singleWorld (singleRun 2)
+    ≡ says reply.opened
+    ∷ says reply.taken
+    ∷ says (reply.total (negsuc 1799))
+    ∷ says reply.opened
+    ∷ says reply.taken
+    ∷ says (reply.ends 2147483467 10)
+    ∷ []
+unfolding each itemsBelow roundsFrom openingsAt step endsCall giveCall openCall closeCall cleared toFullCall wellFormed runFormed passFormed powers firstFrom inLimits sizeIn32 partsOf takes entering summedItem enteredItem plus image residue negMod addMod mulMod sum foldWith overwrite arrived topsAt climbFrom climbed meetsAt settled entered paddingFrom paddingKernel every
+single-replies = refl
+
+-- and with the change before the ends
+pub single-changed :
+    repliesFrom singleWorld (singleRun 0)
+    ≡ says reply.opened
+    ∷ says reply.taken
+    ∷ says (reply.total (negsuc 1799))
+    ∷ says reply.opened
+    ∷ says reply.taken
+    ∷ says reply.changed
+    ∷ says (reply.ends 2147483467 10)
+    ∷ []
+unfolding each itemsBelow roundsFrom openingsAt step endsCall giveCall openCall closeCall cleared toFullCall wellFormed runFormed passFormed powers firstFrom inLimits sizeIn32 partsOf takes entering summedItem enteredItem plus image residue negMod addMod mulMod sum foldWith overwrite arrived topsAt climbFrom climbed meetsAt settled entered paddingFrom paddingKernel every
+single-changed = refl
+
+-- its verifier's own list: the item, the close and the verdict; or the item and the file of 18 bytes
+abbrev singleList : List Posed
+singleList = plainly (query.Give (Reading (negsuc 179) 10)) ∷ plainly (query.Close (negsuc 1799)) ∷ plainly query.Verdict ∷ []
+
+abbrev singleFile : List ℕ
+singleFile = 82 ∷ 86 ∷ 80 ∷ 1 ∷ 0 ∷ 0 ∷ 248 ∷ 248 ∷ 255 ∷ 255 ∷ 75 ∷ 255 ∷ 255 ∷ 127 ∷ 10 ∷ 0 ∷ 0 ∷ 0 ∷ []
+
+abbrev singleByFile : List Posed
+singleByFile =
+    plainly (query.Give (Reading (negsuc 179) 10)) ∷ (record { query = query.Proof; shown = record { file = singleFile; values = [] } }) ∷ []
+
+pub single-list : wholeByMessages P single [] (2 ∷ []) ≡ singleList
+unfolding messagesFrom sumOf
+single-list = refl
+
+pub single-file-list : wholeByFile P single [] (2 ∷ []) ≡ singleByFile
+unfolding messagesTo sumOf foldWith image residue negMod bytes bits fileNumbers proofHeader
+single-file-list = refl
+
+pub single-told :
+    toldAll (freshHearing (single .start) []) singleList
+    ≡ answered (said.replies heard.taken) ∷ answered (said.replies heard.closed) ∷ answered (said.finds yes) ∷ []
+unfolding each ask give passOpen verifierFormed turnOf partsOf oneMore verifierEntering freshVerifier fifteen overwrite powers firstFrom weight image residue addMod negMod mulMod close closedWith inLimits hears passedWith failedNow verdict verdictTurn finds
+single-told = refl
+
+pub single-file-told : toldAll (freshHearing (single .start) []) singleByFile ≡ answered (said.replies heard.taken) ∷ answered (said.finds yes) ∷ []
+unfolding each ask give passOpen verifierFormed turnOf partsOf oneMore verifierEntering freshVerifier fifteen overwrite powers firstFrom weight image residue addMod negMod mulMod closedWith inLimits hears passedWith failedNow finds proof readProofOf readProof marked allBelow numAt num bytes signed bits proofHeader fileNumbers hearsNext hearsFirst endsAgree compares afterFile
+single-file-told = refl
+
+-- what demand 3 says of them, whatever the mode
+module _ (k : ℕ) where
+  pub single-proper : AllAnswered P singleWorld (singleRun k)
+      × AllSized P singleWorld (singleRun k)
+      × ((through : Bool) → AllKept P through single singleWorld (singleRun k))
+  single-proper = demand3-31 .proper single single-valid k [] (2 ∷ []) singleLent (single-brings k)
+
+  pub single-right : AllRight P true single singleWorld (singleRun k)
+  single-right =
+      demand3-31 .answers true single single-whole (singleLent .f) (singleLent .g) (singleRun k) (single-proper .1) (single-proper .2 true)
+
+  -- a file with room
+  abbrev into : Lent
+  into = record { f = []; g = []; file = replicate 18 0 }
+
+  abbrev wrote : Result
+  wrote = came P (after (onward P) singleWorld (singleRun k)) (writesProof into)
+
+  pub single-verifier : (byMessages P single singleWorld (singleRun k) ≡ wholeByMessages P single [] (2 ∷ []))
+      × AllAgreed P (freshHearing (single .start) []) (byMessages P single singleWorld (singleRun k))
+      × (isAnswered (wrote .answer) ≡ true)
+      × (byFile P single singleWorld (singleRun k) (take 18 (wrote .lent .file)) ≡ wholeByFile P single [] (2 ∷ []))
+      × AllAgreed P (freshHearing (single .start) []) (byFile P single singleWorld (singleRun k) (take 18 (wrote .lent .file)))
+  single-verifier =
+      let v = demand3-31 .verifierProper single single-valid k [] (2 ∷ []) singleLent (single-brings k) in
+      let w = v .2 refl into (omega arith) in (v .0, v .1, w .0, w .1, w .2)

@@ -1,0 +1,177 @@
+-- A twisted run that changes its mode in the middle, at the customer's modulus: its calls, its answers, its verifier's list, and demand 3 at it.
+use mathlib.Core.Path.{_≡_, refl, sym}
+use mathlib.Core.Bool.{Bool, true, false, true≢false}
+use mathlib.Core.List.{List, [], _∷_, _++_}
+use Prim.Native.Nat.{ℕ, zero, suc, _<_}
+use native.Mathlib.Omega.{arith}
+use lib.ListN.{replicate}
+use Rattle.algebra.specs.Mod.{residue, addMod, subMod, negMod, mulMod, halfOne, halfMod, inverseIn, inverseMod, divMod}
+use Rattle.refusal.specs.Outcome.{answered}
+use Rattle.field.specs.Integer.{image}
+use Rattle.field.specs.Total.{inLimits, plus}
+use Rattle.vector.specs.Rounds.{powers, firstFrom}
+use Rattle.vector.specs.Power.{sizeIn32}
+use Rattle.vector.specs.Vector.{weight, sum}
+use Rattle.vector.specs.Fold.{foldWith}
+use Rattle.vector.specs.Opening.{tripleValues, opens}
+use Rattle.vector.specs.Slice.{overwrite, foldSlice, messageSlice, fifteen, every}
+use Rattle.vector.specs.Kernel.{hornerAt, arrived, topsAt, climbFrom, climbed, meetsAt, settled, entered, paddingFrom, paddingKernel}
+use Rattle.prover.specs.Reply as reply
+use Rattle.prover.specs.WellFormed.{runFormed, passFormed, wellFormed}
+use Rattle.prover.specs.Values.{inNinety, valuesOf}
+use Rattle.prover.specs.Take.{entering, summedItem, enteredItem, takes}
+use Rattle.prover.specs.Calls.{giveCall}
+use Rattle.prover.specs.Open.{openCall, openAtCall}
+use Rattle.prover.specs.Change.{cleared, toFullCall}
+use Rattle.prover.specs.Close.{closeCall}
+use Rattle.prover.specs.Full.{messageGiven, messageCall, endsCall}
+use Rattle.prover.specs.Challenge.{challengedFull, challengeCall}
+use Rattle.prover.specs.Opening.{openingGiven, openingCall}
+use Rattle.prover.specs.Start.{started, freshRun, startTwisted}
+use Rattle.verifier.specs.Reply as heard
+use Rattle.verifier.specs.Records.{yes, holds}
+use Rattle.verifier.specs.WellFormed.{turnOf, wellFormed as verifierFormed}
+use Rattle.verifier.specs.Starts.{freshVerifier}
+use Rattle.verifier.specs.Sums.{entering as verifierEntering, oneMore}
+use Rattle.verifier.specs.Claims.{closedWith, passedWith, failedNow, hears, finds}
+use Rattle.verifier.specs.Openings.{firstFault, openingFinds}
+use Rattle.verifier.specs.Calls.{passOpen, give, closeClaim, messageTurn, allReduced3, message, verdictTurn, verdict, hasRounds, checkOpening}
+use Rattle.item.specs.declared.Given.the-variants.{Numbers}
+use Rattle.item.specs.Item.{partsOf}
+use Rattle.runs.specs.Trip.{Trip, itemOf}
+use Rattle.calls.specs.declared.query.Query.the-variants as query
+use Rattle.calls.specs.Lists.{each}
+use Rattle.calls.specs.Step.{Lent, step}
+use Rattle.calls.specs.Meaning.{Answer, says}
+use Rattle.calls.specs.World.{Made, World, freshWorld}
+use Rattle.calls.specs.QueryStep.{ask}
+use Rattle.calls.specs.QueryStep as said
+use Rattle.calls.specs.QueryState.{Posed, plainly, freshHearing}
+use Rattle.calls.specs.Starts.{Whole}
+use Rattle.calls.specs.Proper.{ItemFits, Valid, AllNonzero, itemsBelow, roundsFrom, openingsAt, Brings, properRun}
+use Rattle.calls.specs.Carried.{byMessages}
+use Rattle.calls.specs.WholeList.{messagesFrom, wholeByMessages}
+use Rattle.calls.specs.Demand3.{AllSized, AllAnswered, AllKept, AllRight, AllAgreed}
+use Rattle.calls.specs.Example.{repliesFrom}
+use Rattle.calls.specs.QueryExample.{toldAll}
+use Rattle.calls.proofs.Demand3.{demand3-31}
+
+abbrev P : ℕ
+P = 2147483647
+
+-- A TWISTED RUN of the pairs (3, 4), (6, 7), (8, 9) with twists 5, 7: f is 3, 30, 56, 0; challenges 2, 3; point 3; it changes to full mode
+-- before round 1
+abbrev twisted : Trip
+twisted =
+    record {
+      start = record { items = 3; rounds = 2; plain = false; twists = 5 ∷ 7 ∷ replicate 13 0 };
+      items = Numbers 3 4 ∷ Numbers 6 7 ∷ Numbers 8 9 ∷ [];
+    }
+
+pub twisted-starts : startTwisted P 3 (5 ∷ 7 ∷ []) ≡ answered (started (freshRun (twisted .start)))
+unfolding startTwisted powers firstFrom fifteen overwrite every
+twisted-starts = refl
+
+twisted-whole : Whole twisted
+unfolding powers firstFrom
+twisted-whole = record { start = record { least = omega arith; most = omega arith; rounds = refl }; items = refl }
+
+twisted-valid : Valid P twisted
+unfolding powers firstFrom
+twisted-valid = record { whole = twisted-whole; items = fits; total = λ e. absurd (true≢false (sym e)) }
+  where
+    fits : (i : ℕ) → i < 3 → ItemFits P false (itemOf twisted i)
+    fits zero h = (refl, omega arith, omega arith)
+    fits (suc zero) h = (refl, omega arith, omega arith)
+    fits (suc (suc zero)) h = (refl, omega arith, omega arith)
+    fits (suc (suc (suc i))) h = absurd (omega arith)
+
+-- four places that hold anything
+abbrev twistedLent : Lent
+twistedLent = record { f = 91 ∷ 92 ∷ 93 ∷ 94 ∷ []; g = 81 ∷ 82 ∷ 83 ∷ 84 ∷ []; file = [] }
+
+twisted-brings : Brings P twisted 1 (2 ∷ 3 ∷ []) (3 ∷ []) twistedLent
+twisted-brings = record { count = refl; challenges = two; points = one; room = λ h. (omega arith, omega arith) }
+  where
+    two : AllNonzero P (2 ∷ 3 ∷ [])
+    two zero h = refl
+    two (suc zero) h = refl
+    two (suc (suc j)) h = absurd (omega arith)
+
+    one : AllNonzero P (3 ∷ [])
+    one zero h = refl
+    one (suc j) h = absurd (omega arith)
+
+abbrev twistedWorld : World
+twistedWorld = freshWorld (twisted .start) (twistedLent .f) (twistedLent .g)
+
+abbrev twistedRun : List Made
+twistedRun = properRun P twisted 1 (2 ∷ 3 ∷ []) (3 ∷ []) twistedLent
+
+abbrev twistedOpening : List ℕ
+twistedOpening = 597 ∷ 417 ∷ 567 ∷ 231 ∷ 2147483542 ∷ 231 ∷ 106 ∷ 64 ∷ 99 ∷ 45 ∷ 2147483638 ∷ 45 ∷ []
+
+abbrev items3 : List Answer
+items3 = says reply.opened ∷ says reply.taken ∷ says reply.taken ∷ says reply.taken ∷ []
+
+-- its answers
+pub twisted-replies :
+    repliesFrom twistedWorld twistedRun
+    ≡ items3
+    ++ (says (reply.fieldTotal 726) ∷ [])
+    ++ items3
+    ++ (says (reply.message 516 141 210) ∷ says reply.challenged ∷ [])
+    ++ items3
+    ++ (says reply.changed
+    ∷ says (reply.message 1134 1575 504)
+    ∷ says reply.challenged
+    ∷ says (reply.ends 231 45)
+    ∷ (record { answer = answered reply.opening; values = inNinety 2 twistedOpening })
+    ∷ [])
+unfolding each itemsBelow roundsFrom openingsAt step messageGiven messageCall endsCall giveCall openCall openAtCall closeCall challengedFull challengeCall cleared toFullCall openingGiven openingCall wellFormed runFormed passFormed powers firstFrom inLimits sizeIn32 partsOf takes entering weight summedItem enteredItem plus image residue negMod addMod mulMod sum foldWith overwrite foldSlice messageSlice hornerAt arrived topsAt climbFrom climbed meetsAt settled entered paddingFrom paddingKernel valuesOf tripleValues every
+twisted-replies = refl
+
+-- its verifier's own list: the items, the claim, two messages, the verdict and a check
+abbrev twistedList : List Posed
+twistedList =
+    plainly (query.Give (Numbers 3 4))
+    ∷ plainly (query.Give (Numbers 6 7))
+    ∷ plainly (query.Give (Numbers 8 9))
+    ∷ plainly (query.CloseClaim 726)
+    ∷ plainly (query.Message 516 141 210)
+    ∷ plainly (query.Message 1134 1575 504)
+    ∷ plainly query.Verdict
+    ∷ (record { query = query.CheckOpening 3; shown = record { file = []; values = twistedOpening } })
+    ∷ []
+
+pub twisted-list : wholeByMessages P twisted (2 ∷ 3 ∷ []) (3 ∷ []) ≡ twistedList
+unfolding messagesFrom tripleValues powers firstFrom residue negMod addMod mulMod sum foldWith weight
+twisted-list = refl
+
+pub twisted-told :
+    toldAll (freshHearing (twisted .start) (2 ∷ 3 ∷ [])) twistedList
+    ≡ answered (said.replies heard.taken)
+    ∷ answered (said.replies heard.taken)
+    ∷ answered (said.replies heard.taken)
+    ∷ answered (said.replies heard.closed)
+    ∷ answered (said.replies heard.passed)
+    ∷ answered (said.replies heard.passed)
+    ∷ answered (said.finds yes)
+    ∷ answered (said.opens holds)
+    ∷ []
+unfolding each ask give passOpen verifierFormed turnOf partsOf oneMore verifierEntering freshVerifier fifteen overwrite powers firstFrom weight image residue addMod negMod mulMod closeClaim closedWith inLimits message messageTurn allReduced3 hears passedWith failedNow verdict verdictTurn finds checkOpening hasRounds every openingFinds firstFault opens divMod inverseMod inverseIn halfMod halfOne subMod
+twisted-told = refl
+
+-- what demand 3 says of them
+pub twisted-proper : AllAnswered P twistedWorld twistedRun
+    × AllSized P twistedWorld twistedRun
+    × ((through : Bool) → AllKept P through twisted twistedWorld twistedRun)
+twisted-proper = demand3-31 .proper twisted twisted-valid 1 (2 ∷ 3 ∷ []) (3 ∷ []) twistedLent twisted-brings
+
+pub twisted-right : AllRight P true twisted twistedWorld twistedRun
+twisted-right =
+    demand3-31 .answers true twisted twisted-whole (twistedLent .f) (twistedLent .g) twistedRun (twisted-proper .1) (twisted-proper .2 true)
+
+pub twisted-verifier : (byMessages P twisted twistedWorld twistedRun ≡ wholeByMessages P twisted (2 ∷ 3 ∷ []) (3 ∷ []))
+    × AllAgreed P (freshHearing (twisted .start) (2 ∷ 3 ∷ [])) (byMessages P twisted twistedWorld twistedRun)
+twisted-verifier = let v = demand3-31 .verifierProper twisted twisted-valid 1 (2 ∷ 3 ∷ []) (3 ∷ []) twistedLent twisted-brings in (v .0, v .1)

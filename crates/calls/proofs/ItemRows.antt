@@ -1,0 +1,48 @@
+-- What the rows that an answered item passed say.
+use mathlib.Core.Path.{_≡_}
+use mathlib.Core.Bool.{true, not, _&&_}
+use mathlib.Core.Option.{none}
+use Prim.Native.Nat.{ℕ, _-_, _<_, _≤_}
+use lib.Dec.{leb, ltb}
+use lib.ListN.{length}
+use borrow.Author.Tests.{leb-true, ltb-true}
+use Rattle.refusal.specs.Limit.{maxWeight}
+use Rattle.item.specs.declared.Given.{Given}
+use Rattle.item.specs.declared.Given.the-variants.{Reading, Numbers}
+use Rattle.calls.specs.declared.Call.the-variants as call
+use Rattle.calls.specs.Step.{Lent}
+use Rattle.calls.specs.State.{isOpen, State}
+use Rattle.calls.specs.Table.{givenRows, placeRow, table}
+use Rattle.calls.proofs.Steps.{row-passed}
+use Rattle.calls.proofs.Turns.{both, row-at-passed}
+
+-- an item within its limits
+abbrev pub Limits : ℕ → Given → Type 0
+Limits p (Reading z w) = w ≤ maxWeight
+Limits p (Numbers x y) = (x < p) × (y < p)
+
+pub record Admitted (p : ℕ) (a : State) (x : Given) (l : Lent) : Type 0 where
+  pub opened : isOpen (a .pass .kind) ≡ true
+  pub more : length (a .pass .items) < a .start .items
+  pub limits : Limits p x
+  pub place : placeRow a l ≡ none
+
+module _ (p : ℕ) (a : State) (l : Lent) where
+  own-rows : (x : Given) → givenRows p (a .start) (a .start .items - 1 - length (a .pass .items)) x (placeRow a l) ≡ none → Limits p x × (placeRow a l ≡ none)
+  own-rows (Reading z w) e =
+      let v = row-passed (a .start .plain) 10 _ e in
+      let x = row-at-passed (leb w maxWeight) 5 (a .start .items - 1 - length (a .pass .items)) _ (v .1) in
+      (leb-true w maxWeight (x .0), x .1)
+  own-rows (Numbers x y) e =
+      let v = row-passed (not (a .start .plain)) 10 _ e in
+      let z = row-passed (ltb x p && ltb y p) 16 _ (v .1) in
+      let below = both (ltb x p) (ltb y p) (z .0) in
+      ((ltb-true x p (below .0), ltb-true y p (below .1)), z .1)
+
+  pub item-admitted : (x : Given) → table p a (call.Give x) l ≡ none → Admitted p a x l
+  unfolding table
+  item-admitted x e =
+      let q = row-passed (isOpen (a .pass .kind)) 10 _ e in
+      let u = row-passed (ltb (length (a .pass .items)) (a .start .items)) 8 _ (q .1) in
+      let v = own-rows x (u .1) in
+      record { opened = q .0; more = ltb-true _ _ (u .0); limits = v .0; place = v .1 }
