@@ -23,6 +23,7 @@ pub mod QuerySteps
 pub mod QueryKeeps
 pub mod QueryLists
 pub mod QueryVerdicts
+pub mod StartKept
 pub mod HeardMeaning
 pub mod HeardTrip
 pub mod HeardFollows
