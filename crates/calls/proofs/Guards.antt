@@ -1,13 +1,10 @@
 -- The checks of each call are the rows of the table: over any records that stand for a state.
-use mathlib.Core.Path.{_≡_, refl, sym, ap, ap₂, _∙_}
+use mathlib.Core.Path.{_≡_, refl, ap, ap₂, _∙_}
 use mathlib.Core.Bool.{Bool, true, false, cond, not, _&&_, _||_}
-use mathlib.Core.Option.{Option, none, some}
+use mathlib.Core.Option.{Option, none}
 use Prim.Native.Nat.{ℕ, _-_, _≤_}
-use native.Mathlib.Omega.{arith}
 use lib.Dec.{eqb, leb, ltb}
-use lib.IntN.{ℤ}
 use lib.ListN.{length}
-use borrow.Author.Tests.{le-leb, leb-true, ltb-true, ltb-false}
 use Rattle.refusal.specs.Limit.{maxWeight}
 use Rattle.refusal.specs.Outcome.{Outcome, answered, refusedAt, require, requireAt}
 use Rattle.field.specs.Total.{inLimits}
@@ -19,8 +16,7 @@ use Rattle.prover.specs.declared.Mode.{Mode}
 use Rattle.prover.specs.declared.Mode.the-variants.{Small, Full}
 use Rattle.prover.specs.declared.Next.{Next}
 use Rattle.prover.specs.declared.Next.the-variants as next
-use Rattle.prover.specs.declared.Kind.{Kind}
-use Rattle.prover.specs.declared.Kind.the-variants.{Shut, Asked, Change}
+use Rattle.prover.specs.declared.Kind.the-variants.{Shut}
 use Rattle.prover.specs.declared.Run.{Run}
 use Rattle.prover.specs.declared.Pass.{Pass}
 use Rattle.prover.specs.Records.{Out, out, isChange, isFull, isOpen, isSmall}

@@ -1,7 +1,7 @@
 -- The verifier while its answered calls bring the trip's: its sums are those of the items so far, and its claim is the scalar product of
 -- the current folds.
 use mathlib.Core.Path.{_≡_, refl, sym, ap, ap₂, subst, _∙_}
-use mathlib.Core.Bool.{Bool, true, false, cond, true≢false}
+use mathlib.Core.Bool.{true, false, cond, true≢false}
 use mathlib.Core.List.{List}
 use Prim.Native.Nat.{ℕ, suc, _^_, _≤_, _<_}
 use native.Mathlib.Omega.{arith}
@@ -10,7 +10,6 @@ use lib.ListN.{length}
 use borrow.Author.Tests.{eq-eqb, eqb-true}
 use Rattle.algebra.specs.Mod.{addMod, mulMod}
 use Rattle.refusal.specs.Limit.{maxWeight}
-use Rattle.refusal.specs.Outcome.{answered}
 use Rattle.vector.specs.Rounds.{size}
 use Rattle.vector.specs.Vector.{at, dot, weight}
 use Rattle.vector.specs.Fold.{fold, endValue}

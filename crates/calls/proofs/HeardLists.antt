@@ -1,6 +1,6 @@
 -- A call of a verifier's list whose answered calls bring the trip's: every message passes, every verdict is yes, and every opening of the
 -- trip opens.
-use mathlib.Core.Path.{_≡_, refl, sym, ap, subst, _∙_}
+use mathlib.Core.Path.{_≡_, refl, sym, ap, _∙_}
 use mathlib.Core.Bool.{true, true≢false}
 use mathlib.Core.List.{List}
 use mathlib.Core.Option.{none}

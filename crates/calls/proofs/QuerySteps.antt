@@ -1,13 +1,12 @@
 -- A CALL IS THE TABLE'S: what it hands back where the table has nothing against it, and a refusal that changes nothing where it has.
 use mathlib.Core.Path.{_≡_, refl, ap, _∙_}
-use mathlib.Core.Bool.{Bool, true, false, cond}
+use mathlib.Core.Bool.{Bool, cond}
 use mathlib.Core.Option.{Option, none, some}
 use Prim.Native.Nat.{ℕ}
-use lib.Dec.{eqb}
 use Rattle.refusal.specs.Outcome.{Outcome, answered}
 use Rattle.field.specs.Integer.{image}
 use Rattle.wire.specs.Proof.{proofTotal}
-use Rattle.vector.specs.Message.{Message, passes}
+use Rattle.vector.specs.Message.{Message}
 use Rattle.verifier.specs.declared.Verifier.{Verifier}
 use Rattle.verifier.specs.Reply as reply
 use Rattle.verifier.specs.Records.{Replied, leaves}

@@ -10,7 +10,6 @@ use Rattle.refusal.specs.Outcome.{Outcome, answered, refused, refusedAt}
 use Rattle.vector.specs.Rounds.{powers, firstFrom}
 use Rattle.item.specs.declared.Start.{Start}
 use Rattle.item.specs.declared.Given.the-variants.{Reading}
-use Rattle.item.specs.Start.{plainStart}
 use Rattle.prover.specs.Reply as reply
 use Rattle.prover.specs.Records.{noValues}
 use Rattle.prover.specs.Values.{inNinety}

@@ -1,6 +1,6 @@
 -- What a run's list of calls gave, and a verifier's list that brings it: document 01, "Its answered calls bring the trip's items first
 -- to last, the run's total, and the run's messages in order or its proof file."
-use Prim.Native.Nat.{ℕ, _+_, _*_}
+use Prim.Native.Nat.{ℕ, _*_}
 use mathlib.Core.Path.{_≡_}
 use mathlib.Core.Bool.{true}
 use mathlib.Core.List.{List}

@@ -1,7 +1,7 @@
 -- The starts of a run and of a verifier: refused exactly by 3 and 6, and otherwise the fresh record that every list begins with.
 use Prim.Native.Nat.{ℕ, _≤_}
 use mathlib.Core.Path.{_≡_}
-use mathlib.Core.Bool.{true, false, _&&_}
+use mathlib.Core.Bool.{_&&_}
 use mathlib.Core.List.{List}
 use mathlib.Core.Option.{Option, none}
 use lib.Dec.{eqb, leb}

@@ -3,7 +3,7 @@ use mir.Val.{toZ, ofZ}
 use mir.Syntax.{w16}
 use mir.Facts.{toZ-ofZ}
 use mathlib.Core.Path.{_≡_, sym, ap, _∙_}
-use Rattle.item.specs.declared.Given.the-variants.{Reading, Numbers}
+use Rattle.item.specs.declared.Given.the-variants.{Reading}
 use Rattle.item.specs.Start.{modulusOf}
 use Rattle.verifier.specs.Records.{leaves}
 use Rattle.verifier.specs.Calls.{give}
