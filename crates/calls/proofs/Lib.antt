@@ -24,6 +24,7 @@ pub mod QueryKeeps
 pub mod QueryLists
 pub mod QueryKept
 pub mod QueryVerdicts
+pub mod StartKept
 pub mod HeardMeaning
 pub mod HeardTrip
 pub mod HeardFollows

@@ -6,7 +6,7 @@ use Prim.Native.Nat.{ℕ}
 use Rattle.refusal.specs.Outcome.{Outcome, answered}
 use Rattle.field.specs.Integer.{image}
 use Rattle.wire.specs.Proof.{proofTotal}
-use Rattle.vector.specs.Message.{Message, passes}
+use Rattle.vector.specs.Message.{Message}
 use Rattle.verifier.specs.declared.Verifier.{Verifier}
 use Rattle.verifier.specs.Reply as reply
 use Rattle.verifier.specs.Records.{Replied, leaves}

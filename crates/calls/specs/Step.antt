@@ -33,6 +33,7 @@ pub record Result : Type 0 where
   pub values : List ℕ
   pub lent : Lent
 
+-- of a run's call and of a verifier's
 abbrev pub isAnswered : {A : Type 0} → Outcome A → Bool
 isAnswered (answered x) = true
 isAnswered (refused k) = false
@@ -46,7 +47,7 @@ abbrev pub leaving : Lent → Out → Result
 leaving l o =
     record { run = o .run; pass = o .pass; answer = o .answer; values = o .values; lent = record { f = o .f; g = o .g; file = l .file } }
 
--- and this file
+-- the call that writes the proof leaves the buffers, and the file as written
 abbrev pub writing : ℕ → Run → Pass → Lent → Result
 writing p r s l =
     keeping (record { f = l .f; g = l .g; file = writtenIn (writeCall p r s (l .file)) (proofOf r) (l .file) })
