@@ -10,6 +10,7 @@ use lib.ListN.{length}
 use borrow.Author.Tests.{eq-eqb, eqb-true}
 use Rattle.algebra.specs.Mod.{addMod, mulMod}
 use Rattle.refusal.specs.Limit.{maxWeight}
+use Rattle.refusal.specs.Outcome.{answered}
 use Rattle.vector.specs.Rounds.{size}
 use Rattle.vector.specs.Vector.{at, dot, weight}
 use Rattle.vector.specs.Fold.{fold, endValue}
