@@ -3,18 +3,6 @@ ghost use mathlib.Core.Path.{_≡_};
 ghost use Rattle.algebra.specs.Mod.{residue, addMod, subMod, negMod, mulMod, halfMod, inverseMod};
 ghost use Prim.Native.Nat.{_<_};
 
-// 2^31 is 1 modulo 2^31 - 1.
-fn mersenne(x: u64) -> u32
-    ensures { λ r. ⌜ r ≡ residue 2147483647 x ⌝ }
-{
-    let y = x % 2147483648 + x / 2147483648;
-    let z = y % 2147483648 + y / 2147483648;
-    if z < 2147483647 {
-        return z as u32;
-    }
-    (z - 2147483647) as u32
-}
-
 // In two steps, so that the compiler does not make one hardware division of this and the known modulus.
 fn other(p: u32, x: u64) -> u32
     requires { ⌜ 0 < p ⌝ }
@@ -29,7 +17,7 @@ pub fn reduce(p: u32, x: u64) -> u32
     ensures { λ r. ⌜ r ≡ residue p x ⌝ }
 {
     match p {
-        2147483647 => mersenne(x),
+        2147483647 => (x % 2147483647) as u32,
         0 => 0,
         _ => other(p, x),
     }
