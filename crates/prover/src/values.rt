@@ -34,7 +34,7 @@ pub fn values_of(evals: Evals, rounds: u32) -> [u32; 90]
     ensures { λ r. ⌜ r ≡ valuesOf evals rounds ⌝ }
 {
     let none = [0u32; 90];
-    if rounds > 15 {
+    if rounds > refusal::MAX_ROUNDS {
         return none;
     }
     let n = rounds as usize;
