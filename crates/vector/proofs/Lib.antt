@@ -1,4 +1,3 @@
-pub mod KernelSteps
 pub mod Guards
 pub mod Overwrite
 pub mod Accumulate
@@ -24,13 +23,4 @@ pub mod Horner
 pub mod Weights
 pub mod EndValues
 pub mod Openings
-pub mod KernelArrays
-pub mod KernelMachine
-pub mod KernelPadding
 pub mod Arrivals
-pub mod KernelEvals
-pub mod KernelPass
-pub mod KernelEnds
-pub mod KernelOpen
-pub mod KernelLevels
-pub mod KernelStream

@@ -1,0 +1,10 @@
+pub mod KernelSteps
+pub mod KernelArrays
+pub mod KernelMachine
+pub mod KernelPadding
+pub mod KernelEvals
+pub mod KernelPass
+pub mod KernelEnds
+pub mod KernelOpen
+pub mod KernelLevels
+pub mod KernelStream
