@@ -8,16 +8,17 @@ use native.Mathlib.Numerals.{add-one}
 use native.Mathlib.Omega.{arith}
 use lib.ListN.{length, getD, set, length-set}
 use lib.Seq.{getD-set-same, getD-set-other}
+use borrow.Author.Tests.{le-ltb}
 use Rattle.kernel.specs.declared.Evals.{Evals}
 use Rattle.kernel.specs.declared.Kernel.{Kernel}
+use Rattle.kernel.specs.declared.Sums.{Sums}
 use Rattle.kernel.specs.declared.Climber.{Climber}
-use Rattle.kernel.specs.Kernel.{pushed, met}
+use Rattle.kernel.specs.Kernel.{stacksIn, kernelWith, pushed}
 use Rattle.kernel.specs.KernelView.{stackView, stackF, stackG, pairsView, stackPairs, Sixteen, Paired}
 use Rattle.vector.proofs.StackImage.{mapValues}
 
--- a climber with as much of one stack below it as of the other
-abbrev pub climber : ℕ → ℕ → ℕ → ℕ → Evals → Climber
-climber count level f g evals = record { fcount = count; gcount = count; level = level; f = f; g = g; evals = evals }
+abbrev pub climber : ℕ → ℕ → ℕ → ℕ → Climber
+climber count level f g = record { count = count; level = level; f = f; g = g }
 
 -- a stack is read from the places below its count
 pub pairs-above : (levels fvalues gvalues : List ℕ) (n at level f g : ℕ) → n ≤ at
@@ -76,35 +77,10 @@ module _ (k : Kernel) (pr : Paired k) where
       ∙ same-levels (k .flevels) (k .glevels) (k .gvalues) (k .fcount) (pr .same)
       ∙ ap (stackView (k .glevels) (k .gvalues)) (sym (pr .counts))
 
-  -- a climber with n of the entries below it
-  module _ (n level f g : ℕ) (evals : Evals) (below : n ≤ k .fcount) (sixteen : Sixteen evals) where
-    pub push-pairs : n ≤ 15 → stackPairs (pushed k (climber n level f g evals)) ≡ (level, (f, g)) ∷ pairsView (k .flevels) (k .fvalues) (k .gvalues) n
-    push-pairs h =
-        pairs-push (k .flevels) (k .fvalues) (k .gvalues) n level f g (omega (arith, pr .flevels)) (omega (arith, pr .fvalues)) (omega (arith, pr .gvalues))
-
-    pub push-paired : n ≤ 15 → Paired (pushed k (climber n level f g evals))
-    push-paired h =
-        record {
-          counts = refl;
-          room = omega arith;
-          same = λ j l.
-              ⊎-elim
-              (λ (e : j ≡ n).
-              rw e
-              (getD-set-same (k .glevels) n level 0 (omega (arith, pr .glevels)) ∙ sym (getD-set-same (k .flevels) n level 0 (omega (arith, pr .flevels)))))
-              (λ (e : j < n).
-              getD-set-other (k .glevels) n j level 0 (omega arith) ∙ pr .same j (omega arith) ∙ sym (getD-set-other (k .flevels) n j level 0 (omega arith)))
-              (eq-or-lt-of-le (omega arith));
-          flevels = length-set (k .flevels) n level ∙ pr .flevels;
-          fvalues = length-set (k .fvalues) n f ∙ pr .fvalues;
-          glevels = length-set (k .glevels) n level ∙ pr .glevels;
-          gvalues = length-set (k .gvalues) n g ∙ pr .gvalues;
-          evals = sixteen;
-        }
-
-  module _ (p n level f g : ℕ) (evals : Evals) (below : suc n ≤ k .fcount) (sixteen : Sixteen evals) where
-    pub meet-paired : Paired (met p k (climber (suc n) level f g evals))
-    meet-paired =
+  module _ (n : ℕ) (sums : Sums) (evals : Evals) (below : n ≤ k .fcount) (sixteen : Sixteen evals) where
+    -- with n of its entries
+    pub cut-paired : Paired (kernelWith (stacksIn (k .flevels) (k .fvalues) (k .glevels) (k .gvalues) n) sums evals)
+    cut-paired =
         record {
           counts = refl;
           room = omega (arith, pr .room);
@@ -115,3 +91,32 @@ module _ (k : Kernel) (pr : Paired k) where
           gvalues = pr .gvalues;
           evals = sixteen;
         }
+
+    -- and one more
+    module _ (level f g : ℕ) (h : n ≤ 15) where
+      pub push-pairs : stackPairs (kernelWith (pushed (k .flevels) (k .fvalues) (k .glevels) (k .gvalues) (climber n level f g)) sums evals)
+          ≡ (level, (f, g)) ∷ pairsView (k .flevels) (k .fvalues) (k .gvalues) n
+      push-pairs =
+          rw (le-ltb 15 n h)
+          (pairs-push (k .flevels) (k .fvalues) (k .gvalues) n level f g (omega (arith, pr .flevels)) (omega (arith, pr .fvalues)) (omega (arith, pr .gvalues)))
+
+      pub push-paired : Paired (kernelWith (pushed (k .flevels) (k .fvalues) (k .glevels) (k .gvalues) (climber n level f g)) sums evals)
+      push-paired =
+          rw (le-ltb 15 n h)
+          (record {
+            counts = refl;
+            room = omega arith;
+            same = λ j l.
+                ⊎-elim
+                (λ (e : j ≡ n).
+                rw e
+                (getD-set-same (k .glevels) n level 0 (omega (arith, pr .glevels)) ∙ sym (getD-set-same (k .flevels) n level 0 (omega (arith, pr .flevels)))))
+                (λ (e : j < n).
+                getD-set-other (k .glevels) n j level 0 (omega arith) ∙ pr .same j (omega arith) ∙ sym (getD-set-other (k .flevels) n j level 0 (omega arith)))
+                (eq-or-lt-of-le (omega arith));
+            flevels = length-set (k .flevels) n level ∙ pr .flevels;
+            fvalues = length-set (k .fvalues) n f ∙ pr .fvalues;
+            glevels = length-set (k .glevels) n level ∙ pr .glevels;
+            gvalues = length-set (k .gvalues) n g ∙ pr .gvalues;
+            evals = sixteen;
+          })

@@ -15,24 +15,20 @@ use Rattle.kernel.specs.declared.Climber.{Climber}
 use Rattle.vector.specs.Rounds.{size}
 use Rattle.vector.specs.Vector.{Vector}
 use Rattle.vector.specs.Fold.{Pair, combine, combinePair, beside, fold}
-use Rattle.kernel.specs.Kernel.{hornerAt, arrived, raised, mayRise, climbFrom, climbed, meetsAt, met, pushed, settled, entered}
+use Rattle.kernel.specs.Kernel.{hornerAt, stepped, arrived}
 use Rattle.kernel.specs.KernelView.{Sixteen}
 use Rattle.vector.proofs.Machine.{gathered}
 use Rattle.vector.proofs.Horner.{hornerStep, horner, horner-step}
-use Rattle.kernel.proofs.KernelMachine.{Gathered, arriving, meeting, stepped, arrived-sixteen}
+use Rattle.kernel.proofs.KernelMachine.{Gathered, arriving, meeting, arrived-sixteen}
 
 module _ (p x : ℕ) (sums : List ℕ) (level item : ℕ) where
   other-level : (l : ℕ) → (level ≡ l → ⊥) → getD (hornerAt p x sums level item) l 0 ≡ getD sums l 0
   unfolding hornerAt
-  other-level l ne = go (ltb 15 level) _
-    where
-      go : (b : Bool) (y : ℕ) → getD (cond b sums (set sums level y)) l 0 ≡ getD sums l 0
-      go true y = refl
-      go false y = getD-set-other sums level l y 0 (λ e. ne (sym e))
+  other-level l ne = getD-set-other sums level l _ 0 (λ e. ne (sym e))
 
   this-level : length sums ≡ 16 → level ≤ 15 → getD (hornerAt p x sums level item) level 0 ≡ hornerStep p x (getD sums level 0) item
   unfolding hornerAt
-  this-level e h = rw (le-ltb 15 level h) (getD-set-same sums level _ 0 (omega arith))
+  this-level e h = getD-set-same sums level _ 0 (omega arith)
 
 -- one of the six arrays: the values at x of the folds of one vector
 module _ (p x : ℕ) (at : Points) (array : Evals → List ℕ) (image : Pair → ℕ)
@@ -91,39 +87,3 @@ module _ (p : ℕ) (at : Points) (on : at .on ≡ true) where
             array-step p (at .square) at (λ e. e .gsquare) (λ a. a .1) (λ c even odd. refl) (λ e s. s .gsquare) (λ e level a. ap (λ r. r .gsquare) (arrived-on e level a))
             c n (beside f g) i l hi low t ht m s (r .gsquare);
       }
-
--- a pass that does not evaluate leaves the arrays as they are
-module _ (p : ℕ) (at : Points) (off : at .on ≡ false) where
-  arrived-off : (e : Evals) (level f g : ℕ) → arrived p at e level f g ≡ e
-  unfolding arrived
-  arrived-off e level f g = ap (λ b. cond b (stepped p at e level f g) e) off
-
-  module _ (cs : List ℕ) (last : ℕ) where
-    climb-off : (fl fv gl gv : List ℕ) (n : ℕ) (c : Climber) → climbFrom p cs last at fl fv gl gv n c .evals ≡ c .evals
-    unfolding climbFrom
-    climb-off fl fv gl gv zero c = refl
-    climb-off fl fv gl gv (suc n) c =
-        go (mayRise p cs last at fl fv gl gv c) (climb-off fl fv gl gv n (raised p cs last at fl fv gl gv c) ∙ arrived-off (c .evals) _ _ _)
-      where
-        go : (b : Bool) → climbFrom p cs last at fl fv gl gv n (raised p cs last at fl fv gl gv c) .evals ≡ c .evals
-            → cond b (climbFrom p cs last at fl fv gl gv n (raised p cs last at fl fv gl gv c)) c .evals ≡ c .evals
-        go true e = e
-        go false e = refl
-
-    settled-off : (k : Kernel) (c : Climber) → c .evals ≡ k .evals → settled p last k c .evals ≡ k .evals
-    unfolding settled
-    settled-off k c e = go (meetsAt last k c) (ltb 15 (c .fcount)) (ltb 15 (c .gcount))
-      where
-        go : (met? full? full?′ : Bool) → cond met? (met p k c) (cond full? k (cond full?′ k (pushed k c))) .evals ≡ k .evals
-        go true b d = e
-        go false true d = refl
-        go false false true = refl
-        go false false false = e
-
-    pub entered-off : (k : Kernel) (f g : ℕ) → entered p cs last at k f g .kernel .evals ≡ k .evals
-    unfolding entered climbed
-    entered-off k f g =
-        settled-off k (climbed p cs last at k f g)
-        (climb-off (k .flevels) (k .fvalues) (k .glevels) (k .gvalues) (k .fcount)
-        (record { fcount = k .fcount; gcount = k .gcount; level = 0; f = f; g = g; evals = arrived p at (k .evals) 0 f g })
-        ∙ arrived-off (k .evals) 0 f g)

@@ -72,7 +72,7 @@ module _ (i t : ℕ) (k : Kernel) (h : Levelled i t k) where
       sym (pairs-count (k .flevels) (k .fvalues) (k .gvalues) (k .fcount)) ∙ sym (levels-count (stackPairs k)) ∙ ap length (h .places) ∙ ones-count t i
 
   -- one more pair, whatever it is
-  pub levelled-item : (n : ℕ) → n ≤ 15 → i ≤ n → t < 2 ^ n → (p : ℕ) (cs : List ℕ) (at : Points) (f g : ℕ) → Levelled i (suc t) (entered p cs i at k f g .kernel)
+  pub levelled-item : (n : ℕ) → n ≤ 15 → i ≤ n → t < 2 ^ n → (p : ℕ) (cs : List ℕ) (at : Points) (f g : ℕ) → Levelled i (suc t) (entered p cs i at k f g)
   levelled-item n hn hi ht p cs at f g = record { paired = entered-paired p cs i at k (h .paired) room (omega arith) f g; places = places }
     where
       room : k .fcount ≤ 15
@@ -82,7 +82,7 @@ module _ (i t : ℕ) (k : Kernel) (h : Levelled i t k) where
       nothing = tt
 
       next : Kernel
-      next = entered p cs i at k f g .kernel
+      next = entered p cs i at k f g
 
       before : mapValues (λ (a : Pair). tt) (stackPairs k) ≡ bareEntries (items cs) n t i
       before =
@@ -92,8 +92,8 @@ module _ (i t : ℕ) (k : Kernel) (h : Levelled i t k) where
 
       after : mapValues (λ (a : Pair). tt) (stackPairs next) ≡ bareEntries (items cs) n (suc t) i
       after =
-          ap (λ r. mapValues (λ (a : Pair). tt) (r .0)) (sym (entered-enter p cs i at k (h .paired) room (omega arith) f g 0 (0, 0)))
-          ∙ enter-image (combinePair p) still (λ a. tt) (λ c even odd. refl) (items cs) (arriving p at) (meeting p) (λ k a m. m) (λ even odd m. m) i 0 (f, g) (stackPairs k) (gathering k 0 (0, 0)) nothing
+          ap (λ r. mapValues (λ (a : Pair). tt) (r .0)) (sym (entered-enter p cs i at k (h .paired) room (omega arith) f g))
+          ∙ enter-image (combinePair p) still (λ a. tt) (λ c even odd. refl) (items cs) (arriving p at) (meeting p) (λ k a m. m) (λ even odd m. m) i 0 (f, g) (stackPairs k) (gathering k) nothing
           ∙ ap (λ st. enter still (λ k a m. m) (λ even odd m. m) (items cs) i 0 tt st nothing .0) before
           ∙ ap (λ r. r .0) (enter-item still (items cs) n (λ j. tt) (λ k a m. m) (λ even odd m. m) i hi t ht nothing)
 

@@ -6,13 +6,13 @@ use Prim.Native.Nat.{ℕ, zero, suc, _+_, _-_, _^_, _≤_}
 use native.Mathlib.Numerals.{add-one}
 use native.Mathlib.Omega.{arith}
 use lib.Dec.{eqb}
-use lib.ListN.{length-replicate}
+use lib.ListN.{set, length-replicate}
 use borrow.Author.Tests.{le-ltb}
 use Rattle.kernel.specs.declared.Kernel.{Kernel}
 use Rattle.vector.specs.Vector.{bit}
 use Rattle.vector.specs.Fold.{Pair, combinePair}
 use Rattle.vector.specs.Stack.{Stack, entries}
-use Rattle.kernel.specs.Kernel.{pushed, emptyKernel, pushedZero, paddingFrom, paddingKernel}
+use Rattle.kernel.specs.Kernel.{sumsIn, kernelWith, pushed, emptyKernel, pushedZero, paddingFrom, paddingBelow, paddingKernel}
 use Rattle.kernel.specs.KernelView.{pairsView, stackPairs, sumsOf, Paired}
 use Rattle.kernel.proofs.KernelArrays.{climber, push-pairs, push-paired}
 use Rattle.vector.proofs.Passes.{noMessage}
@@ -37,9 +37,24 @@ pub empty-stack : stackPairs emptyKernel ≡ []
 unfolding pairsView
 empty-stack = refl
 
-zero-climber : (k : Kernel) (m : ℕ) → Paired k → pushedZero k m ≡ pushed k (climber (k .fcount) m 0 0 (k .evals))
-zero-climber k m pr =
-    ap (λ n. pushed k (record { fcount = k .fcount; gcount = n; level = m; f = 0; g = 0; evals = k .evals })) (pr .counts)
+zero-pushed : (k : Kernel) (m : ℕ) → Paired k → k .fcount ≤ 15
+    → pushedZero k m ≡ kernelWith (pushed (k .flevels) (k .fvalues) (k .glevels) (k .gvalues) (climber (k .fcount) m 0 0)) (sumsIn k) (k .evals)
+zero-pushed k m pr h =
+    rw (le-ltb 15 (k .fcount) h)
+    (ap (λ n.
+    record {
+      flevels = set (k .flevels) (k .fcount) m;
+      fvalues = set (k .fvalues) (k .fcount) 0;
+      fcount = k .fcount + 1;
+      glevels = set (k .glevels) n m;
+      gvalues = set (k .gvalues) n 0;
+      gcount = n + 1;
+      even = k .even;
+      cross = k .cross;
+      odd = k .odd;
+      evals = k .evals;
+    })
+    (pr .counts))
 
 module _ (t : ℕ) where
   -- a zero pair for a one of t
@@ -52,12 +67,18 @@ module _ (t : ℕ) where
 
   one-more : (m : ℕ) (k : Kernel) (st : Stack Pair) (b : Bool) → From (suc m) k st → From m (one m k b) (cond b ((m, (0, 0)) ∷ st) st)
   one-more m k st true h =
-      subst (λ q. From m q ((m, (0, 0)) ∷ st)) (sym (zero-climber k m (h .0))) (
-        push-paired k (h .0) (k .fcount) m 0 0 (k .evals) (omega arith) (h .0 .evals) (omega (arith, h .1)),
+      let room : k .fcount ≤ 15 = omega (arith, h .1) in
+      let new = zero-pushed k m (h .0) room in (
+        subst Paired (sym new) (push-paired k (h .0) (k .fcount) (sumsIn k) (k .evals) (omega arith) (h .0 .evals) m 0 0 room),
         omega (arith, h .1),
-        push-pairs k (h .0) (k .fcount) m 0 0 (k .evals) (omega arith) (h .0 .evals) (omega (arith, h .1)) ∙ ap (λ s. (m, (0, 0)) ∷ s) (h .2),
+        ap stackPairs new ∙ push-pairs k (h .0) (k .fcount) (sumsIn k) (k .evals) (omega arith) (h .0 .evals) m 0 0 room ∙ ap (λ s. (m, (0, 0)) ∷ s) (h .2),
       )
   one-more m k st false h = (h .0, omega (arith, h .1), h .2)
+
+  -- the zero entries of the levels below a height
+  abbrev pub zeroBelow : ℕ → Stack Pair
+  zeroBelow zero = []
+  zeroBelow (suc i) = zeroEntries t i
 
   from-place : (last m d : ℕ) (k : Kernel) → m + d ≡ last → From m k (equalFrom (0, 0) t m d) → From 0 (paddingFrom t m k) (zeroEntries t last)
   unfolding paddingFrom equalFrom
@@ -70,17 +91,24 @@ module _ (t : ℕ) where
   unfolding equalFrom
   last-place last h = one-more last emptyKernel [] (eqb (bit last t) 1) (empty-paired, omega arith, empty-stack)
 
-  from-empty : (last : ℕ) → last ≤ 15 → From 0 (paddingKernel t last) (zeroEntries t last)
-  unfolding paddingKernel paddingFrom
-  from-empty last h =
-      rw (le-ltb 15 last h, add-one last) (from-place last last 0 (one last emptyKernel (eqb (bit last t) 1)) (omega arith) (last-place last h))
+  from-empty : (height : ℕ) → height ≤ 16 → From 0 (paddingBelow t height) (zeroBelow height)
+  unfolding paddingBelow paddingFrom
+  from-empty zero h = (empty-paired, omega arith, empty-stack)
+  from-empty (suc last) h =
+      rw (le-ltb 16 (suc last) h) (from-place last last 0 (one last emptyKernel (eqb (bit last t) 1)) (omega arith) (last-place last (omega arith)))
+
+  pub below-paired : (height : ℕ) → height ≤ 16 → Paired (paddingBelow t height)
+  below-paired height h = from-empty height h .0
+
+  -- an entry of value zero for each binary one of t below the height
+  pub below-pairs : (height : ℕ) → height ≤ 16 → stackPairs (paddingBelow t height) ≡ zeroBelow height
+  below-pairs height h = from-empty height h .2
 
   pub padding-paired : (last : ℕ) → last ≤ 15 → Paired (paddingKernel t last)
-  padding-paired last h = from-empty last h .0
+  padding-paired last h = rw (add-one last) (below-paired (suc last) (omega arith))
 
-  -- an entry of value zero for each binary one of t up to the last level
   pub padding-pairs : (last : ℕ) → last ≤ 15 → stackPairs (paddingKernel t last) ≡ zeroEntries t last
-  padding-pairs last h = from-empty last h .2
+  padding-pairs last h = rw (add-one last) (below-pairs (suc last) (omega arith))
 
   -- the sums and the evaluations are zero
   one-kept : (m : ℕ) (k : Kernel) (b : Bool) → (sumsOf (one m k b) ≡ sumsOf k) × (one m k b .evals ≡ k .evals)
@@ -96,12 +124,12 @@ module _ (t : ℕ) where
       (rest .0 ∙ here .0, rest .1 ∙ here .1)
 
   pub padding-sums : (last : ℕ) → last ≤ 15 → sumsOf (paddingKernel t last) ≡ noMessage
-  unfolding paddingKernel
-  padding-sums last h = rw (le-ltb 15 last h) (kept-from (last + 1) emptyKernel .0)
+  unfolding paddingBelow
+  padding-sums last h = rw (le-ltb 16 (last + 1) (omega arith)) (kept-from (last + 1) emptyKernel .0)
 
   pub padding-evals : (last : ℕ) → last ≤ 15 → paddingKernel t last .evals ≡ emptyKernel .evals
-  unfolding paddingKernel
-  padding-evals last h = rw (le-ltb 15 last h) (kept-from (last + 1) emptyKernel .1)
+  unfolding paddingBelow
+  padding-evals last h = rw (le-ltb 16 (last + 1) (omega arith)) (kept-from (last + 1) emptyKernel .1)
 
 -- of a vector whose items from L on are zero pairs: the stack after those N - L items
 pub padding-stack : (p : ℕ) (c : ℕ → ℕ) (n items : ℕ) (v : ℕ → Pair) → n ≤ 15 → items ≤ 2 ^ n → ((j : ℕ) → items ≤ j → v j ≡ (0, 0))

@@ -9,7 +9,6 @@ use lib.ListN.{length}
 use borrow.Author.Tests.{ltb-true}
 use Rattle.kernel.specs.declared.Points.{Points}
 use Rattle.kernel.specs.declared.Kernel.{Kernel}
-use Rattle.kernel.specs.declared.Entered.{Entered}
 use Rattle.vector.specs.Rounds.{size}
 use Rattle.vector.specs.Vector.{Vector, at as items}
 use Rattle.vector.specs.Fold.{Pair, foldWith, combine, combinePair, beside, fold}
@@ -24,7 +23,6 @@ use Rattle.vector.proofs.StackCount.{ones-at-most, ones-below, entries-count}
 use Rattle.vector.proofs.StackImage.{mapValues, entries-first, entries-second}
 use Rattle.vector.proofs.Gathering.{lastPairs, sums-step}
 use Rattle.vector.proofs.Passes.{noMessage, addPair, lastMessage, last-message}
-use Rattle.vector.proofs.Arrivals.{StopsAt, stops-last, stops-below, multiple-completes, completes-multiple, arrivals}
 use Rattle.kernel.proofs.KernelArrays.{pairs-count, first-stack, second-stack}
 use Rattle.kernel.proofs.KernelMachine.{Gathered, arriving, meeting, gathering, entered-enter, entered-paired}
 use Rattle.kernel.proofs.KernelEvals.{Evaluated, evaluated-step}
@@ -76,18 +74,18 @@ module _ (p n : ℕ) (c : ℕ → ℕ) (i : ℕ) (at : Points) (f g : Vector) (h
 
   -- ONE MORE ITEM of the pass
   module _ (cs : List ℕ) (agree : (j : ℕ) → j < i → items cs j ≡ c j) (t : ℕ) (ht : t < 2 ^ n) (k : Kernel) (h : Has t k) where
-    abbrev next : Entered
+    abbrev next : Kernel
     next = entered p cs i at k (f (2 ^ n - 1 - t)) (g (2 ^ n - 1 - t))
 
     abbrev more : Gathered
-    more = gathered (combinePair p) c n (beside f g) (arriving p at) (meeting p) i 0 t (gathering k 0 (0, 0))
+    more = gathered (combinePair p) c n (beside f g) (arriving p at) (meeting p) i 0 t (gathering k)
 
-    item-step : _≡_ {A = Stack Pair × Gathered} (stackPairs (next .kernel), gathering (next .kernel) (next .level) (next .f, next .g)) (entries (combinePair p) c n (beside f g) (suc t) i, more)
+    item-step : _≡_ {A = Stack Pair × Gathered} (stackPairs next, gathering next) (entries (combinePair p) c n (beside f g) (suc t) i, more)
     item-step =
-        sym (entered-enter p cs i at k (h .paired) (taken-room t k ht h) (omega arith) (f (2 ^ n - 1 - t)) (g (2 ^ n - 1 - t)) 0 (0, 0))
-        ∙ enter-challenges (combinePair p) (arriving p at) (meeting p) (items cs) c i agree 0 (f (2 ^ n - 1 - t), g (2 ^ n - 1 - t)) (stackPairs k) (gathering k 0 (0, 0))
-        ∙ ap (λ st. enter (combinePair p) (arriving p at) (meeting p) c i 0 (f (2 ^ n - 1 - t), g (2 ^ n - 1 - t)) st (gathering k 0 (0, 0))) (h .stack)
-        ∙ enter-item (combinePair p) c n (beside f g) (arriving p at) (meeting p) i hi t ht (gathering k 0 (0, 0))
+        sym (entered-enter p cs i at k (h .paired) (taken-room t k ht h) (omega arith) (f (2 ^ n - 1 - t)) (g (2 ^ n - 1 - t)))
+        ∙ enter-challenges (combinePair p) (arriving p at) (meeting p) (items cs) c i agree 0 (f (2 ^ n - 1 - t), g (2 ^ n - 1 - t)) (stackPairs k) (gathering k)
+        ∙ ap (λ st. enter (combinePair p) (arriving p at) (meeting p) c i 0 (f (2 ^ n - 1 - t), g (2 ^ n - 1 - t)) st (gathering k)) (h .stack)
+        ∙ enter-item (combinePair p) c n (beside f g) (arriving p at) (meeting p) i hi t ht (gathering k)
 
     pairs-sums : (q : ℕ) → lastPairs (addPair p) (foldWith (combinePair p) c i (beside f g)) (size n (suc i)) noMessage q
         ≡ lastMessage p (fold p c i f) (fold p c i g) (size n (suc i)) q
@@ -95,19 +93,19 @@ module _ (p n : ℕ) (c : ℕ → ℕ) (i : ℕ) (at : Points) (f g : Vector) (h
         ap (λ v. lastPairs (addPair p) v (size n (suc i)) noMessage q) (fold-beside p c f g i)
         ∙ last-message p (fold p c i f) (fold p c i g) (size n (suc i)) q
 
-    item-sums : (less : i < n) → sumsOf (next .kernel) ≡ lastMessage p (fold p c i f) (fold p c i g) (size n (suc i)) (suc t / 2 ^ suc i)
+    item-sums : (less : i < n) → sumsOf next ≡ lastMessage p (fold p c i f) (fold p c i g) (size n (suc i)) (suc t / 2 ^ suc i)
     item-sums less =
         ap (λ r. r .1 .sums) item-step
         ∙ sums-step (combinePair p) c n (beside f g) (arriving p at) (meeting p) (addPair p) (λ m. m .sums) (λ k a m. refl) (λ even odd m. refl) i less noMessage
-        i 0 (omega arith) t ht (completes-zero t) (gathering k 0 (0, 0)) (h .sums less ∙ sym (pairs-sums (t / 2 ^ suc i)))
+        i 0 (omega arith) t ht (completes-zero t) (gathering k) (h .sums less ∙ sym (pairs-sums (t / 2 ^ suc i)))
         ∙ pairs-sums (suc t / 2 ^ suc i)
 
-    item-evals : at .on ≡ true → (l : ℕ) → l ≤ i → Evaluated p n c at f g (suc t) (next .kernel .evals) l
+    item-evals : at .on ≡ true → (l : ℕ) → l ≤ i → Evaluated p n c at f g (suc t) (next .evals) l
     item-evals on l hl =
         rw (ap (λ r. r .1 .evals) item-step)
-        (evaluated-step p at on c n f g i l hl (omega arith) t ht (gathering k 0 (0, 0)) (h .paired .evals) (h .evals on l hl))
+        (evaluated-step p at on c n f g i l hl (omega arith) t ht (gathering k) (h .paired .evals) (h .evals on l hl))
 
-    pub taken-item : Taken p n c i at f g (suc t) (entered p cs i at k (f (2 ^ n - 1 - t)) (g (2 ^ n - 1 - t)) .kernel)
+    pub taken-item : Taken p n c i at f g (suc t) (entered p cs i at k (f (2 ^ n - 1 - t)) (g (2 ^ n - 1 - t)))
     taken-item =
         record {
           paired = entered-paired p cs i at k (h .paired) (taken-room t k ht h) (omega arith) (f (2 ^ n - 1 - t)) (g (2 ^ n - 1 - t));
@@ -115,28 +113,3 @@ module _ (p n : ℕ) (c : ℕ → ℕ) (i : ℕ) (at : Points) (f g : Vector) (h
           sums = item-sums;
           evals = item-evals;
         }
-
-    -- the last level that the item comes to, and as which items of the folds of f and g
-    item-arrival : (l : ℕ) × (next .level ≡ l) × (next .f ≡ fold p c l f (size n l - suc t / 2 ^ l)) × (next .g ≡ fold p c l g (size n l - suc t / 2 ^ l)) × StopsAt i t l
-    item-arrival =
-        let r = arrivals (combinePair p) c n (beside f g) (arriving p at) (meeting p) (λ m. m .level) (λ m. m .pair)
-        (λ k a m. refl) (λ k a m. refl) (λ even odd m. refl) (λ even odd m. refl) i i 0 (omega arith) t (completes-zero t) (gathering k 0 (0, 0)) in
-        let l : ℕ = r .0 in
-        let value : (next .f, next .g) ≡ beside (fold p c l f) (fold p c l g) (size n l - suc t / 2 ^ l) =
-        ap (λ r. r .1 .pair) item-step ∙ r .1 .1 ∙ ap (λ v. v (size n l - suc (t / 2 ^ l))) (fold-beside p c f g l)
-        ∙ ap (λ q. beside (fold p c l f) (fold p c l g) (size n l - q)) (sym (r .1 .2 .1)) in
-        (l, ap (λ r. r .1 .level) item-step ∙ r .1 .0, ap (λ e. e .0) value, ap (λ e. e .1) value, r .1 .2)
-
-    -- it completes an item of fold i where the items taken are a multiple of 2^i
-    pub arrives-last : suc t % 2 ^ i ≡ 0
-        → (let e : Entered = entered p cs i at k (f (2 ^ n - 1 - t)) (g (2 ^ n - 1 - t)) in
-        (e .level ≡ i) × (e .f ≡ fold p c i f (size n i - suc t / 2 ^ i)) × (e .g ≡ fold p c i g (size n i - suc t / 2 ^ i)))
-    arrives-last e =
-        let a = item-arrival in
-        let l : a .0 ≡ i = stops-last i t (a .0) (a .4) (multiple-completes i t e) in
-        (a .1 ∙ l, a .2 ∙ ap (λ l. fold p c l f (size n l - suc t / 2 ^ l)) l, a .3 ∙ ap (λ l. fold p c l g (size n l - suc t / 2 ^ l)) l)
-
-    pub arrives-below : (suc t % 2 ^ i ≡ 0 → ⊥) → entered p cs i at k (f (2 ^ n - 1 - t)) (g (2 ^ n - 1 - t)) .level < i
-    arrives-below ne =
-        let a = item-arrival in
-        rw (a .1) (stops-below i t (a .0) (a .4) (λ up. ne (completes-multiple i t up)))

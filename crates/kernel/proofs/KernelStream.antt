@@ -17,7 +17,7 @@ use Rattle.kernel.proofs.KernelLevels.{Levelled, levelled-item, levelle
 module _ (p : ℕ) (cs : List ℕ) (last : ℕ) (at : Points) (start : Kernel) where
   unfoldable pub kernelOf : List Pair → Kernel
   kernelOf [] = start
-  kernelOf (x ∷ xs) = entered p cs last at (kernelOf xs) (x .0) (x .1) .kernel
+  kernelOf (x ∷ xs) = entered p cs last at (kernelOf xs) (x .0) (x .1)
 
 module _ (p n : ℕ) (c : ℕ → ℕ) (i : ℕ) (at : Points) (f g : Vector) (hn : n ≤ 15) (hi : i ≤ n)
     (cs : List ℕ) (agree : (j : ℕ) → j < i → items cs j ≡ c j) where
@@ -35,7 +35,7 @@ module _ (p n : ℕ) (c : ℕ → ℕ) (i : ℕ) (at : Points) (f g : Vector) (h
       let place : 2 ^ n - (t + suc (length xs)) + 0 ≡ 2 ^ n - 1 - t′ = omega arith in
       let new : beside f g (2 ^ n - 1 - t′) ≡ x = sym (same 0 (omega arith) ∙ ap (beside f g) place) in
       rw (add-suc t (length xs))
-      (subst (λ y. Taken p n c i at f g (suc t′) (entered p cs i at (kernelOf p cs i at k xs) (y .0) (y .1) .kernel)) new
+      (subst (λ y. Taken p n c i at f g (suc t′) (entered p cs i at (kernelOf p cs i at k xs) (y .0) (y .1))) new
       (taken-item p n c i at f g hn hi cs agree t′ (omega arith) (kernelOf p cs i at k xs) rest))
 
   -- A PASS: the padding and the last a of the L items

@@ -1,4 +1,5 @@
 pub mod KernelSteps
+pub mod KernelTurns
 pub mod KernelArrays
 pub mod KernelMachine
 pub mod KernelPadding

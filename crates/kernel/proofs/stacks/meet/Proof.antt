@@ -1,24 +1,7 @@
 use borrow.Author.Needs.{needs}
-use Rattle.kernel.proofs.meet.Statement.{statement}
-use Rattle.kernel.proofs.meet.Tie as tie
-
-sub-fcount : tie.Need-sub-fcount
-sub-fcount c = search needs
-
-sub-gcount : tie.Need-sub-gcount
-sub-gcount c = search needs
-
-mul-f : tie.Need-mul-f
-mul-f c = search needs
-
-array-read-f : tie.Need-array-read-f
-array-read-f c = search needs
-
-mul-g : tie.Need-mul-g
-mul-g c = search needs
-
-array-read-g : tie.Need-array-read-g
-array-read-g c = search needs
+use Rattle.kernel.specs.Kernel.{summed}
+use Rattle.kernel.proofs.stacks.meet.Statement.{statement}
+use Rattle.kernel.proofs.stacks.meet.Tie as tie
 
 add-mul-requires : tie.Need-add-mul-requires
 add-mul-requires c κs = search needs
@@ -33,6 +16,7 @@ add-mul-requires-4 : tie.Need-add-mul-requires-4
 add-mul-requires-4 c κs = search needs
 
 returns : tie.Need-returns
+unfolding summed
 returns c =
     simp (
       c .add-mul4 .ensures,
@@ -44,15 +28,4 @@ returns c =
 pub meet-spec : {M : Type 1} → statement M
 meet-spec =
     tie.close
-    (tie.spec
-    sub-fcount
-    sub-gcount
-    mul-f
-    array-read-f
-    mul-g
-    array-read-g
-    add-mul-requires
-    add-mul-requires-2
-    add-mul-requires-3
-    add-mul-requires-4
-    returns)
+    (tie.spec add-mul-requires add-mul-requires-2 add-mul-requires-3 add-mul-requires-4 returns)
