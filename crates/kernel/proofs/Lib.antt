@@ -9,3 +9,5 @@ pub mod KernelEnds
 pub mod KernelOpen
 pub mod KernelLevels
 pub mod KernelStream
+pub mod KernelChange
+pub mod KernelChangePass

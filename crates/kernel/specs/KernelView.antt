@@ -5,7 +5,7 @@ use mathlib.Core.List.{List, [], _∷_}
 use lib.ListN.{getD, length}
 use Rattle.vector.specs.Fold.{Pair}
 use Rattle.vector.specs.Message.{Message}
-use Rattle.vector.specs.Stack.{Stack}
+use Rattle.vector.specs.Stack.{Stack, entries, onesFrom}
 use Rattle.kernel.specs.declared.Evals.{Evals}
 use Rattle.kernel.specs.declared.Kernel.{Kernel}
 
@@ -34,6 +34,16 @@ stackPairs k = pairsView (k .flevels) (k .fvalues) (k .gvalues) (k .fcount)
 
 abbrev pub sumsOf : Kernel → Message
 sumsOf k = record { even = k .even; cross = k .cross; odd = k .odd }
+
+-- The stacks of a pass keep the levels below a height: those up to level i in a pass that folds to it, those below in a change pass.
+abbrev pub entriesBelow : {A : Type 0} → (ℕ → A → A → A) → (ℕ → ℕ) → ℕ → (ℕ → A) → ℕ → ℕ → Stack A
+entriesBelow combine c n v t zero = []
+entriesBelow combine c n v t (suc i) = entries combine c n v t i
+
+-- the places of the ones of t below a height
+abbrev pub onesBelow : ℕ → ℕ → List ℕ
+onesBelow t zero = []
+onesBelow t (suc i) = onesFrom t 0 i
 
 -- sixteen places each
 pub record Sixteen (e : Evals) : Type 0 where
