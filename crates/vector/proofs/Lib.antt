@@ -21,6 +21,7 @@ pub mod Passes
 pub mod Padding
 pub mod Horner
 pub mod Weights
+pub mod SplitWeights
 pub mod EndValues
 pub mod Openings
 pub mod Arrivals
