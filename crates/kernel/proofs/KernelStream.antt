@@ -1,17 +1,17 @@
 -- A small pass over a list of pairs, the newest first: a full list is the vectors in the order of the index.
 use mathlib.Core.Path.{_≡_, sym, ap, subst, _∙_}
 use mathlib.Core.List.{List, [], _∷_}
-use Prim.Native.Nat.{ℕ, suc, _+_, _-_, _^_, _<_, _≤_}
-use native.Mathlib.Nat.{add-suc, add-zero}
+use Prim.Native.Nat.{ℕ, zero, suc, _+_, _-_, _^_, _<_, _≤_}
+use native.Mathlib.Nat.{add-suc, add-zero, zero-add}
 use native.Mathlib.Omega.{arith}
 use lib.ListN.{length, getD}
 use Rattle.kernel.specs.declared.Points.{Points}
 use Rattle.kernel.specs.declared.Kernel.{Kernel}
 use Rattle.vector.specs.Vector.{Vector, at as items}
 use Rattle.vector.specs.Fold.{Pair, beside}
-use Rattle.kernel.specs.Kernel.{entered, paddingKernel}
+use Rattle.kernel.specs.Kernel.{entered, streamed, emptyKernel, paddingKernel}
 use Rattle.kernel.proofs.KernelPass.{Taken, taken-item}
-use Rattle.kernel.proofs.KernelOpen.{taken-padding}
+use Rattle.kernel.proofs.KernelOpen.{taken-none, taken-padding}
 use Rattle.kernel.proofs.KernelLevels.{Levelled, levelled-item, levelled-padding}
 
 module _ (p : ℕ) (cs : List ℕ) (last : ℕ) (at : Points) (start : Kernel) where
@@ -65,3 +65,25 @@ levelled-list n i hn hi p cs at t (x ∷ xs) fits =
     rw (add-suc t (length xs))
     (levelled-item i (t + length xs) (kernelOf p cs i at (paddingKernel t i) xs) (levelled-list n i hn hi p cs at t xs (omega arith))
     n hn hi (omega arith) p cs at (x .0) (x .1))
+
+-- A PASS OVER TWO LISTS that hold f and g, from last item to first
+module _ (p n : ℕ) (c : ℕ → ℕ) (i : ℕ) (at : Points) (f g : Vector) (hn : n ≤ 15) (hi : i ≤ n) (cs : List ℕ) (agree : (j : ℕ) → j < i → items cs j ≡ c j)
+    (fs gs : List ℕ) (first : (k : ℕ) → k < 2 ^ n → items fs k ≡ f k) (second : (k : ℕ) → k < 2 ^ n → items gs k ≡ g k) where
+  place-taken : (t m : ℕ) (k : Kernel) → t < 2 ^ n → 2 ^ n - 1 - t ≡ m → Taken p n c i at f g t k
+      → Taken p n c i at f g (suc t) (entered p cs i at k (items fs m) (items gs m))
+  place-taken t m k h place x =
+      let less : m < 2 ^ n = omega arith in
+      let one : f (2 ^ n - 1 - t) ≡ items fs m = ap f place ∙ sym (first m less) in
+      let two : g (2 ^ n - 1 - t) ≡ items gs m = ap g place ∙ sym (second m less) in
+      subst (λ y. Taken p n c i at f g (suc t) (entered p cs i at k (items fs m) y)) two
+      (subst (λ y. Taken p n c i at f g (suc t) (entered p cs i at k y (g (2 ^ n - 1 - t)))) one (taken-item p n c i at f g hn hi cs agree t h k x))
+
+  -- t places were taken and m are left
+  pub streamed-taken : (m t : ℕ) → t + m ≡ 2 ^ n → (k : Kernel) → Taken p n c i at f g t k → Taken p n c i at f g (2 ^ n) (streamed p cs i at fs gs m k)
+  unfolding streamed
+  streamed-taken zero t e k x = subst (λ v. Taken p n c i at f g v k) (sym (add-zero t) ∙ e) x
+  streamed-taken (suc m) t e k x =
+      streamed-taken m (suc t) (omega arith) (entered p cs i at k (items fs m) (items gs m)) (place-taken t m k (omega arith) (omega arith) x)
+
+  pub whole-stream : Taken p n c i at f g (2 ^ n) (streamed p cs i at fs gs (2 ^ n) emptyKernel)
+  whole-stream = streamed-taken (2 ^ n) 0 (zero-add (2 ^ n)) emptyKernel (taken-none p n c i at f g hn hi)

@@ -11,3 +11,4 @@ pub mod KernelLevels
 pub mod KernelStream
 pub mod KernelChange
 pub mod KernelChangePass
+pub mod KernelChangeStream

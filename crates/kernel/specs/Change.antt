@@ -43,6 +43,11 @@ placedAt last size t s c =
       g = putIn size last t (c .level) (c .g) (s .g);
     }
 
+-- what a pair leaves of the kernel
+abbrev pub placedKernel : ℕ → List ℕ → ℕ → Kernel → ℕ → ℕ → Kernel
+placedKernel p challenges last k f g =
+    cond (fits last k) (kernelWith (leftIn last k (climberIn p challenges last k f g)) (sumsIn k) (k .evals)) k
+
 -- ONE PAIR of a change pass, where t came before it; where it does not fit, nothing happens
 unfoldable pub placed : ℕ → List ℕ → ℕ → ℕ → ℕ → Placed → ℕ → ℕ → Placed
 placed p challenges last size t s f g =
