@@ -1,8 +1,8 @@
 -- THE LAW OF A CHANGE PASS: to level i + 1 it does on its arrays what the machine of a pass to level i does, where two pairs that meet arrive as one.
-use mathlib.Core.Path.{_≡_, refl, sym, ap, ap₂, subst, _∙_}
+use mathlib.Core.Path.{_≡_, refl, sym, ap, subst, _∙_}
 use mathlib.Core.Bool.{Bool, true, false, cond}
 use mathlib.Core.List.{List, _∷_}
-use Prim.Native.Nat.{ℕ, zero, suc, _≤_, _<_}
+use Prim.Native.Nat.{ℕ, zero, suc, _≤_}
 use native.Mathlib.Omega.{arith}
 use lib.Dec.{eqb, ltb}
 use lib.ListN.{getD}
@@ -13,7 +13,7 @@ use Rattle.vector.specs.Stack.{Stack}
 use Rattle.vector.proofs.Machine.{enter}
 use Rattle.kernel.specs.declared.Kernel.{Kernel}
 use Rattle.kernel.specs.declared.Climber.{Climber}
-use Rattle.kernel.specs.Kernel.{sumsIn, kernelWith, topAt, mayRise, climbFrom, climbed, climberIn}
+use Rattle.kernel.specs.Kernel.{sumsIn, kernelWith, mayRise, climbFrom, climbed, climberIn}
 use Rattle.kernel.specs.Change.{left, leftIn}
 use Rattle.kernel.specs.KernelView.{pairsView, stackPairs, Paired}
 use Rattle.kernel.proofs.KernelSteps.{stays, at-last}

@@ -8,7 +8,6 @@ use native.Mathlib.Omega.{arith}
 use lib.ListN.{length, getD}
 use Rattle.vector.specs.Vector.{Vector, at as items}
 use Rattle.vector.specs.Fold.{Pair, beside}
-use Rattle.vector.proofs.StackCount.{ones-below}
 use Rattle.kernel.specs.declared.Kernel.{Kernel}
 use Rattle.kernel.specs.Kernel.{fits, climberIn, paddingBelow}
 use Rattle.kernel.specs.Change.{Placed, placedAt, placedKernel, placed}
@@ -16,7 +15,7 @@ use Rattle.kernel.specs.KernelView.{Paired}
 use Rattle.kernel.proofs.KernelSteps.{fits-so}
 use Rattle.kernel.proofs.KernelLevels.{LevelledBelow, padding-below}
 use Rattle.kernel.proofs.KernelChange.{leftKernel}
-use Rattle.kernel.proofs.KernelChangePass.{Changing, changing-levelled, changing-padding, changing-item, levelled-left}
+use Rattle.kernel.proofs.KernelChangePass.{Changing, changing-padding, changing-item, levelled-left}
 
 -- the kernel of a change pass does not look at its buffers
 pub placed-kernel : (p : ℕ) (cs : List ℕ) (last size t : ℕ) (s : Placed) (f g : ℕ) → placed p cs last size t s f g .kernel ≡ placedKernel p cs last (s .kernel) f g

@@ -1,13 +1,11 @@
 -- The evaluations of an opening pass: each of the six arrays takes a step of Horner's rule at each level that a pair comes to.
 use mathlib.Core.Path.{_≡_, refl, sym, ap, _∙_}
-use mathlib.Core.Bool.{Bool, true, false, cond}
+use mathlib.Core.Bool.{true, cond}
 use mathlib.Core.List.{List}
-use Prim.Native.Nat.{ℕ, zero, suc, _/_, _^_, _<_, _≤_}
+use Prim.Native.Nat.{ℕ, suc, _/_, _^_, _<_, _≤_}
 use native.Mathlib.Omega.{arith}
-use lib.Dec.{ltb}
-use lib.ListN.{length, getD, set}
+use lib.ListN.{length, getD}
 use lib.Seq.{getD-set-same, getD-set-other}
-use borrow.Author.Tests.{le-ltb}
 use Rattle.kernel.specs.declared.Points.{Points}
 use Rattle.kernel.specs.declared.Evals.{Evals}
 use Rattle.kernel.specs.declared.Kernel.{Kernel}

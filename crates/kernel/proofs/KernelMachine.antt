@@ -1,12 +1,12 @@
 -- THE LAW OF THE KERNEL: on its arrays it does what the machine of a small pass does on lists of pairs.
-use mathlib.Core.Path.{_≡_, refl, sym, ap, ap₂, subst, _∙_}
+use mathlib.Core.Path.{_≡_, refl, sym, ap, subst, _∙_}
 use mathlib.Core.Bool.{Bool, true, false, cond}
 use mathlib.Core.List.{List, _∷_}
 use Prim.Native.Nat.{ℕ, zero, suc, _≤_, _<_}
 use native.Mathlib.Numerals.{add-one, sub-one}
 use native.Mathlib.Omega.{arith}
 use lib.Dec.{eqb, ltb}
-use lib.ListN.{length, getD, set, length-set}
+use lib.ListN.{length, getD, length-set}
 use borrow.Author.Tests.{eqb-true, eqb-false, ltb-true, ltb-false, eq-eqb, ne-eqb, le-ltb}
 use Rattle.vector.specs.Vector.{at as items}
 use Rattle.vector.specs.Fold.{Pair, combine, combinePair}
@@ -18,7 +18,7 @@ use Rattle.kernel.specs.declared.Points.{Points}
 use Rattle.kernel.specs.declared.Evals.{Evals}
 use Rattle.kernel.specs.declared.Kernel.{Kernel}
 use Rattle.kernel.specs.declared.Climber.{Climber}
-use Rattle.kernel.specs.Kernel.{sumsIn, kernelWith, hornerAt, stepped, arrived, topAt, raised, mayRise, climbFrom, climbed, climber₀, evaluatedFrom, evaluated, meetsAt, summed, settled, sumsAfter, settledIn, sumsWith, climberIn, evalsIn, entered}
+use Rattle.kernel.specs.Kernel.{sumsIn, kernelWith, hornerAt, stepped, arrived, topAt, raised, mayRise, climbFrom, climbed, evaluatedFrom, evaluated, meetsAt, summed, settled, sumsAfter, settledIn, sumsWith, entered}
 use Rattle.kernel.specs.KernelView.{pairsView, stackPairs, sumsOf, Sixteen, Paired}
 use Rattle.kernel.proofs.KernelSteps.{fits-so, stays, evaluation-stays, at-last, by-top}
 use Rattle.kernel.proofs.KernelTurns.{entered-fits}

@@ -2,12 +2,12 @@
 use mathlib.Core.Path.{_≡_, refl, sym, ap, _∙_}
 use mathlib.Core.Bool.{Bool, true, false, cond, true≢false}
 use mathlib.Core.List.{List}
-use Prim.Native.Nat.{ℕ, zero, suc, _+_, _-_, _≤_, _<_}
+use Prim.Native.Nat.{ℕ, zero, suc, _-_, _≤_, _<_}
 use native.Mathlib.Numerals.{sub-one}
 use native.Mathlib.Omega.{arith}
 use lib.Dec.{eqb, ltb}
 use borrow.Author.Tests.{eq-eqb, ne-eqb, eqb-true, ltb-false, lt-ltb, le-ltb}
-use Rattle.vector.specs.Vector.{at as item, bit}
+use Rattle.vector.specs.Vector.{bit}
 use Rattle.kernel.specs.declared.Points.{Points}
 use Rattle.kernel.specs.declared.Evals.{Evals}
 use Rattle.kernel.specs.declared.Kernel.{Kernel}

@@ -15,7 +15,7 @@ use Rattle.kernel.specs.declared.Kernel.{Kernel}
 use Rattle.kernel.specs.declared.Sums.{Sums}
 use Rattle.kernel.specs.declared.Climber.{Climber}
 use Rattle.kernel.specs.Kernel.{Stacks, stacksIn, sumsIn, kernelWith, evalsOf, stepped, arrived, noPoints, raised, mayRise, climbFrom, evaluatedFrom, climber₀, climbed, evaluated, settled, sumsAfter, fits, climberIn, settledIn, sumsWith, evalsIn, entered, streamed}
-use Rattle.kernel.specs.Change.{left, leftIn, placeAfter, putIn, Placed, placedOf, placedAt, placed, placedAll}
+use Rattle.kernel.specs.Change.{left, placeAfter, putIn, Placed, placedOf, placedAt, placed, placedAll}
 use Rattle.kernel.proofs.KernelSteps.{stays, rises, evaluation-stays, evaluation-rises, fits-so}
 
 -- a kernel with as many entries of g as of f is its parts

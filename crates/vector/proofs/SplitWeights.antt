@@ -15,7 +15,7 @@ use Rattle.vector.specs.Vector.{Vector, at, bit, weight}
 use Rattle.vector.specs.Twist.{lowWeights}
 use Rattle.vector.proofs.Counts.{bit-low, bit-modulo}
 use Rattle.vector.proofs.Overwrite.{overwrite-written}
-use Rattle.vector.proofs.Weights.{weight-reduced, weight-zero}
+use Rattle.vector.proofs.Weights.{weight-zero}
 
 -- the bits of an index, in its two parts
 low-bit : (k i : ℕ) → k < 4 → bit k (i % 16) ≡ bit k i

@@ -1,11 +1,10 @@
-use Prim.Native.Nat.{_≤_, _<_, _-_, _+_}
+use Prim.Native.Nat.{_≤_, _-_}
 use mathlib.Core.Path.{_≡_, refl, sym, ap, _∙_}
-use mathlib.Core.Bool.{Bool, true, false, true≢false}
 use native.Mathlib.Omega.{arith}
 use lib.ListN.{length, getD}
 use borrow.Author.Needs.{needs}
 use Rattle.kernel.specs.declared.Climber.{Climber}
-use Rattle.kernel.specs.Kernel.{Stacks, stacksIn, sumsIn, kernelWith, noPoints, fits, streamed}
+use Rattle.kernel.specs.Kernel.{Stacks, stacksIn, kernelWith, noPoints, streamed}
 use Rattle.kernel.proofs.KernelSteps.{fits-facts, climbed-down, settles-in}
 use Rattle.kernel.proofs.KernelTurns.{kernel-parts, evaluated-off, streamed-refused, stream-end, next-pair}
 use Rattle.kernel.proofs.enter_all.Statement.{statement}

@@ -1,11 +1,11 @@
-use Prim.Native.Nat.{_≤_, _<_, _-_, _+_}
+use Prim.Native.Nat.{_≤_, _-_}
 use mathlib.Core.Path.{_≡_, refl, sym, ap, _∙_}
 use native.Mathlib.Omega.{arith}
 use lib.ListN.{length, getD}
 use borrow.Author.Needs.{needs}
 use Rattle.kernel.specs.declared.Climber.{Climber}
 use mathlib.Core.Bool.{true}
-use Rattle.kernel.specs.Kernel.{Stacks, stacksIn, sumsIn, kernelWith, evalsOf, streamed}
+use Rattle.kernel.specs.Kernel.{Stacks, stacksIn, kernelWith, evalsOf, streamed}
 use Rattle.kernel.proofs.KernelSteps.{fits-facts, climbed-down, settles-in}
 use Rattle.kernel.proofs.KernelTurns.{kernel-parts, streamed-off, streamed-refused, stream-end, next-pair}
 use Rattle.kernel.proofs.evaluate_all.Statement.{statement}

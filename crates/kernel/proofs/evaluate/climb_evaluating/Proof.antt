@@ -1,7 +1,6 @@
-use Prim.Native.Nat.{_≤_, _<_, _-_, _+_}
-use mathlib.Core.Path.{_≡_, refl, sym, ap, _∙_}
+use Prim.Native.Nat.{_≤_, _-_}
+use mathlib.Core.Path.{_≡_, refl, sym, _∙_}
 use native.Mathlib.Omega.{arith}
-use lib.ListN.{length, getD}
 use borrow.Author.Needs.{needs}
 use Rattle.kernel.specs.declared.Climber.{Climber}
 use Rattle.kernel.specs.Kernel.{evalsOf, climbFrom, evaluatedFrom, climbed, evaluated}

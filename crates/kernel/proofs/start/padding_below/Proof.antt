@@ -1,9 +1,9 @@
 use mathlib.Core.Path.{_≡_, refl, sym, ap, _∙_}
-use Prim.Native.Nat.{_+_, _≤_, _<_}
+use Prim.Native.Nat.{_+_, _≤_}
 use native.Mathlib.Omega.{arith}
 use borrow.Author.Needs.{needs}
 use borrow.Author.Tests.{le-ltb, lt-ltb}
-use Rattle.kernel.specs.Kernel.{emptyKernel, paddingFrom, paddingBelow}
+use Rattle.kernel.specs.Kernel.{paddingFrom, paddingBelow}
 use Rattle.kernel.proofs.KernelSteps.{pads-one, pads-none}
 use Rattle.kernel.proofs.start.padding_below.Statement.{statement}
 use Rattle.kernel.proofs.start.padding_below.Tie as tie

@@ -1,11 +1,11 @@
-use mathlib.Core.Path.{_≡_, ap, _∙_}
+use mathlib.Core.Path.{_≡_, _∙_}
 use Prim.Native.Nat.{_≤_, _-_, _+_, _*_}
 use native.Mathlib.Omega.{arith}
 use borrow.Author.Needs.{needs}
 use lib.ListN.{length}
-use Rattle.algebra.specs.Mod.{residue, addMod, mulMod}
+use Rattle.algebra.specs.Mod.{residue}
 use Rattle.vector.specs.Vector.{at, sum}
-use Rattle.vector.specs.Message.{evenSum, crossSum, oddSum}
+use Rattle.vector.specs.Message.{evenSum, oddSum}
 use Rattle.vector.specs.Slice.{messageSlice}
 use Rattle.vector.proofs.Guards.{first-short, second-short, both-have}
 use Rattle.vector.proofs.Accumulate.{sum-none, add-even, add-forth, add-back, add-cross, add-odd}
