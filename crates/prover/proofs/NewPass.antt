@@ -5,15 +5,15 @@ use Prim.Native.Nat.{ℕ, suc, _-_, _^_, _≤_, _<_}
 use native.Mathlib.Omega.{arith}
 use lib.Pow.{pow-mono}
 use borrow.Author.Tests.{le-ltb, eq-eqb}
-use Rattle.vector.specs.declared.kernel.Kernel.{Kernel}
-use Rattle.vector.specs.declared.kernel.Points.{Points}
+use Rattle.kernel.specs.declared.Kernel.{Kernel}
+use Rattle.kernel.specs.declared.Points.{Points}
 use Rattle.vector.specs.Vector.{Vector}
-use Rattle.vector.specs.Kernel.{emptyKernel, paddingKernel}
+use Rattle.kernel.specs.Kernel.{emptyKernel, paddingKernel}
 use Rattle.vector.proofs.Rounds.{rounds-enough, size-all}
 use Rattle.vector.proofs.StackCount.{ones-below}
-use Rattle.vector.proofs.KernelLevels.{levelled-padding, levelled-count}
-use Rattle.vector.proofs.KernelPass.{Taken}
-use Rattle.vector.proofs.KernelOpen.{taken-padding}
+use Rattle.kernel.proofs.KernelLevels.{levelled-padding, levelled-count}
+use Rattle.kernel.proofs.KernelPass.{Taken}
+use Rattle.kernel.proofs.KernelOpen.{taken-padding}
 use Rattle.prover.specs.declared.Kind.{Kind}
 use Rattle.prover.specs.declared.Kind.the-variants.{Asked}
 use Rattle.prover.specs.declared.Run.{Run}

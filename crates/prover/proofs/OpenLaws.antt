@@ -6,10 +6,10 @@ use lib.IntN.{pos}
 use Rattle.refusal.specs.Number as number
 use Rattle.refusal.specs.Outcome.{Outcome, answered, refused, refusedAt}
 use Rattle.refusal.proofs.Outcome.{require-says}
-use Rattle.vector.specs.declared.kernel.Kernel.{Kernel}
-use Rattle.vector.specs.declared.kernel.Points.{Points}
+use Rattle.kernel.specs.declared.Kernel.{Kernel}
+use Rattle.kernel.specs.declared.Points.{Points}
 use Rattle.vector.specs.Slice.{isNonzero}
-use Rattle.vector.specs.Kernel.{emptyKernel, paddingKernel}
+use Rattle.kernel.specs.Kernel.{emptyKernel, paddingKernel}
 use Rattle.prover.specs.declared.Mode.{Mode}
 use Rattle.prover.specs.declared.Mode.the-variants.{Small, Full}
 use Rattle.prover.specs.declared.Next.{Next}

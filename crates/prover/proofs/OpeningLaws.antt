@@ -2,24 +2,25 @@
 use mathlib.Core.Path.{_≡_, refl, sym, ap, subst, _∙_}
 use mathlib.Core.Bool.{true}
 use mathlib.Core.List.{List}
-use Prim.Native.Nat.{ℕ, zero, suc, _-_, _^_, _+_, _≤_, _<_}
-use native.Mathlib.Nat.{add-suc, add-zero, le-refl, suc-add, zero-add}
+use Prim.Native.Nat.{ℕ, _^_, _≤_, _<_}
+use native.Mathlib.Nat.{le-refl}
 use native.Mathlib.Omega.{arith}
 use borrow.Author.Tests.{leb-true}
 use lib.Dec.{leb}
-use lib.ListN.{length}
+use lib.ListN.{length, take}
+use lib.Seq.{length-take-le, getD-take}
 use Rattle.refusal.specs.Number as number
 use Rattle.refusal.specs.Outcome.{answered}
-use Rattle.vector.specs.Vector.{Vector, at}
+use Rattle.vector.specs.Vector.{Vector, at as items}
 use Rattle.vector.specs.Fold.{fold, foldWith}
 use Rattle.vector.specs.Slice.{isNonzero}
 use Rattle.vector.specs.Opening.{opening}
-use Rattle.vector.specs.Kernel.{entered, emptyKernel}
-use Rattle.vector.specs.declared.kernel.Points.{Points}
-use Rattle.vector.specs.declared.kernel.Kernel.{Kernel}
+use Rattle.kernel.specs.Kernel.{pairsIn, streamed, emptyKernel}
+use Rattle.kernel.specs.declared.Points.{Points}
+use Rattle.kernel.specs.declared.Kernel.{Kernel}
 use Rattle.vector.proofs.Rounds.{size-all}
-use Rattle.vector.proofs.KernelPass.{Taken, taken-item}
-use Rattle.vector.proofs.KernelOpen.{taken-none}
+use Rattle.kernel.proofs.KernelPass.{Taken}
+use Rattle.kernel.proofs.KernelStream.{whole-stream}
 use Rattle.prover.specs.declared.Run.{Run}
 use Rattle.prover.specs.declared.Pass.{Pass}
 use Rattle.prover.specs.Reply as reply
@@ -28,62 +29,48 @@ use Rattle.prover.specs.Values.{inNinety, valuesOf}
 use Rattle.prover.specs.Calls.{bothLong}
 use Rattle.prover.specs.Full.{openingTurn, bothReduced}
 use Rattle.prover.specs.Open.{pointsOf}
-use Rattle.prover.specs.Opening.{streamed, openingGiven, openingCall}
+use Rattle.prover.specs.Opening.{openingGiven, openingCall}
 use Rattle.prover.proofs.Facts.{holds}
 use Rattle.prover.proofs.FullFacts.{at-openings}
 use Rattle.prover.proofs.FullLaws.{Lent, passed-row, lent-rows, both-long}
 use Rattle.prover.proofs.OpeningValues.{taken-opening, taken-opened}
 
--- one place
-pub place-streamed : (p : ℕ) (cs : List ℕ) (last : ℕ) (points : Points) (fs gs : List ℕ) (m : ℕ) (k : Kernel) → 0 < m
-    → streamed p cs last points fs gs m k ≡ streamed p cs last points fs gs (m - 1) (entered p cs last points k (at fs (m - 1)) (at gs (m - 1)) .kernel)
-unfolding streamed
-place-streamed p cs last points fs gs zero k h = absurd (omega arith)
-place-streamed p cs last points fs gs (suc m) k h = let less : suc m - 1 ≡ m = omega arith in rw less
+-- the kernel that ran over the first places of the buffers
+abbrev pub firstPlaces : ℕ → List ℕ → ℕ → Points → List ℕ → List ℕ → Kernel
+firstPlaces p cs n at fs gs =
+    streamed p cs n at (take (2 ^ n) fs) (take (2 ^ n) gs) (pairsIn (take (2 ^ n) fs) (take (2 ^ n) gs)) emptyKernel
 
 -- the buffers' first 2^n places are f and g, and the run's challenges are c
-module _ (p n : ℕ) (c : ℕ → ℕ) (points : Points) (f g : Vector) (few : n ≤ 15) (cs : List ℕ) (agree : (j : ℕ) → j < n → at cs j ≡ c j)
-    (fs gs : List ℕ) (first : (k : ℕ) → k < 2 ^ n → at fs k ≡ f k) (second : (k : ℕ) → k < 2 ^ n → at gs k ≡ g k) where
-  place-taken : (t u m : ℕ) (k : Kernel) → t < 2 ^ n → suc t ≡ u → 2 ^ n - 1 - t ≡ m → m < 2 ^ n → Taken p n c n points f g t k
-      → Taken p n c n points f g u (entered p cs n points k (at fs m) (at gs m) .kernel)
-  place-taken t u m k h e place less x =
-      let one : f (2 ^ n - 1 - t) ≡ at fs m = ap f place ∙ sym (first m less) in
-      let two : g (2 ^ n - 1 - t) ≡ at gs m = ap g place ∙ sym (second m less) in
-      subst (λ v. Taken p n c n points f g v (entered p cs n points k (at fs m) (at gs m) .kernel)) e
-      (subst (λ y. Taken p n c n points f g (suc t) (entered p cs n points k (at fs m) y .kernel)) two
-      (subst (λ y. Taken p n c n points f g (suc t) (entered p cs n points k y (g (2 ^ n - 1 - t)) .kernel)) one
-      (taken-item p n c n points f g few (le-refl n) cs agree t h k x)))
-
-  -- t places were taken and m are left
-  streamed-taken : (m t : ℕ) → t + m ≡ 2 ^ n → (k : Kernel) → Taken p n c n points f g t k
-      → Taken p n c n points f g (2 ^ n) (streamed p cs n points fs gs m k)
-  unfolding streamed
-  streamed-taken zero t e k x = subst (λ v. Taken p n c n points f g v k) (sym (add-zero t) ∙ e) x
-  streamed-taken (suc m) t e k x =
-      streamed-taken m (suc t) (suc-add t m ∙ sym (add-suc t m) ∙ e) (entered p cs n points k (at fs m) (at gs m) .kernel)
-      (place-taken t (suc t) m k (omega arith) refl (omega arith) (omega arith) x)
-
-  pub whole-stream : Taken p n c n points f g (2 ^ n) (streamed p cs n points fs gs (2 ^ n) emptyKernel)
-  whole-stream = streamed-taken (2 ^ n) 0 (zero-add (2 ^ n)) emptyKernel (taken-none p n c n points f g few (le-refl n))
+module _ (p n : ℕ) (c : ℕ → ℕ) (at : Points) (f g : Vector) (few : n ≤ 15) (cs : List ℕ) (agree : (j : ℕ) → j < n → items cs j ≡ c j)
+    (fs gs : List ℕ) (flong : 2 ^ n ≤ length fs) (glong : 2 ^ n ≤ length gs)
+    (first : (k : ℕ) → k < 2 ^ n → items fs k ≡ f k) (second : (k : ℕ) → k < 2 ^ n → items gs k ≡ g k) where
+  pub places-taken : Taken p n c n at f g (2 ^ n) (firstPlaces p cs n at fs gs)
+  places-taken =
+      let flength : length (take (2 ^ n) fs) ≡ 2 ^ n = length-take-le (2 ^ n) fs flong in
+      let glength : length (take (2 ^ n) gs) ≡ 2 ^ n = length-take-le (2 ^ n) gs glong in
+      let pairs : 2 ^ n ≡ pairsIn (take (2 ^ n) fs) (take (2 ^ n) gs) = omega arith in
+      subst (λ m. Taken p n c n at f g (2 ^ n) (streamed p cs n at (take (2 ^ n) fs) (take (2 ^ n) gs) m emptyKernel)) pairs
+      (whole-stream p n c n at f g few (le-refl n) cs agree (take (2 ^ n) fs) (take (2 ^ n) gs)
+      (λ k h. getD-take (2 ^ n) fs k 0 h ∙ first k h) (λ k h. getD-take (2 ^ n) gs k 0 h ∙ second k h))
 
 -- the opening of the buffers as they are
-pub stream-values : (p n b : ℕ) (cs fs gs : List ℕ) → n ≤ 15
-    → valuesOf (streamed p cs n (pointsOf p b) fs gs (2 ^ n) emptyKernel .evals) n ≡ inNinety n (opening p n (at cs) (at fs) (at gs) b)
-stream-values p n b cs fs gs few =
-    taken-opened p n (at cs) (pointsOf p b) (at fs) (at gs) (streamed p cs n (pointsOf p b) fs gs (2 ^ n) emptyKernel) b refl refl refl refl
-    (whole-stream p n (at cs) (pointsOf p b) (at fs) (at gs) few cs (λ j h. refl) fs gs (λ k h. refl) (λ k h. refl)) few
+pub stream-values : (p n b : ℕ) (cs fs gs : List ℕ) → n ≤ 15 → 2 ^ n ≤ length fs → 2 ^ n ≤ length gs
+    → valuesOf (firstPlaces p cs n (pointsOf p b) fs gs .evals) n ≡ inNinety n (opening p n (items cs) (items fs) (items gs) b)
+stream-values p n b cs fs gs few flong glong =
+    taken-opened p n (items cs) (pointsOf p b) (items fs) (items gs) (firstPlaces p cs n (pointsOf p b) fs gs) b refl refl refl refl
+    (places-taken p n (items cs) (pointsOf p b) (items fs) (items gs) few cs (λ j h. refl) fs gs flong glong (λ k h. refl) (λ k h. refl)) few
 
 -- it is the opening of the vectors that the buffers hold, under the challenges that the run keeps
-pub opening-same : (p n : ℕ) (c : ℕ → ℕ) (f g : Vector) (b : ℕ) (cs fs gs : List ℕ) → n ≤ 15 → ((j : ℕ) → j < n → at cs j ≡ c j)
-    → ((k : ℕ) → k < 2 ^ n → at fs k ≡ f k) → ((k : ℕ) → k < 2 ^ n → at gs k ≡ g k)
-    → opening p n (at cs) (at fs) (at gs) b ≡ opening p n c f g b
+pub opening-same : (p n : ℕ) (c : ℕ → ℕ) (f g : Vector) (b : ℕ) (cs fs gs : List ℕ) → n ≤ 15 → ((j : ℕ) → j < n → items cs j ≡ c j)
+    → ((k : ℕ) → k < 2 ^ n → items fs k ≡ f k) → ((k : ℕ) → k < 2 ^ n → items gs k ≡ g k)
+    → opening p n (items cs) (items fs) (items gs) b ≡ opening p n c f g b
 opening-same p n c f g b cs fs gs few agree first second =
     let k : Kernel = streamed p cs n (pointsOf p b) fs gs (2 ^ n) emptyKernel in
     sym
-    (taken-opening p n (at cs) (pointsOf p b) (at fs) (at gs) k b refl refl refl refl
-    (whole-stream p n (at cs) (pointsOf p b) (at fs) (at gs) few cs (λ j h. refl) fs gs (λ k h. refl) (λ k h. refl)))
+    (taken-opening p n (items cs) (pointsOf p b) (items fs) (items gs) k b refl refl refl refl
+    (whole-stream p n (items cs) n (pointsOf p b) (items fs) (items gs) few (le-refl n) cs (λ j h. refl) fs gs (λ k h. refl) (λ k h. refl)))
     ∙ taken-opening p n c (pointsOf p b) f g k b refl refl refl refl
-    (whole-stream p n c (pointsOf p b) f g few cs agree fs gs first second)
+    (whole-stream p n c n (pointsOf p b) f g few (le-refl n) cs agree fs gs first second)
 
 -- the first 2^n places are there
 pub fold-there : (p : ℕ) (r : Run) (s : Pass) (fs gs : List ℕ) → openingTurn p r s ≡ true → bothLong r (length fs) (length gs) ≡ true
@@ -96,7 +83,7 @@ fold-there p r s fs gs turn l =
 
 -- THE LAW: in full mode an opening is answered by the opening of the vectors at the point
 pub opening-law : (p : ℕ) (c : ℕ → ℕ) (f g : Vector) (r : Run) (s : Pass) (fs gs : List ℕ) → Lent p c f g r fs gs → bothReduced p r fs gs ≡ true
-    → ((j : ℕ) → j < r .start .rounds → at (r .challenges) j ≡ c j) → (b : ℕ) → openingTurn p r s ≡ true → isNonzero p b ≡ true
+    → ((j : ℕ) → j < r .start .rounds → items (r .challenges) j ≡ c j) → (b : ℕ) → openingTurn p r s ≡ true → isNonzero p b ≡ true
     → openingCall p r s b fs gs
     ≡ answered (record { run = r; pass = s; answer = answered reply.opening; values = inNinety (r .start .rounds) (opening p (r .start .rounds) c f g b); f = fs; g = gs })
 unfolding openingCall openingGiven foldWith

@@ -12,11 +12,11 @@ use lib.Seq.{sets, sets-eq, drop-at}
 use Rattle.algebra.specs.Mod.{negMod, mulMod}
 use Rattle.vector.specs.Vector.{Vector}
 use Rattle.vector.specs.Opening.{Triple, triple, tripleValues, opening}
-use Rattle.vector.specs.declared.kernel.Points.{Points}
-use Rattle.vector.specs.declared.kernel.Evals.{Evals}
-use Rattle.vector.specs.declared.kernel.Kernel.{Kernel}
-use Rattle.vector.proofs.KernelPass.{Taken}
-use Rattle.vector.proofs.KernelEnds.{taken-triples}
+use Rattle.kernel.specs.declared.Points.{Points}
+use Rattle.kernel.specs.declared.Evals.{Evals}
+use Rattle.kernel.specs.declared.Kernel.{Kernel}
+use Rattle.kernel.proofs.KernelPass.{Taken}
+use Rattle.kernel.proofs.KernelEnds.{taken-triples}
 use Rattle.prover.specs.Records.{noValues}
 use Rattle.prover.specs.Values.{tripleIn, openingIn, inNinety, valuesOf}
 

@@ -13,13 +13,14 @@ use Rattle.item.specs.declared.Item.{Item}
 use Rattle.item.specs.declared.Parts.{Parts}
 use Rattle.item.specs.declared.Parts.the-variants as parts
 use Rattle.item.specs.Item.{partsOf, partsIn}
+use Rattle.kernel.specs.Change.{placedOf}
 use Rattle.prover.specs.declared.Run.{Run}
 use Rattle.prover.specs.declared.Pass.{Pass}
 use Rattle.prover.specs.declared.Step.{Step}
 use Rattle.prover.specs.declared.Answer.the-variants as answer
-use Rattle.prover.specs.Records.{withKernel, Out, out, leaves, answeredStep, refusedStep}
+use Rattle.prover.specs.Records.{isChange, Out, out, leaves, answeredStep, refusedStep}
 use Rattle.prover.specs.Order.{isTotal}
-use Rattle.prover.specs.Take.{nextIndex, entering, summedItem, enteredItem, oneMore, placedIn, takes}
+use Rattle.prover.specs.Take.{nextIndex, entering, summedItem, enteredItem, placedItem, takenItem, takes}
 use Rattle.prover.specs.Calls.{passOpen, bothLong, placesThere, withItem, refusedParts, itemPlaces, giveCall}
 use Rattle.prover.specs.Change.{mayChange, changes, toFullCall}
 use Rattle.prover.specs.Written.{mayWrite, writeCall}
@@ -29,18 +30,24 @@ module _ (p : ℕ) (r : Run) (s : Pass) (x : Item) (f g : List ℕ) where
   abbrev summing : Out
   summing = out (answeredStep r (summedItem p s x (entering p r s x)) answer.Taken) f g
 
-  abbrev climbing : Out
-  climbing =
-      let e = enteredItem p r s (entering p r s x) (x .g) in
-      out (answeredStep r (withKernel (oneMore s) (e .kernel)) answer.Taken) (placedIn r s e (e .f) f) (placedIn r s e (e .g) g)
+  abbrev stacking : Bool → Out
+  stacking b = takenItem r s (cond b (placedItem p r s (entering p r s x) (x .g) f g) (placedOf (enteredItem p r s (entering p r s x) (x .g)) f g))
 
   pub takes-sum : isTotal (r .next) ≡ true → takes p r s x f g ≡ summing
   unfolding takes
-  takes-sum h = ap (λ b. cond b summing climbing) h
+  takes-sum h = ap (λ b. cond b summing (stacking (isChange (s .kind)))) h
 
-  pub takes-climb : isTotal (r .next) ≡ false → takes p r s x f g ≡ climbing
+  takes-stacks : isTotal (r .next) ≡ false → (b : Bool) → isChange (s .kind) ≡ b → takes p r s x f g ≡ stacking b
   unfolding takes
-  takes-climb h = ap (λ b. cond b summing climbing) h
+  takes-stacks h b k = ap (λ b. cond b summing (stacking (isChange (s .kind)))) h ∙ ap stacking k
+
+  pub takes-enter : isTotal (r .next) ≡ false → isChange (s .kind) ≡ false
+      → takes p r s x f g ≡ takenItem r s (placedOf (enteredItem p r s (entering p r s x) (x .g)) f g)
+  takes-enter h k = takes-stacks h false k
+
+  pub takes-place : isTotal (r .next) ≡ false → isChange (s .kind) ≡ true
+      → takes p r s x f g ≡ takenItem r s (placedItem p r s (entering p r s x) (x .g) f g)
+  takes-place h k = takes-stacks h true k
 
 -- a check in a row: the refusal, or the rest
 module _ (r : Run) (s : Pass) (f g : List ℕ) where

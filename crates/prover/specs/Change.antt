@@ -6,7 +6,7 @@ use lib.Dec.{ltb}
 use lib.ListN.{length, set}
 use Rattle.refusal.specs.Number as number
 use Rattle.refusal.specs.Outcome.{Outcome, answered, require}
-use Rattle.vector.specs.Kernel.{emptyKernel, paddingKernel}
+use Rattle.kernel.specs.Kernel.{emptyKernel, paddingBelow}
 use Rattle.prover.specs.declared.Next.{Next}
 use Rattle.prover.specs.declared.Next.the-variants.{Total, Message, Challenge, Ends, Openings}
 use Rattle.prover.specs.declared.Kind.{Kind}
@@ -49,7 +49,7 @@ abbrev pub paddedBuffer : Run → List ℕ → List ℕ
 paddedBuffer r xs = cleared (foldSize r - paddingPlaces r) (paddingPlaces r) xs
 
 abbrev pub changePass : Run → Pass
-changePass r = newPass Change noPoints (paddingKernel (padding r) (levelOf r Change))
+changePass r = newPass Change noPoints (paddingBelow (padding r) (levelOf r Change))
 
 abbrev pub changes : Run → List ℕ → List ℕ → Out
 changes r f g = out (answeredStep r (changePass r) answer.Opened) (paddedBuffer r f) (paddedBuffer r g)

@@ -8,9 +8,10 @@ use Rattle.refusal.specs.Number as number
 use Rattle.refusal.specs.Outcome.{Outcome, answered, refused, require}
 use Rattle.algebra.specs.Mod.{negMod, mulMod}
 use Rattle.field.specs.Number.{isNonzero}
-use Rattle.vector.specs.declared.kernel.Kernel.{Kernel}
-use Rattle.vector.specs.declared.kernel.Points.{Points}
-use Rattle.vector.specs.Kernel.{emptyKernel, paddingKernel}
+use Rattle.kernel.specs.declared.Kernel.{Kernel}
+use Rattle.kernel.specs.declared.Points.{Points}
+pub use Rattle.kernel.specs.Kernel.{noPoints}
+use Rattle.kernel.specs.Kernel.{emptyKernel, paddingKernel}
 use Rattle.prover.specs.declared.Next.{Next}
 use Rattle.prover.specs.declared.Next.the-variants.{Total, Message, Challenge, Ends, Openings}
 use Rattle.prover.specs.declared.Kind.{Kind}
@@ -43,10 +44,6 @@ newPass kind points k =
       odd = k .odd;
       evals = k .evals;
     }
-
--- a pass that evaluates nothing
-abbrev pub noPoints : Points
-noPoints = record { on = false; point = 0; minus = 0; square = 0 }
 
 -- "Opening at point b": b, -b, b squared
 abbrev pub pointsOf : ℕ → ℕ → Points

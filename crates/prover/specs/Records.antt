@@ -4,7 +4,7 @@ use mathlib.Core.Bool.{Bool, true, false}
 use mathlib.Core.List.{List}
 use lib.ListN.{replicate}
 use Rattle.refusal.specs.Outcome.{Outcome, answered, refused, refusedAt}
-use Rattle.vector.specs.declared.kernel.Kernel.{Kernel}
+use Rattle.kernel.specs.declared.Kernel.{Kernel}
 use Rattle.prover.specs.declared.Mode.{Mode}
 use Rattle.prover.specs.declared.Mode.the-variants.{Small, Full}
 use Rattle.prover.specs.declared.Kind.{Kind}

@@ -6,7 +6,7 @@ use lib.ListN.{replicate}
 use Rattle.refusal.specs.Number as number
 use Rattle.refusal.specs.Outcome.{Outcome, answered, require}
 use Rattle.field.specs.Number.{isNonzero}
-use Rattle.vector.specs.Kernel.{emptyKernel}
+use Rattle.kernel.specs.Kernel.{emptyKernel}
 use Rattle.vector.specs.Rounds.{roundsOf}
 use Rattle.item.specs.declared.Start.{Start}
 use Rattle.item.specs.Start.{countFits, roundsFit, listFits, plainStart, twistedStart, ruleStart, noStart}

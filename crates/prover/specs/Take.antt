@@ -1,16 +1,15 @@
 -- What an answered item does: to the total, to the stacks, and, in a change pass, to the buffers.
-use Prim.Native.Nat.{ℕ, _+_, _-_, _/_, _^_}
-use mathlib.Core.Bool.{Bool, false, cond}
+use Prim.Native.Nat.{ℕ, _+_, _-_}
+use mathlib.Core.Bool.{cond}
 use mathlib.Core.List.{List}
-use lib.Dec.{eqb}
-use lib.ListN.{set}
 use Rattle.algebra.specs.Mod.{addMod, mulMod}
 use Rattle.field.specs.Total.{plus}
 use Rattle.vector.specs.Vector.{at, weight}
 use Rattle.item.specs.declared.Item.{Item}
 use Rattle.item.specs.declared.Start.{Start}
-use Rattle.vector.specs.declared.kernel.Entered.{Entered}
-use Rattle.vector.specs.Kernel.{entered}
+use Rattle.kernel.specs.declared.Kernel.{Kernel}
+use Rattle.kernel.specs.Kernel.{entered}
+use Rattle.kernel.specs.Change.{Placed, placedOf, placed}
 use Rattle.prover.specs.declared.Run.{Run}
 use Rattle.prover.specs.declared.Pass.{Pass}
 use Rattle.prover.specs.declared.Answer.the-variants as answer
@@ -70,25 +69,20 @@ summedItem p s x f =
       evals = s .evals;
     }
 
--- a pair enters the stacks
-unfoldable pub enteredItem : ℕ → Run → Pass → ℕ → ℕ → Entered
+-- a pair of a pass that was asked for enters the stacks
+unfoldable pub enteredItem : ℕ → Run → Pass → ℕ → ℕ → Kernel
 enteredItem p r s f g = entered p (r .challenges) (levelOf r (s .kind)) (s .points) (kernelOf s) f g
 
--- the place of the current fold that a pair completes, where t pairs came before it
-abbrev pub placeOf : Run → Pass → ℕ
-placeOf r s = foldSize r - 1 - (padding r + s .taken) / 2 ^ levelOf r (s .kind)
+-- a pair of a change pass: "each place by the call that completes its value"
+unfoldable pub placedItem : ℕ → Run → Pass → ℕ → ℕ → List ℕ → List ℕ → Placed
+placedItem p r s a b f g =
+    placed p (r .challenges) (levelOf r (s .kind)) (foldSize r) (padding r + s .taken) (placedOf (kernelOf s) f g) a b
 
--- "each place by the call that completes its value"
-abbrev pub placeDone : Run → Pass → ℕ → Bool
-placeDone r s level = cond (isChange (s .kind)) (eqb level (levelOf r (s .kind))) false
-
--- a buffer after a pair entered
-abbrev pub placedIn : Run → Pass → Entered → ℕ → List ℕ → List ℕ
-placedIn r s e value buffer = cond (placeDone r s (e .level)) (set buffer (placeOf r s) value) buffer
+abbrev pub takenItem : Run → Pass → Placed → Out
+takenItem r s k = out (answeredStep r (withKernel (oneMore s) (k .kernel)) answer.Taken) (k .f) (k .g)
 
 unfoldable pub takes : ℕ → Run → Pass → Item → List ℕ → List ℕ → Out
 takes p r s x f g =
     let a : ℕ = entering p r s x in
-    let e : Entered = enteredItem p r s a (x .g) in
     cond (isTotal (r .next)) (out (answeredStep r (summedItem p s x a) answer.Taken) f g)
-    (out (answeredStep r (withKernel (oneMore s) (e .kernel)) answer.Taken) (placedIn r s e (e .f) f) (placedIn r s e (e .g) g))
+    (takenItem r s (cond (isChange (s .kind)) (placedItem p r s a (x .g) f g) (placedOf (enteredItem p r s a (x .g)) f g)))

@@ -5,7 +5,7 @@ use mathlib.Core.List.{List, _++_}
 use lib.Dec.{ltb}
 use lib.ListN.{getD, replicate}
 use Rattle.vector.specs.Opening.{Triple, tripleValues}
-use Rattle.vector.specs.declared.kernel.Evals.{Evals}
+use Rattle.kernel.specs.declared.Evals.{Evals}
 use Rattle.prover.specs.Records.{noValues}
 
 -- the three values of a vector for the levels k and k + 1, from its evaluations at each level

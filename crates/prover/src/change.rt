@@ -25,7 +25,7 @@ use vector::slice::write;
 pub fn empty_pass(kind: Kind) -> Pass
     ensures { λ r. ⌜ r ≡ emptyPass kind ⌝ }
 {
-    open::new_pass(kind, open::no_points(), vector::kernel::empty())
+    open::new_pass(kind, open::no_points(), kernel::start::empty())
 }
 
 fn change_at(next: Next, rounds: u32) -> bool
@@ -100,7 +100,7 @@ fn change_pass(run: Run) -> Pass
     let next = run.next;
     let level = levels::level_of(start.rounds, run.round, next, Kind::Change);
     let padding = levels::padding_of(start.items, start.rounds);
-    let kernel = vector::kernel::padding(padding, level);
+    let kernel = kernel::start::padding_below(padding, level);
     open::new_pass(Kind::Change, open::no_points(), kernel)
 }
 

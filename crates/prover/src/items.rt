@@ -4,10 +4,11 @@ ghost use Prim.Native.Nat.{_≤_, _<_};
 ghost use Rattle.item.specs.Start.{modulusOf};
 ghost use Rattle.item.specs.declared.Given.the-variants as Given;
 ghost use Rattle.prover.specs.Records.{out, leaves};
-ghost use Rattle.prover.specs.Take.{entersAs, summedItem, enteredItem, oneMore, placeOf, placeDone, placedIn, takes};
+ghost use Rattle.kernel.specs.Kernel.{entered};
+ghost use Rattle.kernel.specs.Change.{placedOf, placed};
+ghost use Rattle.prover.specs.Take.{entersAs, summedItem, oneMore, takes};
 ghost use Rattle.prover.specs.Calls.{refusedParts, giveCall};
 use super::Answer;
-use super::Kind;
 use super::Pass;
 use super::Run;
 use super::Step;
@@ -22,8 +23,8 @@ use item::Item;
 use item::Parts;
 use item::Start;
 use refusal::Check;
-use vector::kernel::Entered;
-use vector::slice::write;
+use kernel::Kernel;
+use kernel::Points;
 
 // The number that enters f.
 fn twisted(p: u32, start: Start, index: u32, f: u32) -> u32
@@ -53,64 +54,33 @@ fn sum(p: u32, pass: Pass, x: Item, f: u32) -> Pass
     }
 }
 
-// A pair that enters the stacks.
-fn climb(p: u32, run: Run, pass: Pass, f: u32, g: u32) -> Entered
-    ensures { λ r. ⌜ r ≡ enteredItem p run pass f g ⌝ }
+// A pair of a pass that was asked for enters the stacks.
+fn enter(p: u32, challenges: [u32; 15], level: u32, points: Points, k: Kernel, f: u32, g: u32) -> Kernel
+    ensures { λ r. ⌜ r ≡ entered p challenges level points k f g ⌝ }
 {
-    let challenges = run.challenges;
-    let kind = pass.kind;
-    let points = pass.points;
-    let start = run.start;
-    let next = run.next;
-    let level = levels::level_of(start.rounds, run.round, next, kind);
-    let kernel = kernels::kernel_of(pass);
-    vector::kernel::enter(p, challenges, level, points, kernel, f, g)
+    let a = [f];
+    let b = [g];
+    kernel::evaluate_all(p, challenges, level, points, k, &a, &b)
 }
 
-// The place of the current fold that the next pair completes.
-fn place_of(run: Run, pass: Pass) -> usize
-    requires { ⌜ (run .start .rounds ≤ 15) × (run .round ≤ run .start .rounds) × (pass .taken < 32768) ⌝ }
-    ensures { λ r. ⌜ r ≡ placeOf run pass ⌝ }
+// A pair of a change pass: "each place by the call that completes its value".
+fn place(
+    p: u32,
+    challenges: [u32; 15],
+    level: u32,
+    size: u32,
+    taken: u32,
+    k: Kernel,
+    x: u32,
+    y: u32,
+    f: &mut [u32],
+    g: &mut [u32],
+) -> Kernel
+    ensures { λ r. ⌜ placedOf r (now (f .exit)) (now (g .exit)) ≡ placed p challenges level size taken (placedOf k (now (f .entry)) (now (g .entry))) x y ⌝ }
 {
-    let kind = pass.kind;
-    let start = run.start;
-    let next = run.next;
-    let level = levels::level_of(start.rounds, run.round, next, kind);
-    let size = levels::fold_size(start.rounds, run.round, next);
-    let padding = levels::padding_of(start.items, start.rounds);
-    let q = (padding + pass.taken) >> level;
-    if size <= q {
-        return 0;
-    }
-    (size - 1 - q) as usize
-}
-
-// Whether a pair that entered completes a place: in a change pass, at the last level.
-fn place_done(run: Run, pass: Pass, level: u32) -> bool
-    ensures { λ r. ⌜ r ≡ placeDone run pass level ⌝ }
-{
-    let kind = pass.kind;
-    let start = run.start;
-    let next = run.next;
-    let last = levels::level_of(start.rounds, run.round, next, kind);
-    match kind {
-        Kind::Shut => false,
-        Kind::Asked => false,
-        Kind::Change => level == last,
-    }
-}
-
-// "each place by the call that completes its value"
-fn place(run: Run, pass: Pass, e: Entered, f: &mut [u32], g: &mut [u32])
-    requires { ⌜ (run .start .rounds ≤ 15) × (run .round ≤ run .start .rounds) × (pass .taken < 32768) ⌝ }
-    ensures { λ r. ⌜ (now (f .exit) ≡ placedIn run pass e (e .f) (now (f .entry))) × (now (g .exit) ≡ placedIn run pass e (e .g) (now (g .entry))) ⌝ }
-{
-    if place_done(run, pass, e.level) {} else {
-        return;
-    }
-    let j = place_of(run, pass);
-    write(f, j, e.f);
-    write(g, j, e.g);
+    let a = [x];
+    let b = [y];
+    kernel::place_all(p, challenges, level, size, taken, k, &a, &b, f, g)
 }
 
 fn one_more(pass: Pass) -> Pass
@@ -134,12 +104,25 @@ fn take(p: u32, run: Run, pass: Pass, x: Item, f: &mut [u32], g: &mut [u32]) -> 
     if levels::is_total(next) {
         return answered(run, sum(p, pass, x, a), Answer::Taken);
     }
-    let e = climb(p, run, pass, a, x.g);
-    let kernel = e.kernel;
-    place(run, pass, e, f, g);
+    let challenges = run.challenges;
+    let kind = pass.kind;
+    let level = levels::level_of(start.rounds, run.round, next, kind);
+    let k = kernels::kernel_of(pass);
+    if levels::is_change(kind) {
+        let size = levels::fold_size(start.rounds, run.round, next);
+        let taken = levels::padding_of(start.items, start.rounds) + pass.taken;
+        let after = place(p, challenges, level, size, taken, k, a, x.g, f, g);
+        return answered(
+            run,
+            kernels::with_kernel(one_more(pass), after),
+            Answer::Taken,
+        );
+    }
+    let points = pass.points;
+    let after = enter(p, challenges, level, points, k, a, x.g);
     answered(
         run,
-        kernels::with_kernel(one_more(pass), kernel),
+        kernels::with_kernel(one_more(pass), after),
         Answer::Taken,
     )
 }

@@ -2,7 +2,7 @@
 ghost use mathlib.Core.Path.{_≡_};
 ghost use Rattle.prover.specs.Records.{kernelOf, withKernel};
 use super::Pass;
-use vector::kernel::Kernel;
+use kernel::Kernel;
 
 pub fn kernel_of(pass: Pass) -> Kernel
     ensures { λ r. ⌜ r ≡ kernelOf pass ⌝ }

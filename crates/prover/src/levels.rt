@@ -1,5 +1,6 @@
 // The fold that a pass or a full-mode call works on.
 ghost use mathlib.Core.Path.{_≡_};
+ghost use Rattle.prover.specs.Records.{isChange};
 ghost use Rattle.prover.specs.Order.{isTotal, levelAt, foldAt, paddingOf};
 use super::Kind;
 use super::Next;
@@ -37,6 +38,16 @@ pub fn is_total(next: Next) -> bool
         Next::Challenge => false,
         Next::Ends => false,
         Next::Openings => false,
+    }
+}
+
+pub fn is_change(kind: Kind) -> bool
+    ensures { λ r. ⌜ r ≡ isChange kind ⌝ }
+{
+    match kind {
+        Kind::Shut => false,
+        Kind::Asked => false,
+        Kind::Change => true,
     }
 }
 

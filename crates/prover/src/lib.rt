@@ -19,8 +19,8 @@ mod values;
 mod written;
 
 use item::Start;
-use vector::kernel::Evals;
-use vector::kernel::Points;
+use kernel::Evals;
+use kernel::Points;
 
 pub enum Mode {
     // Streaming: each answer takes a pass.

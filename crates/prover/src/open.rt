@@ -17,8 +17,8 @@ use field::Checked;
 use field::Field;
 use field::modular;
 use refusal::Check;
-use vector::kernel::Kernel;
-use vector::kernel::Points;
+use kernel::Kernel;
+use kernel::Points;
 
 // A pass that has taken no item.
 pub fn new_pass(kind: Kind, points: Points, k: Kernel) -> Pass
@@ -81,7 +81,7 @@ fn padded_kernel(run: Run) -> Kernel
     let next = run.next;
     let padding = levels::padding_of(start.items, start.rounds);
     let level = levels::level_of(start.rounds, run.round, next, Kind::Asked);
-    vector::kernel::padding(padding, level)
+    kernel::start::padding(padding, level)
 }
 
 // A pass for the total has no stack.
@@ -90,7 +90,7 @@ fn open_kernel(run: Run) -> Kernel
 {
     let next = run.next;
     if levels::is_total(next) {
-        return vector::kernel::empty();
+        return kernel::start::empty();
     }
     padded_kernel(run)
 }

@@ -3,12 +3,11 @@ ghost use mathlib.Core.Path.{_≡_};
 ghost use Prim.Native.Nat.{_≤_, _^_};
 ghost use lib.ListN.{length};
 ghost use Rattle.vector.specs.Vector.{at};
-ghost use Rattle.vector.specs.Kernel.{emptyKernel};
 ghost use Rattle.vector.specs.Opening.{opening};
 ghost use Rattle.item.specs.Start.{modulusOf};
 ghost use Rattle.prover.specs.Records.{out, leaves};
 ghost use Rattle.prover.specs.Values.{inNinety};
-ghost use Rattle.prover.specs.Opening.{streamed, openingGiven, openingCall};
+ghost use Rattle.prover.specs.Opening.{openingGiven, openingCall};
 use super::Answer;
 use super::Pass;
 use super::Run;
@@ -21,32 +20,6 @@ use super::values;
 use field::Checked;
 use field::Field;
 use refusal::Check;
-use vector::kernel::Kernel;
-use vector::kernel::Points;
-
-// The kernel of a pass over the first `count` places, "from last item to first".
-fn stream(
-    p: u32,
-    challenges: [u32; 15],
-    last: u32,
-    points: Points,
-    f: &[u32],
-    g: &[u32],
-    count: usize,
-) -> Kernel
-    requires { ⌜ (count ≤ length (now f)) × (count ≤ length (now g)) ⌝ }
-    ensures { λ r. ⌜ r ≡ streamed p challenges last points (now (f .entry)) (now (g .entry)) count emptyKernel ⌝ }
-{
-    let mut k = vector::kernel::empty();
-    let mut i = count;
-    while i > 0 {
-        i -= 1;
-        let e = vector::kernel::enter(p, challenges, last, points, k, f[i], g[i]);
-        let next = e.kernel;
-        k = next;
-    }
-    k
-}
 
 // The twists are in fold 0 already, so that its places enter as they are.
 fn opening_values(p: u32, run: Run, b: u32, f: &[u32], g: &[u32]) -> [u32; 90]
@@ -57,8 +30,16 @@ fn opening_values(p: u32, run: Run, b: u32, f: &[u32], g: &[u32]) -> [u32; 90]
     let start = run.start;
     let count = vector::sizes::size_of(start.rounds, 0) as usize;
     let points = points_of(p, b);
-    let kernel = stream(p, challenges, start.rounds, points, f, g, count);
-    let evals = kernel.evals;
+    let k = kernel::evaluate_all(
+        p,
+        challenges,
+        start.rounds,
+        points,
+        kernel::start::empty(),
+        &f[..count],
+        &g[..count],
+    );
+    let evals = k.evals;
     values::values_of(evals, start.rounds)
 }
 

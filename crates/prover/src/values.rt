@@ -4,7 +4,7 @@ ghost use Prim.Native.Nat.{_+_, _*_, _≤_};
 ghost use lib.Seq.{sets};
 ghost use Rattle.vector.specs.Opening.{tripleValues};
 ghost use Rattle.prover.specs.Values.{tripleIn, valuesOf};
-use vector::kernel::Evals;
+use kernel::Evals;
 
 // The values of one vector, three for each round, from a place on.
 fn triples(

@@ -12,10 +12,10 @@ use Rattle.vector.specs.Vector.{Vector, at}
 use Rattle.vector.specs.Fold.{fold}
 use Rattle.item.specs.declared.Item.{Item}
 use Rattle.vector.specs.declared.kernel.Entered.{Entered}
-use Rattle.vector.specs.Kernel.{entered}
-use Rattle.vector.proofs.KernelOpen.{padded-fold}
-use Rattle.vector.proofs.KernelLevels.{Levelled}
-use Rattle.vector.proofs.KernelPass.{Taken, arrives-last, arrives-below}
+use Rattle.kernel.specs.Kernel.{entered}
+use Rattle.kernel.proofs.KernelOpen.{padded-fold}
+use Rattle.kernel.proofs.KernelLevels.{Levelled}
+use Rattle.kernel.proofs.KernelPass.{Taken, arrives-last, arrives-below}
 use Rattle.prover.specs.declared.Kind.the-variants.{Change}
 use Rattle.prover.specs.declared.Run.{Run}
 use Rattle.prover.specs.declared.Pass.{Pass}

@@ -12,11 +12,11 @@ use Rattle.vector.specs.Vector.{Vector}
 use Rattle.vector.specs.Fold.{fold, endValue}
 use Rattle.vector.specs.Message.{Message as Numbers, message}
 use Rattle.vector.specs.Opening.{opening}
-use Rattle.vector.specs.KernelView.{sumsOf}
+use Rattle.kernel.specs.KernelView.{sumsOf}
 use Rattle.vector.proofs.Folds.{fold-reduced}
 use Rattle.vector.specs.Stack.{ones}
-use Rattle.vector.proofs.KernelPass.{Taken, taken-first, taken-second, taken-count, taken-at-most}
-use Rattle.vector.proofs.KernelEnds.{taken-message, taken-end-first, taken-end-second}
+use Rattle.kernel.proofs.KernelPass.{Taken, taken-first, taken-second, taken-count, taken-at-most}
+use Rattle.kernel.proofs.KernelEnds.{taken-message, taken-end-first, taken-end-second}
 use Rattle.prover.specs.declared.Next.the-variants.{Message, Ends, Openings}
 use Rattle.prover.specs.declared.Kind.the-variants.{Asked}
 use Rattle.prover.specs.declared.Run.{Run}

@@ -7,21 +7,21 @@ use native.Mathlib.Nat.{mod-lt}
 use native.Mathlib.Omega.{arith}
 use lib.Dec.{eqb, ltb}
 use lib.Pow.{high, split, pow-pos}
-use Rattle.vector.specs.declared.kernel.Points.{Points}
-use Rattle.vector.specs.declared.kernel.Kernel.{Kernel}
+use Rattle.kernel.specs.declared.Points.{Points}
+use Rattle.kernel.specs.declared.Kernel.{Kernel}
 use Rattle.vector.specs.Vector.{Vector, at as items}
 use Rattle.vector.specs.Fold.{combinePair, beside}
 use Rattle.vector.specs.Stack.{Stack, entries, levels, onesFrom}
-use Rattle.vector.specs.Kernel.{entered}
-use Rattle.vector.specs.KernelView.{stackPairs}
+use Rattle.kernel.specs.Kernel.{entered}
+use Rattle.kernel.specs.KernelView.{stackPairs}
 use Rattle.vector.proofs.Counts.{completes-zero}
 use Rattle.vector.proofs.Machine.{enter}
 use Rattle.vector.proofs.StackLaw.{enter-item}
 use Rattle.vector.proofs.StackCount.{ones-below, entries-levels}
 use Rattle.vector.proofs.Arrivals.{StopsAt, stops-last, stops-below, multiple-completes, completes-multiple, arrivals}
-use Rattle.vector.proofs.KernelMachine.{arriving, meeting, gathering, entered-enter}
-use Rattle.vector.proofs.KernelPass.{Taken}
-use Rattle.vector.proofs.KernelLevels.{Levelled, levelled-count}
+use Rattle.kernel.proofs.KernelMachine.{arriving, meeting, gathering, entered-enter}
+use Rattle.kernel.proofs.KernelPass.{Taken}
+use Rattle.kernel.proofs.KernelLevels.{Levelled, levelled-count}
 
 -- the kernel of a pass has its levels
 pub taken-levelled : (p n : ℕ) (c : ℕ → ℕ) (i : ℕ) (at : Points) (f g : Vector) (t : ℕ) (k : Kernel) → Taken p n c i at f g t k → Levelled i t k

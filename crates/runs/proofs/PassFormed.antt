@@ -7,7 +7,7 @@ use native.Mathlib.Omega.{arith}
 use lib.IntN.{natAbs}
 use lib.ListN.{length}
 use borrow.Author.Tests.{le-leb, le-ltb, eq-eqb}
-use Rattle.vector.specs.Kernel.{emptyKernel}
+use Rattle.kernel.specs.Kernel.{emptyKernel}
 use Rattle.prover.specs.declared.Mode.{Mode}
 use Rattle.prover.specs.declared.Mode.the-variants.{Small, Full}
 use Rattle.prover.specs.declared.Next.{Next}

@@ -7,12 +7,12 @@ use Prim.Native.Nat.{ℕ, zero, suc, _+_, _/_, _^_, _<_, _≤_}
 use native.Mathlib.Nat.{eq-or-lt-of-le}
 use native.Mathlib.Omega.{arith}
 use lib.ListN.{length}
-use Rattle.vector.specs.declared.kernel.Kernel.{Kernel}
-use Rattle.vector.specs.Kernel.{entered, emptyKernel, paddingKernel}
+use Rattle.kernel.specs.declared.Kernel.{Kernel}
+use Rattle.kernel.specs.Kernel.{entered, emptyKernel, paddingKernel}
 use Rattle.vector.specs.Stack.{ones}
 use Rattle.vector.proofs.StackCount.{ones-below}
-use Rattle.vector.proofs.KernelLevels.{Levelled, levelled-count}
-use Rattle.vector.proofs.KernelStream.{kernelOf as streamOf, levelled-list}
+use Rattle.kernel.proofs.KernelLevels.{Levelled, levelled-count}
+use Rattle.kernel.proofs.KernelStream.{kernelOf as streamOf, levelled-list}
 use Rattle.prover.specs.declared.Kind.{Kind}
 use Rattle.prover.specs.declared.Kind.the-variants.{Shut, Asked, Change}
 use Rattle.prover.specs.declared.Run.{Run}

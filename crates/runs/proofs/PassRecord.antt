@@ -8,9 +8,9 @@ use lib.ListN.{length}
 use Rattle.algebra.specs.Mod.{addMod, mulMod}
 use Rattle.field.specs.Total.{plus}
 use Rattle.item.specs.declared.Item.{Item}
-use Rattle.vector.specs.declared.kernel.Points.{Points}
-use Rattle.vector.specs.declared.kernel.Kernel.{Kernel}
-use Rattle.vector.specs.Kernel.{emptyKernel, paddingKernel}
+use Rattle.kernel.specs.declared.Points.{Points}
+use Rattle.kernel.specs.declared.Kernel.{Kernel}
+use Rattle.kernel.specs.Kernel.{emptyKernel, paddingKernel}
 use Rattle.prover.specs.declared.Kind.{Kind}
 use Rattle.prover.specs.declared.Kind.the-variants.{Shut, Asked, Change}
 use Rattle.prover.specs.declared.Run.{Run}

@@ -11,12 +11,12 @@ use Rattle.algebra.specs.Mod.{residue, addMod, mulMod}
 use Rattle.algebra.proofs.Congruence.{residue-zero}
 use Rattle.vector.specs.Vector.{Vector, at, dot, padded}
 use Rattle.vector.specs.Fold.{beside}
-use Rattle.vector.specs.declared.kernel.Points.{Points}
-use Rattle.vector.specs.Kernel.{paddingKernel}
+use Rattle.kernel.specs.declared.Points.{Points}
+use Rattle.kernel.specs.Kernel.{paddingKernel}
 use Rattle.vector.proofs.Sums.{lastSum, last-sum, running-product}
 use Rattle.vector.proofs.Messages.{dot-padded}
-use Rattle.vector.proofs.KernelPass.{Taken}
-use Rattle.vector.proofs.KernelStream.{kernelOf as streamOf, taken-pass}
+use Rattle.kernel.proofs.KernelPass.{Taken}
+use Rattle.kernel.proofs.KernelStream.{kernelOf as streamOf, taken-pass}
 use Rattle.prover.specs.declared.Kind.{Kind}
 use Rattle.prover.specs.declared.Run.{Run}
 use Rattle.prover.specs.Records.{kernelOf, isOpen}

@@ -4,7 +4,7 @@ use mathlib.Core.Path.{_≡_}
 use Rattle.vector.specs.Vector.{Vector}
 use Rattle.vector.specs.Fold.{combine}
 use Rattle.vector.specs.Stack.{entries}
-use Rattle.vector.specs.KernelView.{stackF, stackG}
+use Rattle.kernel.specs.KernelView.{stackF, stackG}
 use Rattle.prover.specs.declared.Pass.{Pass}
 use Rattle.prover.specs.Records.{kernelOf}
 

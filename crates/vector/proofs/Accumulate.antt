@@ -1,13 +1,12 @@
 -- A running sum of products kept modulo p.
-use mathlib.Core.Path.{_≡_, sym, ap, _∙_}
+use mathlib.Core.Path.{_≡_, sym, ap, ap₂, _∙_}
 use Prim.Native.Nat.{ℕ, _+_, _*_}
-use native.Mathlib.Nat.{add-assoc}
 use native.Mathlib.Numerals.{add-one}
 use Rattle.algebra.specs.Mod.{residue, addMod, mulMod}
-use Rattle.algebra.proofs.Congruence.{residue-zero}
+use Rattle.algebra.proofs.Congruence.{residue-zero, cong-residue, cong-add}
 use Rattle.vector.specs.Vector.{Vector, sum}
 use Rattle.vector.specs.Message.{evenSum, crossSum, oddSum}
-use Rattle.vector.proofs.Sums.{running-product}
+use Rattle.vector.proofs.Sums.{sum-plus, running-product}
 
 pub sum-next : (n : ℕ) (v : Vector) → sum n v + v n ≡ sum (n + 1) v
 unfolding sum
@@ -36,10 +35,19 @@ module _ (p k : ℕ) (f g : Vector) (x : ℕ) where
       → addMod p x (mulMod p (f (2 * k + 1)) (g (2 * k + 1))) ≡ residue p (oddSum (k + 1) f g)
   add-odd e = add-item p k (λ i. f (2 * i + 1)) (λ i. g (2 * i + 1)) x e
 
-  pub add-cross : x ≡ residue p (crossSum k f g)
-      → addMod p (addMod p x (mulMod p (f (2 * k)) (g (2 * k + 1)))) (mulMod p (f (2 * k + 1)) (g (2 * k))) ≡ residue p (crossSum (k + 1) f g)
-  add-cross e =
-      let products : Vector = λ i. f (2 * i) * g (2 * i + 1) + f (2 * i + 1) * g (2 * i) in
-      add-product p (crossSum k f g + f (2 * k) * g (2 * k + 1)) (f (2 * k + 1)) (g (2 * k)) _
-      (add-product p (crossSum k f g) (f (2 * k)) (g (2 * k + 1)) x e)
-      ∙ ap (residue p) (add-assoc (crossSum k f g) (f (2 * k) * g (2 * k + 1)) (f (2 * k + 1) * g (2 * k)) ∙ sum-next k products)
+  -- the two halves of the cross sum
+  pub add-forth : x ≡ residue p (sum k (λ i. f (2 * i) * g (2 * i + 1)))
+      → addMod p x (mulMod p (f (2 * k)) (g (2 * k + 1))) ≡ residue p (sum (k + 1) (λ i. f (2 * i) * g (2 * i + 1)))
+  add-forth e = add-item p k (λ i. f (2 * i)) (λ i. g (2 * i + 1)) x e
+
+  pub add-back : x ≡ residue p (sum k (λ i. f (2 * i + 1) * g (2 * i)))
+      → addMod p x (mulMod p (f (2 * k + 1)) (g (2 * k))) ≡ residue p (sum (k + 1) (λ i. f (2 * i + 1) * g (2 * i)))
+  add-back e = add-item p k (λ i. f (2 * i + 1)) (λ i. g (2 * i)) x e
+
+pub add-cross : (p k : ℕ) (f g : Vector) (x y : ℕ) → x ≡ residue p (sum k (λ i. f (2 * i) * g (2 * i + 1)))
+    → y ≡ residue p (sum k (λ i. f (2 * i + 1) * g (2 * i))) → addMod p x y ≡ residue p (crossSum k f g)
+unfolding addMod
+add-cross p k f g x y ex ey =
+    ap₂ (λ a b. residue p (a + b)) ex ey
+    ∙ cong-add (cong-residue (sum k (λ i. f (2 * i) * g (2 * i + 1)))) (cong-residue (sum k (λ i. f (2 * i + 1) * g (2 * i)))) .residues
+    ∙ ap (residue p) (sym (sum-plus k (λ i. f (2 * i) * g (2 * i + 1)) (λ i. f (2 * i + 1) * g (2 * i))))

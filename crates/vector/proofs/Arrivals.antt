@@ -1,12 +1,16 @@
 -- Where an item of a small pass comes to a stop, and as which item of which fold.
 use mathlib.Core.Path.{_≡_, refl, sym, ap, _∙_}
+use mathlib.Core.Bool.{Bool, true, false, cond}
 use mathlib.Core.Logic.{inl, inr, ⊎-elim}
 use Prim.Native.Nat.{ℕ, zero, suc, _+_, _-_, _*_, _/_, _%_, _^_, _<_, _≤_}
 use native.Mathlib.Nat.{eq-or-lt-of-le, mod-lt}
 use native.Mathlib.Omega.{arith}
+use lib.Dec.{eqb}
 use lib.Pow.{high, split, pow-pos}
-use Rattle.vector.proofs.Counts.{Parity, parity, Completes, even-stays, odd-completes, stays-above}
-use Rattle.vector.proofs.Machine.{itemBefore, gathered, gathered-even, gathered-last, gathered-up}
+use Rattle.vector.specs.Rounds.{size}
+use Rattle.vector.specs.Vector.{bit}
+use Rattle.vector.proofs.Counts.{Parity, parity, Completes, even-stays, odd-completes, half-odd, in-fold, stays-above}
+use Rattle.vector.proofs.Machine.{itemBefore, neighbours, gathered, gathered-even, gathered-last, gathered-up}
 
 -- level l is the last that the item after t comes to, in a pass that folds to level i
 abbrev pub StopsAt : ℕ → ℕ → ℕ → Type 0
@@ -81,3 +85,55 @@ module _ {A : Type 0} (combine : ℕ → A → A → A) (c : ℕ → ℕ) (n : �
             (told i t k (2 * (e .0)) g (e .1) (omega arith, up, λ h. even-stays k t (e .0) up (e .1))),
       )
       go rest (inr e) = rw (gathered-up combine c n v arrive emit m k t (e .0) g (e .1)) (rest (odd-completes k t (e .0) up (e .1)) _)
+
+-- A CHANGE PASS to level i + 1 stacks the levels up to i: two neighbours of fold i arrive as an item of fold i + 1 and go
+module _ {A : Type 0} (combine : ℕ → A → A → A) (c : ℕ → ℕ) (n : ℕ) (v : ℕ → A) {M : Type 0} (arrive : ℕ → A → M → M) (i : ℕ) (less : i < n) (t : ℕ)
+    (ht : t < 2 ^ n) where
+  abbrev joined : A → A → M → M
+  joined even odd m = arrive (suc i) (combine (c i) even odd) m
+
+  abbrev nothing : A → A → M → M
+  nothing even odd m = m
+
+  last-arrival : (k : ℕ) (g : M) → gathered combine c n v arrive nothing zero k t g ≡ arrive k (itemBefore combine c n v k (t / 2 ^ k)) g
+  unfolding gathered
+  last-arrival k g = go (eqb (bit k t) 1)
+    where
+      go : (b : Bool)
+          → cond b (arrive k (itemBefore combine c n v k (t / 2 ^ k)) g) (arrive k (itemBefore combine c n v k (t / 2 ^ k)) g)
+          ≡ arrive k (itemBefore combine c n v k (t / 2 ^ k)) g
+      go true = refl
+      go false = refl
+
+  pub joined-arrives : (m k : ℕ) → k + m ≡ i → Completes k t → (g : M)
+      → gathered combine c n v arrive (λ even odd. arrive (suc i) (combine (c i) even odd)) m k t g
+      ≡ gathered combine c n v arrive (λ even odd m. m) (suc m) k t g
+  joined-arrives zero k ek up g = go (parity (t / 2 ^ k))
+    where
+      same : k ≡ i
+      same = omega arith
+
+      go : Parity (t / 2 ^ k) → gathered combine c n v arrive joined zero k t g ≡ gathered combine c n v arrive nothing 1 k t g
+      go (inl e) =
+          gathered-even combine c n v arrive joined zero k t (e .0) g (e .1) ∙ sym (gathered-even combine c n v arrive nothing 1 k t (e .0) g (e .1))
+      go (inr e) =
+          let x : ℕ = e .0 in
+          let g′ : M = arrive k (itemBefore combine c n v k (suc (2 * x))) g in
+          let half = half-odd k t x (e .1) in
+          let inside : x < size n (suc k) = omega (arith, in-fold n (suc k) t ht (odd-completes k t x up (e .1))) in
+          gathered-last combine c n v arrive joined k t x g (e .1)
+          ∙ ap (λ j. arrive (suc j) (combine (c j) (itemBefore combine c n v k (suc (2 * x))) (itemBefore combine c n v k (2 * x))) g′) (sym same)
+          ∙ ap (λ a. arrive (suc k) a g′) (neighbours combine c n v k x (omega arith) inside)
+          ∙ ap (λ q. arrive (suc k) (itemBefore combine c n v (suc k) q) g′) (sym half)
+          ∙ sym (last-arrival (suc k) g′)
+          ∙ sym (gathered-up combine c n v arrive nothing zero k t x g (e .1))
+  joined-arrives (suc m) k ek up g = go (joined-arrives m (suc k) (omega arith)) (parity (t / 2 ^ k))
+    where
+      go : (Completes (suc k) t → (g : M) → gathered combine c n v arrive joined m (suc k) t g ≡ gathered combine c n v arrive nothing (suc m) (suc k) t g)
+          → Parity (t / 2 ^ k) → gathered combine c n v arrive joined (suc m) k t g ≡ gathered combine c n v arrive nothing (suc (suc m)) k t g
+      go rest (inl e) =
+          gathered-even combine c n v arrive joined (suc m) k t (e .0) g (e .1) ∙ sym (gathered-even combine c n v arrive nothing (suc (suc m)) k t (e .0) g (e .1))
+      go rest (inr e) =
+          gathered-up combine c n v arrive joined m k t (e .0) g (e .1)
+          ∙ rest (odd-completes k t (e .0) up (e .1)) _
+          ∙ sym (gathered-up combine c n v arrive nothing (suc m) k t (e .0) g (e .1))

@@ -3,10 +3,11 @@ use mathlib.Core.Bool.{Bool, true, false, _&&_, and-false}
 use mathlib.Core.List.{List}
 use mathlib.Core.Logic.{_↔_, ⊎-elim}
 use mathlib.Core.Path.{_≡_, refl, sym, ap, ap₂, _∙_}
-use Prim.Native.Nat.{ℕ, zero, suc, _≤_, _<_}
+use Prim.Native.Nat.{ℕ, zero, suc, _+_, _≤_, _<_}
 use native.Mathlib.Nat.{eq-or-lt-of-le}
+use native.Mathlib.Numerals.{add-one}
 use native.Mathlib.Omega.{arith}
-use borrow.Author.Tests.{ltb-true, ltb-false, lt-ltb, le-ltb}
+use borrow.Author.Tests.{ltb-true, ltb-false, lt-ltb}
 use lib.Dec.{ltb}
 use lib.ListN.{length, List·getD-eq-default}
 use Rattle.vector.specs.Vector.{at}
@@ -26,6 +27,18 @@ module _ (test : ℕ → Bool) where
       (λ (same : k ≡ m). ap (λ b. every m test && b) (ap test (sym same) ∙ e) ∙ and-false (every m test))
       (λ (less : k < m). ap (λ b. b && test m) (every-false m k less e))
       (eq-or-lt-of-le (omega arith))
+
+  pub every-none : every 0 test ≡ true
+  unfolding every
+  every-none = refl
+
+  pub every-more : (m : ℕ) (b : Bool) → b ≡ every m test → (b && test m) ≡ every (m + 1) test
+  unfolding every
+  every-more m b e = ap (λ x. x && test m) e ∙ ap (λ k. every k test) (sym (add-one m))
+
+pub and-assoc : (a b c : Bool) → ((a && b) && c) ≡ (a && (b && c))
+and-assoc true b c = refl
+and-assoc false b c = refl
 
 either : (b : Bool) (P : Type 0) → (b ≡ true → P) → (b ≡ false → P) → P
 either true P f g = f refl
@@ -47,22 +60,29 @@ and-right true b e = e
 and-right false b e = absurd (never (sym e))
 
 module _ (p m : ℕ) (xs : List ℕ) where
-  -- the slice lacks place i: it and all places after it count as 0
-  pub reduced-short : (i : ℕ) → i < m → length xs ≤ i → ((k : ℕ) → k < i → at xs k < p) → ltb 0 p ≡ allReduced p m xs
-  reduced-short i less short below =
-      let zeros : (k : ℕ) → i ≤ k → at xs k ≡ 0 = λ k le. List·getD-eq-default xs 0 {n = k} (omega arith) in
-      either (ltb 0 p) (ltb 0 p ≡ allReduced p m xs)
-      (λ pos.
-      pos
+  -- the places that the slice lacks count as 0
+  pub reduced-short : length xs < m → (allReduced p (length xs) xs && ltb 0 p) ≡ allReduced p m xs
+  reduced-short less =
+      either (allReduced p (length xs) xs) ((allReduced p (length xs) xs && ltb 0 p) ≡ allReduced p m xs)
+      (λ all.
+      ap (λ b. b && ltb 0 p) all
+      ∙ either (ltb 0 p) (ltb 0 p ≡ allReduced p m xs)
+      (λ some.
+      some
       ∙ sym
       (every-true (λ k. ltb (at xs k) p) m
       (λ k h.
-      either (ltb k i) (ltb (at xs k) p ≡ true) (λ t. lt-ltb (at xs k) p (below k (ltb-true k i t)))
-      (λ f. ap (λ x. ltb x p) (zeros k (ltb-false k i f)) ∙ pos))))
-      (λ none. none ∙ sym (every-false (λ k. ltb (at xs k) p) m i less (ap (λ x. ltb x p) (zeros i (omega arith)) ∙ none)))
-
-  pub reduced-over : (i : ℕ) → i < m → p ≤ at xs i → false ≡ allReduced p m xs
-  reduced-over i less over = sym (every-false (λ k. ltb (at xs k) p) m i less (le-ltb (at xs i) p over))
+      either (ltb k (length xs)) (ltb (at xs k) p ≡ true) (λ t. every-at (λ k. ltb (at xs k) p) (length xs) all k (ltb-true k (length xs) t))
+      (λ f. ap (λ x. ltb x p) (lacks k (ltb-false k (length xs) f)) ∙ some))))
+      (λ none. none ∙ sym (every-false (λ k. ltb (at xs k) p) m (length xs) less (ap (λ x. ltb x p) (lacks (length xs) (omega arith)) ∙ none))))
+      (λ some-over.
+      ap (λ b. b && ltb 0 p) some-over
+      ∙ sym (either (allReduced p m xs) (allReduced p m xs ≡ false)
+      (λ all. absurd (never (sym (every-true (λ k. ltb (at xs k) p) (length xs) (λ k h. every-at (λ k. ltb (at xs k) p) m all k (omega arith))) ∙ some-over)))
+      (λ f. f)))
+    where
+      lacks : (k : ℕ) → length xs ≤ k → at xs k ≡ 0
+      lacks k le = List·getD-eq-default xs 0 {n = k} le
 
   pub reduced-all : ((k : ℕ) → k < m → at xs k < p) → true ≡ allReduced p m xs
   reduced-all below = sym (every-true (λ k. ltb (at xs k) p) m (λ k h. lt-ltb (at xs k) p (below k h)))
@@ -77,12 +97,6 @@ module _ (p m : ℕ) (xs : List ℕ) where
 
   pub nonzero-short : (i : ℕ) → i < m → length xs ≤ i → false ≡ allNonzero p m xs
   nonzero-short i less short = nonzero-zero i less (List·getD-eq-default xs 0 {n = i} short)
-
-  pub nonzero-over : (i : ℕ) → i < m → p ≤ at xs i → false ≡ allNonzero p m xs
-  nonzero-over i less over =
-      sym
-      (every-false (λ k. isNonzero p (at xs k)) m i less
-      (ap (λ b. ltb 0 (at xs i) && b) (le-ltb (at xs i) p over) ∙ and-false (ltb 0 (at xs i))))
 
   pub nonzero-all : ((k : ℕ) → k < m → (0 < at xs k) × (at xs k < p)) → true ≡ allNonzero p m xs
   nonzero-all good =

@@ -1,4 +1,3 @@
-pub mod KernelSteps
 pub mod Guards
 pub mod Overwrite
 pub mod Accumulate
@@ -22,15 +21,7 @@ pub mod Passes
 pub mod Padding
 pub mod Horner
 pub mod Weights
+pub mod SplitWeights
 pub mod EndValues
 pub mod Openings
-pub mod KernelArrays
-pub mod KernelMachine
-pub mod KernelPadding
 pub mod Arrivals
-pub mod KernelEvals
-pub mod KernelPass
-pub mod KernelEnds
-pub mod KernelOpen
-pub mod KernelLevels
-pub mod KernelStream

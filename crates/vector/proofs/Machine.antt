@@ -57,7 +57,7 @@ module _ {A : Type 0} (combine : ℕ → A → A → A) (c : ℕ → ℕ) (n : �
   entries-same s t k (suc m) e = rw (e, entries-same s t (suc k) m (sym (half-count s k) ∙ ap (λ q. q / 2) e ∙ half-count t k))
 
   -- two neighbours of fold k make the item of fold k + 1
-  neighbours : (k x : ℕ) → k < n → x < size n (suc k)
+  pub neighbours : (k x : ℕ) → k < n → x < size n (suc k)
       → combine (c k) (itemBefore k (suc (2 * x))) (itemBefore k (2 * x)) ≡ itemBefore (suc k) x
   unfolding foldWith
   neighbours k x hk hx =

@@ -4,8 +4,6 @@ pub mod Fold
 pub mod Message
 pub mod Opening
 pub mod Stack
-pub mod Kernel
-pub mod KernelView
 pub mod Power
 pub mod Slice
 pub mod Twist

@@ -1,10 +1,14 @@
--- The twists of a rule check.
+-- Weights in tables: those of the lowest indices, and the twists of a rule check.
 use Prim.Native.Nat.{ℕ, _^_, min}
 use mathlib.Core.List.{List}
 use lib.ListN.{replicate}
 use Rattle.algebra.specs.Mod.{powMod}
-use Rattle.vector.specs.Vector.{Vector}
+use Rattle.vector.specs.Vector.{Vector, at, weight}
 use Rattle.vector.specs.Slice.{overwrite}
+
+-- the weights of the indices 0 to 15
+abbrev pub lowWeights : ℕ → List ℕ → ℕ → List ℕ
+lowWeights p cs n = overwrite (weight p (at cs) (min n 15)) 16 (replicate 16 0)
 
 -- "v_j = v^(2^j)"
 abbrev pub twistOf : ℕ → ℕ → Vector

@@ -1,6 +1,4 @@
-// Folds, messages, evaluations and weights of vectors of numbers modulo p, in slices that the caller lends, and the kernel of a small
-// pass.
-pub mod kernel;
+// Folds, messages, evaluations and weights of vectors of numbers modulo p, in slices that the caller lends.
 pub mod sizes;
 pub mod slice;
 pub mod weight;

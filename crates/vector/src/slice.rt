@@ -1,6 +1,8 @@
 // The first places of a slice as a vector of numbers modulo p.
 ghost use mathlib.Core.Path.{_≡_};
-ghost use lib.ListN.{set};
+ghost use Prim.Native.Nat.{_≤_};
+ghost use mathlib.Core.Bool.{_&&_};
+ghost use lib.ListN.{length, set};
 ghost use Rattle.vector.specs.Slice.{foldSlice, messageIn, messageSlice, evaluateSlice, allReduced, allNonzero, fifteen};
 use super::Message;
 
@@ -20,11 +22,13 @@ pub fn fold(p: u32, c: u32, v: &mut [u32], half: usize)
     }
 }
 
+// The two halves of the cross sum are summed apart, each in a chain of its own.
 pub fn message(p: u32, f: &[u32], g: &[u32], half: usize) -> Message
     ensures { λ r. ⌜ messageIn r ≡ messageSlice p half (now (f .entry)) (now (g .entry)) ⌝ }
 {
     let mut even: u32 = 0;
     let mut cross: u32 = 0;
+    let mut back: u32 = 0;
     let mut odd: u32 = 0;
     if f.len() / 2 < half {
         return Message { even, cross, odd };
@@ -40,11 +44,15 @@ pub fn message(p: u32, f: &[u32], g: &[u32], half: usize) -> Message
         let g1 = g[2 * k + 1];
         even = field::modular::add_mul(p, even, f0, g0);
         cross = field::modular::add_mul(p, cross, f0, g1);
-        cross = field::modular::add_mul(p, cross, f1, g0);
+        back = field::modular::add_mul(p, back, f1, g0);
         odd = field::modular::add_mul(p, odd, f1, g1);
         k += 1;
     }
-    Message { even, cross, odd }
+    Message {
+        even,
+        cross: field::modular::add(p, cross, back),
+        odd,
+    }
 }
 
 // By Horner's rule, from the last item.
@@ -63,39 +71,52 @@ pub fn evaluate(p: u32, v: &[u32], n: usize, x: u32) -> u32
     value
 }
 
+// A test that never leaves its loop.
+fn still(ok: bool, good: bool) -> bool
+    ensures { λ r. ⌜ r ≡ (ok && good) ⌝ }
+{
+    if good {
+        return ok;
+    }
+    false
+}
+
+fn first_reduced(p: u32, v: &[u32], m: usize) -> bool
+    requires { ⌜ m ≤ length (now v) ⌝ }
+    ensures { λ r. ⌜ r ≡ allReduced p m (now (v .entry)) ⌝ }
+{
+    let mut ok = true;
+    let mut i: usize = 0;
+    while i < m {
+        ok = still(ok, v[i] < p);
+        i += 1;
+    }
+    ok
+}
+
 pub fn all_reduced(p: u32, v: &[u32], m: usize) -> bool
     ensures { λ r. ⌜ r ≡ allReduced p m (now (v .entry)) ⌝ }
 {
-    let mut i: usize = 0;
-    while i < m {
-        if v.len() <= i {
-            return 0 < p;
-        }
-        if p <= v[i] {
-            return false;
-        }
-        i += 1;
+    let n = v.len();
+    if n < m {
+        return still(first_reduced(p, v, n), 0 < p);
     }
-    true
+    first_reduced(p, v, m)
 }
 
 pub fn all_nonzero(p: u32, v: &[u32], m: usize) -> bool
     ensures { λ r. ⌜ r ≡ allNonzero p m (now (v .entry)) ⌝ }
 {
+    if v.len() < m {
+        return false;
+    }
+    let mut ok = true;
     let mut i: usize = 0;
     while i < m {
-        if v.len() <= i {
-            return false;
-        }
-        if v[i] == 0 {
-            return false;
-        }
-        if p <= v[i] {
-            return false;
-        }
+        ok = still(still(ok, 0 < v[i]), v[i] < p);
         i += 1;
     }
-    true
+    ok
 }
 
 pub fn take15(v: &[u32], n: usize) -> [u32; 15]

@@ -1,8 +1,9 @@
 // The product of challenges or twists over the ones of an index.
 ghost use mathlib.Core.Path.{_≡_};
-ghost use Prim.Native.Nat.{min};
+ghost use Prim.Native.Nat.{min, _%_};
+ghost use Rattle.algebra.specs.Mod.{mulMod};
 ghost use Rattle.vector.specs.Vector.{at, weight};
-ghost use Rattle.vector.specs.Twist.{twistsOf};
+ghost use Rattle.vector.specs.Twist.{lowWeights, twistsOf};
 
 // Bit k of the index, the lowest first, with place k.
 pub fn weight_of(p: u32, cs: [u32; 15], n: u32, index: u32) -> u32
@@ -22,6 +23,28 @@ pub fn weight_of(p: u32, cs: [u32; 15], n: u32, index: u32) -> u32
         k += 1;
     }
     product
+}
+
+// The weights of the indices 0 to 15.
+pub fn low_weights(p: u32, cs: [u32; 15], n: u32) -> [u32; 16]
+    ensures { λ r. ⌜ r ≡ lowWeights p cs n ⌝ }
+{
+    let mut out = [0u32; 16];
+    let mut i: u32 = 0;
+    while i < 16 {
+        let x = weight_of(p, cs, n, i);
+        out[i as usize] = x;
+        i += 1;
+    }
+    out
+}
+
+// The weight of an index whose upper bits have the weight `high`: consecutive indices take one product each.
+pub fn split_weight(p: u32, low: &[u32; 16], high: u32, index: u32) -> u32
+    ensures { λ r. ⌜ r ≡ mulMod p high (at (now (low .entry)) (index % 16)) ⌝ }
+{
+    let l = (index % 16) as usize;
+    field::modular::mul(p, high, low[l])
 }
 
 // Place j, for j below n, by squaring; the rest zero.

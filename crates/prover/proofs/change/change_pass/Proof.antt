@@ -8,8 +8,8 @@ level-of-requires c κs = search needs
 padding-of-requires : tie.Need-padding-of-requires
 padding-of-requires c κs = search needs
 
-padding-requires : tie.Need-padding-requires
-padding-requires c κs = search needs
+padding-below-requires : tie.Need-padding-below-requires
+padding-below-requires c κs = search needs
 
 no-points-requires : tie.Need-no-points-requires
 no-points-requires c κs = search needs
@@ -18,7 +18,7 @@ new-pass-requires : tie.Need-new-pass-requires
 new-pass-requires c κs = search needs
 
 returns : tie.Need-returns
-returns c = rw (c .new-pass .ensures, c .before .no-points .ensures, c .before .before .padding .ensures, c .before .before .before .padding-of .ensures, c .before .before .before .before .level-of .ensures)
+returns c = rw (c .new-pass .ensures, c .before .no-points .ensures, c .before .before .padding-below .ensures, c .before .before .before .padding-of .ensures, c .before .before .before .before .level-of .ensures)
 
 pub change-pass-spec : {M : Type 1} → statement M
 change-pass-spec =
@@ -26,7 +26,7 @@ change-pass-spec =
     (tie.spec
     level-of-requires
     padding-of-requires
-    padding-requires
+    padding-below-requires
     no-points-requires
     new-pass-requires
     returns)

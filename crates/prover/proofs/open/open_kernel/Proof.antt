@@ -1,6 +1,6 @@
 use mathlib.Core.Path.{sym, ap, _∙_}
 use mathlib.Core.Bool.{cond}
-use Rattle.vector.specs.Kernel.{emptyKernel}
+use Rattle.kernel.specs.Kernel.{emptyKernel}
 use Rattle.prover.specs.Open.{paddedKernel}
 use borrow.Author.Needs.{needs}
 use Rattle.prover.proofs.open.open_kernel.Statement.{statement}

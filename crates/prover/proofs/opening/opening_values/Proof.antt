@@ -1,11 +1,14 @@
-use mathlib.Core.Path.{_≡_, ap, ap₂, _∙_}
+use mathlib.Core.Path.{_≡_, sym, ap, ap₂, _∙_}
 use Prim.Native.Nat.{_^_}
 use native.Mathlib.Omega.{arith}
+use lib.ListN.{take}
+use lib.Seq.{length-take-le}
 use denote.Ref.{now}
-use Rattle.vector.specs.Kernel.{emptyKernel}
+use Rattle.kernel.specs.declared.Points.{Points}
+use Rattle.kernel.specs.declared.Kernel.{Kernel}
+use Rattle.kernel.specs.Kernel.{pairsIn, streamed}
 use Rattle.vector.proofs.Rounds.{size-all}
 use Rattle.prover.specs.Values.{valuesOf}
-use Rattle.prover.specs.Opening.{streamed}
 use Rattle.prover.proofs.Facts.{size-32}
 use Rattle.prover.proofs.OpeningLaws.{stream-values}
 use borrow.Author.Needs.{needs}
@@ -21,24 +24,38 @@ cast-count c = search needs
 points-of-requires : tie.Need-points-of-requires
 points-of-requires c κs = search needs
 
-stream-requires : tie.Need-stream-requires
-stream-requires c κs =
-    let n = c .before .before .before .before .before .before .args .run .start .rounds in
-    let count : c .before .size-of .result ≡ 2 ^ n = c .before .size-of .ensures ∙ size-32 n 0 (c .before .before .before .before .before .before .pre .0) ∙ size-all n in
-    (omega arith, omega arith)
+empty-requires : tie.Need-empty-requires
+empty-requires c κs = search needs
+
+slice-aggregate-evaluate-all : tie.Need-slice-aggregate-evaluate-all
+slice-aggregate-evaluate-all c =
+    let n = c .before .before .before .before .before .before .before .before .args .run .start .rounds in
+    let count : c .before .before .before .size-of .result ≡ 2 ^ n = c .before .before .before .size-of .ensures ∙ size-32 n 0 (c .before .before .before .before .before .before .before .before .pre .0) ∙ size-all n in
+    sym (length-take-le _ _ (omega arith))
+
+slice-aggregate-evaluate-all-2 : tie.Need-slice-aggregate-evaluate-all-2
+slice-aggregate-evaluate-all-2 c =
+    let n = c .before .before .before .before .before .before .before .before .before .args .run .start .rounds in
+    let count : c .before .before .before .before .size-of .result ≡ 2 ^ n = c .before .before .before .before .size-of .ensures ∙ size-32 n 0 (c .before .before .before .before .before .before .before .before .before .pre .0) ∙ size-all n in
+    sym (length-take-le _ _ (omega arith))
+
+evaluate-all-requires : tie.Need-evaluate-all-requires
+evaluate-all-requires c κs = search needs
 
 values-of-requires : tie.Need-values-of-requires
 values-of-requires c κs = search needs
 
 returns : tie.Need-returns
 returns c =
-    let s = c .before .before .before .before .before .before .before .before .before .args in
+    let s = c .before .before .before .before .before .before .before .before .before .before .before .before .args in
     let n = s .run .start .rounds in
-    let few = c .before .before .before .before .before .before .before .before .before .pre .0 in
-    let count : c .before .before .before .before .size-of .result ≡ 2 ^ n = c .before .before .before .before .size-of .ensures ∙ size-32 n 0 few ∙ size-all n in
+    let count : c .before .before .before .before .before .before .before .size-of .result ≡ 2 ^ n = c .before .before .before .before .before .before .before .size-of .ensures ∙ size-32 n 0 (c .before .before .before .before .before .before .before .before .before .before .before .before .pre .0) ∙ size-all n in
     c .values-of .ensures
-    ∙ ap (λ k. valuesOf (k .evals) n) (c .before .before .stream .ensures ∙ ap₂ (λ points m. streamed (c .before .before .before .before .before .before .before .before .before .args .p) (s .run .challenges) n points (now (s .f)) (now (s .g)) m emptyKernel) (c .before .before .before .points-of .ensures) count)
-    ∙ stream-values (c .before .before .before .before .before .before .before .before .before .args .p) n (s .b) (s .run .challenges) (now (s .f)) (now (s .g)) few
+    ∙ ap (λ k. valuesOf (k .evals) n)
+    (c .before .before .evaluate-all .ensures
+    ∙ ap (λ m. streamed (s .p) (s .run .challenges) n (c .before .before .before .before .before .before .points-of .result) (take m (now (s .f))) (take m (now (s .g))) (pairsIn (take m (now (s .f))) (take m (now (s .g)))) (c .before .before .before .before .before .empty .result)) count
+    ∙ ap₂ (λ points k. streamed (s .p) (s .run .challenges) n points (take (2 ^ n) (now (s .f))) (take (2 ^ n) (now (s .g))) (pairsIn (take (2 ^ n) (now (s .f))) (take (2 ^ n) (now (s .g)))) k) (c .before .before .before .before .before .before .points-of .ensures) (c .before .before .before .before .before .empty .ensures))
+    ∙ stream-values (s .p) n (s .b) (s .run .challenges) (now (s .f)) (now (s .g)) (c .before .before .before .before .before .before .before .before .before .before .before .before .pre .0) (c .before .before .before .before .before .before .before .before .before .before .before .before .pre .1) (c .before .before .before .before .before .before .before .before .before .before .before .before .pre .2)
 
 pub opening-values-spec : {M : Type 1} → statement M
 opening-values-spec =
@@ -47,6 +64,9 @@ opening-values-spec =
     size-of-requires
     cast-count
     points-of-requires
-    stream-requires
+    empty-requires
+    slice-aggregate-evaluate-all
+    slice-aggregate-evaluate-all-2
+    evaluate-all-requires
     values-of-requires
     returns)

@@ -1,66 +1,38 @@
-use Prim.Native.Nat.{ℕ, _≤_, _<_, _-_}
-use native.Mathlib.Omega.{arith}
-use borrow.Author.Count.{below-more}
+use mathlib.Core.Bool.{_&&_}
+use mathlib.Core.Path.{ap, _∙_}
+use lib.Dec.{ltb}
+use Rattle.vector.proofs.Every.{reduced-short}
 use borrow.Author.Needs.{needs}
-use Rattle.vector.specs.Vector.{at}
-use Rattle.vector.proofs.Every.{reduced-short, reduced-over, reduced-all}
 use Rattle.vector.proofs.slice.all_reduced.Statement.{statement}
 use Rattle.vector.proofs.slice.all_reduced.Tie as tie
+use Rattle.vector.proofs.slice.all_reduced.Reads as reads
+use Rattle.vector.proofs.slice.all_reduced.Lts as lts
+use Rattle.vector.proofs.slice.first_reduced.Reads as first-reduced-reads
+use Rattle.vector.proofs.slice.still.Reads as still-reads
 
-abbrev Inv-loop : tie.InvT-loop
-Inv-loop p v m i₀ i = (i ≤ m) × ((k : ℕ) → k < i → at v k < p)
+-- src/slice.rt:102:22
+first-reduced-requires : tie.Need-first-reduced-requires
+first-reduced-requires c κs = search needs
 
-abbrev μ-loop : tie.MeasureT-loop
-μ-loop p v m i₀ i = m - i
+-- src/slice.rt:102:9
+still-requires : tie.Need-still-requires
+still-requires c κs = search needs
 
-loop-holds : tie.Need-loop-holds Inv-loop μ-loop
-loop-holds c = (omega arith, λ k h. omega arith)
-
-returns : tie.Need-returns Inv-loop μ-loop
+-- src/slice.rt:102:9
+returns : tie.Need-returns
 returns c =
-    let s = c .before .before .before .args in
-    let l = c .before .before .loop in
-    reduced-short (s .p) (s .m) (s .v .now) (l .i) (omega arith) (omega arith) (l .inv .1)
+    let s = c .before .before .before .before .args in
+    c .still .ensures ∙ ap (λ b. b && ltb 0 (s .p)) (c .before .first-reduced .ensures) ∙ reduced-short (s .p) (s .m) (s .v .now) (c .before .before .if1 .taken)
 
-mul-if2 : tie.Need-mul-if2 Inv-loop μ-loop
-mul-if2 c = search needs
+-- src/slice.rt:104:5
+first-reduced-requires-2 : tie.Need-first-reduced-requires-2
+first-reduced-requires-2 c κs = search needs
 
-shared-slice-read-if2 : tie.Need-shared-slice-read-if2 Inv-loop μ-loop
-shared-slice-read-if2 c = search needs
-
-returns-2 : tie.Need-returns-2 Inv-loop μ-loop
-returns-2 c =
-    let s = c .before .before .before .before .before .args in
-    let l = c .before .before .before .before .loop in
-    reduced-over (s .p) (s .m) (s .v .now) (l .i) (omega arith) (c .if2 .taken)
-
-add-i : tie.Need-add-i Inv-loop μ-loop
-add-i c = search needs
-
-loop-less : tie.Need-loop-less Inv-loop μ-loop
-loop-less c = search needs
-
-loop-again : tie.Need-loop-again Inv-loop μ-loop
-loop-again c = (omega arith, below-more _ _ (c .before .before .before .before .loop .inv .1) (c .if2 .left))
-
-returns-3 : tie.Need-returns-3 Inv-loop μ-loop
-returns-3 c =
-    let s = c .before .before .args in
-    let l = c .before .loop in
-    reduced-all (s .p) (s .m) (s .v .now) (λ k h. l .inv .1 k (omega arith))
+-- src/slice.rt:97:1
+returns-2 : tie.Need-returns-2
+returns-2 c = search needs
 
 pub all-reduced-spec : {M : Type 1} → statement M
 all-reduced-spec =
     tie.close
-    (tie.spec
-    Inv-loop
-    μ-loop
-    loop-holds
-    returns
-    mul-if2
-    shared-slice-read-if2
-    returns-2
-    add-i
-    loop-less
-    loop-again
-    returns-3)
+    (tie.spec first-reduced-requires still-requires returns first-reduced-requires-2 returns-2)

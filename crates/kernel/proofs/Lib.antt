@@ -1,0 +1,14 @@
+pub mod KernelSteps
+pub mod KernelTurns
+pub mod KernelArrays
+pub mod KernelMachine
+pub mod KernelPadding
+pub mod KernelEvals
+pub mod KernelPass
+pub mod KernelEnds
+pub mod KernelOpen
+pub mod KernelLevels
+pub mod KernelStream
+pub mod KernelChange
+pub mod KernelChangePass
+pub mod KernelChangeStream

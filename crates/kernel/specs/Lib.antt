@@ -1,0 +1,3 @@
+pub mod Kernel
+pub mod Change
+pub mod KernelView
