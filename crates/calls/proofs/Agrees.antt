@@ -13,7 +13,7 @@ use Rattle.vector.specs.Fold.{combine, fold, endValue}
 use Rattle.vector.proofs.Rounds.{rounds-enough}
 use Rattle.vector.proofs.Folds.{fold-challenges}
 use Rattle.vector.proofs.Messages.{message-same}
-use Rattle.vector.proofs.KernelPass.{Taken}
+use Rattle.kernel.proofs.KernelPass.{Taken}
 use Rattle.prover.specs.declared.Mode.{Mode}
 use Rattle.prover.specs.declared.Next.{Next}
 use Rattle.prover.specs.declared.Next.the-variants as next

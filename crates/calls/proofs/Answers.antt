@@ -10,7 +10,7 @@ use lib.ListN.{length}
 use borrow.Author.Tests.{eqb-true}
 use Rattle.refusal.specs.Limit.{maxWeight}
 use Rattle.vector.specs.Vector.{at}
-use Rattle.vector.proofs.KernelPass.{Taken, taken-first, taken-second}
+use Rattle.kernel.proofs.KernelPass.{Taken, taken-first, taken-second}
 use Rattle.prover.specs.declared.Mode.{Mode}
 use Rattle.prover.specs.declared.Mode.the-variants.{Small, Full}
 use Rattle.prover.specs.declared.Next.{Next}

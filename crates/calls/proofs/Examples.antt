@@ -7,7 +7,8 @@ use Rattle.algebra.specs.Mod.{residue, addMod, negMod, mulMod}
 use Rattle.field.specs.Integer.{image}
 use Rattle.field.specs.Total.{inLimits, plus}
 use Rattle.vector.specs.Fold.{foldWith}
-use Rattle.vector.specs.Kernel.{arrived, topsAt, climbFrom, climbed, meetsAt, settled, entered, paddingFrom, paddingKernel, hornerAt}
+use Rattle.kernel.specs.Kernel.{hornerAt, arrived, topAt, climbFrom, evaluatedFrom, climbed, evaluated, meetsAt, summed, settled, sumsAfter, stacksFit, entered, streamed, paddingFrom, paddingBelow}
+use Rattle.kernel.specs.Change.{left, placed, placedAll}
 use Rattle.vector.specs.Opening.{tripleValues}
 use Rattle.vector.specs.Power.{sizeIn32}
 use Rattle.vector.specs.Rounds.{powers, firstFrom}
@@ -22,7 +23,7 @@ use Rattle.prover.specs.Close.{closeCall}
 use Rattle.prover.specs.Full.{messageCall, messageGiven, endsCall}
 use Rattle.prover.specs.Open.{openCall, openAtCall, toSmallCall}
 use Rattle.prover.specs.Opening.{openingGiven, openingCall}
-use Rattle.prover.specs.Take.{entering, summedItem, enteredItem, takes}
+use Rattle.prover.specs.Take.{entering, summedItem, enteredItem, takes, placedItem}
 use Rattle.prover.specs.Values.{valuesOf}
 use Rattle.prover.specs.WellFormed.{runFormed, passFormed, wellFormed}
 use Rattle.prover.specs.Written.{writeCall}
@@ -40,7 +41,7 @@ use Rattle.calls.proofs.ExampleKept.{allTrue, all-sized, all-kept}
 
 module _ (f g : List ℕ) where
   pub small-run : TripList inSmall (freshWorld tripStart f g)
-  unfolding each allTrue lastOf callsOf answersOf refusalsOf table sumOf step messageCall giveCall openCall openAtCall closeCall challengeCall toFullCall writeCall wellFormed runFormed passFormed powers firstFrom inLimits sizeIn32 partsOf takes entering summedItem enteredItem plus image residue negMod addMod mulMod hornerAt arrived topsAt climbFrom climbed meetsAt settled entered paddingFrom paddingKernel valuesOf tripleValues bytes bits allBelow numbers proofHeader writeProof writtenIn
+  unfolding each allTrue lastOf callsOf answersOf refusalsOf table sumOf step messageCall giveCall openCall openAtCall closeCall challengeCall toFullCall writeCall wellFormed runFormed passFormed powers firstFrom inLimits sizeIn32 partsOf takes entering summedItem enteredItem plus image residue negMod addMod mulMod valuesOf tripleValues bytes bits allBelow numbers proofHeader writeProof writtenIn hornerAt arrived topAt climbFrom evaluatedFrom climbed evaluated meetsAt summed settled sumsAfter stacksFit entered streamed paddingFrom paddingBelow left placed placedAll placedItem
   small-run =
       record {
         sized = all-sized P (freshWorld tripStart f g) (callsOf inSmall) refl;
@@ -51,7 +52,7 @@ module _ (f g : List ℕ) where
       }
 
   pub full-run : TripList inFull (freshWorld tripStart f g)
-  unfolding each allTrue lastOf callsOf answersOf refusalsOf every table sumOf step messageGiven messageCall endsCall giveCall openCall toSmallCall closeCall challengedFull challengeCall cleared toFullCall openingGiven openingCall writeCall wellFormed runFormed passFormed powers firstFrom inLimits sizeIn32 partsOf takes entering summedItem enteredItem plus image residue negMod addMod mulMod sum foldWith overwrite foldSlice messageSlice arrived topsAt climbFrom climbed meetsAt settled entered paddingFrom paddingKernel tripleValues bytes bits allBelow numbers proofHeader writeProof writtenIn
+  unfolding each allTrue lastOf callsOf answersOf refusalsOf every table sumOf step messageGiven messageCall endsCall giveCall openCall toSmallCall closeCall challengedFull challengeCall cleared toFullCall openingGiven openingCall writeCall wellFormed runFormed passFormed powers firstFrom inLimits sizeIn32 partsOf takes entering summedItem enteredItem plus image residue negMod addMod mulMod sum foldWith overwrite foldSlice messageSlice tripleValues bytes bits allBelow numbers proofHeader writeProof writtenIn hornerAt arrived topAt climbFrom evaluatedFrom climbed evaluated meetsAt summed settled sumsAfter stacksFit entered streamed paddingFrom paddingBelow left placed placedAll placedItem
   full-run =
       record {
         sized = all-sized P (freshWorld tripStart f g) (callsOf inFull) refl;
@@ -62,7 +63,7 @@ module _ (f g : List ℕ) where
       }
 
   pub changing-run : TripList changing (freshWorld tripStart f g)
-  unfolding each allTrue lastOf callsOf answersOf refusalsOf every table sumOf step messageGiven messageCall endsCall giveCall openCall openAtCall closeCall challengedFull challengeCall cleared toFullCall openingGiven openingCall writeCall wellFormed runFormed passFormed powers firstFrom inLimits sizeIn32 partsOf takes entering summedItem enteredItem plus image residue negMod addMod mulMod sum foldWith overwrite foldSlice messageSlice arrived topsAt climbFrom climbed meetsAt settled entered paddingFrom paddingKernel tripleValues bytes bits allBelow numbers proofHeader writeProof writtenIn
+  unfolding each allTrue lastOf callsOf answersOf refusalsOf every table sumOf step messageGiven messageCall endsCall giveCall openCall openAtCall closeCall challengedFull challengeCall cleared toFullCall openingGiven openingCall writeCall wellFormed runFormed passFormed powers firstFrom inLimits sizeIn32 partsOf takes entering summedItem enteredItem plus image residue negMod addMod mulMod sum foldWith overwrite foldSlice messageSlice tripleValues bytes bits allBelow numbers proofHeader writeProof writtenIn hornerAt arrived topAt climbFrom evaluatedFrom climbed evaluated meetsAt summed settled sumsAfter stacksFit entered streamed paddingFrom paddingBelow left placed placedAll placedItem
   changing-run =
       record {
         sized = all-sized P (freshWorld tripStart f g) (callsOf changing) refl;

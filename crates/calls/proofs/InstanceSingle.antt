@@ -18,10 +18,11 @@ use Rattle.vector.specs.Power.{sizeIn32}
 use Rattle.vector.specs.Vector.{weight, sum}
 use Rattle.vector.specs.Fold.{foldWith}
 use Rattle.vector.specs.Slice.{overwrite, fifteen, every}
-use Rattle.vector.specs.Kernel.{arrived, topsAt, climbFrom, climbed, meetsAt, settled, entered, paddingFrom, paddingKernel}
+use Rattle.kernel.specs.Kernel.{hornerAt, arrived, topAt, climbFrom, evaluatedFrom, climbed, evaluated, meetsAt, summed, settled, sumsAfter, stacksFit, entered, streamed, paddingFrom, paddingBelow}
+use Rattle.kernel.specs.Change.{left, placed, placedAll}
 use Rattle.prover.specs.Reply as reply
 use Rattle.prover.specs.WellFormed.{runFormed, passFormed, wellFormed}
-use Rattle.prover.specs.Take.{entering, summedItem, enteredItem, takes}
+use Rattle.prover.specs.Take.{entering, summedItem, enteredItem, takes, placedItem}
 use Rattle.prover.specs.Calls.{giveCall}
 use Rattle.prover.specs.Open.{openCall}
 use Rattle.prover.specs.Change.{cleared, toFullCall}
@@ -110,7 +111,7 @@ pub single-replies :
     ∷ says reply.taken
     ∷ says (reply.ends 2147483467 10)
     ∷ []
-unfolding each itemsBelow roundsFrom openingsAt step endsCall giveCall openCall closeCall cleared toFullCall wellFormed runFormed passFormed powers firstFrom inLimits sizeIn32 partsOf takes entering summedItem enteredItem plus image residue negMod addMod mulMod sum foldWith overwrite arrived topsAt climbFrom climbed meetsAt settled entered paddingFrom paddingKernel every
+unfolding each itemsBelow roundsFrom openingsAt step endsCall giveCall openCall closeCall cleared toFullCall wellFormed runFormed passFormed powers firstFrom inLimits sizeIn32 partsOf takes entering summedItem enteredItem plus image residue negMod addMod mulMod sum foldWith overwrite every hornerAt arrived topAt climbFrom evaluatedFrom climbed evaluated meetsAt summed settled sumsAfter stacksFit entered streamed paddingFrom paddingBelow left placed placedAll placedItem
 single-replies = refl
 
 -- and with the change before the ends
@@ -124,7 +125,7 @@ pub single-changed :
     ∷ says reply.changed
     ∷ says (reply.ends 2147483467 10)
     ∷ []
-unfolding each itemsBelow roundsFrom openingsAt step endsCall giveCall openCall closeCall cleared toFullCall wellFormed runFormed passFormed powers firstFrom inLimits sizeIn32 partsOf takes entering summedItem enteredItem plus image residue negMod addMod mulMod sum foldWith overwrite arrived topsAt climbFrom climbed meetsAt settled entered paddingFrom paddingKernel every
+unfolding each itemsBelow roundsFrom openingsAt step endsCall giveCall openCall closeCall cleared toFullCall wellFormed runFormed passFormed powers firstFrom inLimits sizeIn32 partsOf takes entering summedItem enteredItem plus image residue negMod addMod mulMod sum foldWith overwrite every hornerAt arrived topAt climbFrom evaluatedFrom climbed evaluated meetsAt summed settled sumsAfter stacksFit entered streamed paddingFrom paddingBelow left placed placedAll placedItem
 single-changed = refl
 
 -- its verifier's own list: the item, the close and the verdict; or the item and the file of 18 bytes

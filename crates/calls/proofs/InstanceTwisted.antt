@@ -15,11 +15,12 @@ use Rattle.vector.specs.Vector.{weight, sum}
 use Rattle.vector.specs.Fold.{foldWith}
 use Rattle.vector.specs.Opening.{tripleValues, opens}
 use Rattle.vector.specs.Slice.{overwrite, foldSlice, messageSlice, fifteen, every}
-use Rattle.vector.specs.Kernel.{hornerAt, arrived, topsAt, climbFrom, climbed, meetsAt, settled, entered, paddingFrom, paddingKernel}
+use Rattle.kernel.specs.Kernel.{hornerAt, arrived, topAt, climbFrom, evaluatedFrom, climbed, evaluated, meetsAt, summed, settled, sumsAfter, stacksFit, entered, streamed, paddingFrom, paddingBelow}
+use Rattle.kernel.specs.Change.{left, placed, placedAll}
 use Rattle.prover.specs.Reply as reply
 use Rattle.prover.specs.WellFormed.{runFormed, passFormed, wellFormed}
 use Rattle.prover.specs.Values.{inNinety, valuesOf}
-use Rattle.prover.specs.Take.{entering, summedItem, enteredItem, takes}
+use Rattle.prover.specs.Take.{entering, summedItem, enteredItem, takes, placedItem}
 use Rattle.prover.specs.Calls.{giveCall}
 use Rattle.prover.specs.Open.{openCall, openAtCall}
 use Rattle.prover.specs.Change.{cleared, toFullCall}
@@ -128,7 +129,7 @@ pub twisted-replies :
     ∷ says (reply.ends 231 45)
     ∷ (record { answer = answered reply.opening; values = inNinety 2 twistedOpening })
     ∷ [])
-unfolding each itemsBelow roundsFrom openingsAt step messageGiven messageCall endsCall giveCall openCall openAtCall closeCall challengedFull challengeCall cleared toFullCall openingGiven openingCall wellFormed runFormed passFormed powers firstFrom inLimits sizeIn32 partsOf takes entering weight summedItem enteredItem plus image residue negMod addMod mulMod sum foldWith overwrite foldSlice messageSlice hornerAt arrived topsAt climbFrom climbed meetsAt settled entered paddingFrom paddingKernel valuesOf tripleValues every
+unfolding each itemsBelow roundsFrom openingsAt step messageGiven messageCall endsCall giveCall openCall openAtCall closeCall challengedFull challengeCall cleared toFullCall openingGiven openingCall wellFormed runFormed passFormed powers firstFrom inLimits sizeIn32 partsOf takes entering weight summedItem enteredItem plus image residue negMod addMod mulMod sum foldWith overwrite foldSlice messageSlice valuesOf tripleValues every hornerAt arrived topAt climbFrom evaluatedFrom climbed evaluated meetsAt summed settled sumsAfter stacksFit entered streamed paddingFrom paddingBelow left placed placedAll placedItem
 twisted-replies = refl
 
 -- its verifier's own list: the items, the claim, two messages, the verdict and a check

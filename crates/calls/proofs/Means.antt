@@ -12,7 +12,7 @@ use Rattle.refusal.specs.Outcome.{Outcome, answered, refused, refusedAt}
 use Rattle.wire.specs.Proof.{proofFile}
 use Rattle.vector.specs.Vector.{at, dot}
 use Rattle.vector.specs.Slice.{allReduced, isNonzero}
-use Rattle.vector.proofs.KernelPass.{Taken}
+use Rattle.kernel.proofs.KernelPass.{Taken}
 use Rattle.prover.specs.declared.Next.{Next}
 use Rattle.prover.specs.declared.Next.the-variants as next
 use Rattle.prover.specs.declared.Kind.{Kind}

@@ -12,9 +12,9 @@ use Rattle.algebra.proofs.Laws.{mul-lt}
 use Rattle.vector.specs.Vector.{Vector, at, weight}
 use Rattle.vector.specs.Message.{Message, messageOf, message}
 use Rattle.vector.specs.Slice.{messageSlice, bothHave}
-use Rattle.vector.specs.KernelView.{sumsOf}
-use Rattle.vector.proofs.KernelPass.{Taken}
-use Rattle.vector.proofs.KernelEnds.{taken-message}
+use Rattle.kernel.specs.KernelView.{sumsOf}
+use Rattle.kernel.proofs.KernelPass.{Taken}
+use Rattle.kernel.proofs.KernelEnds.{taken-message}
 use Rattle.prover.specs.declared.Next.the-variants as next
 use Rattle.prover.specs.declared.Kind.the-variants.{Asked}
 use Rattle.prover.specs.declared.Run.{Run}

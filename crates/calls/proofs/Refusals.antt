@@ -11,9 +11,9 @@ use borrow.Author.Tests.{le-leb}
 use Rattle.refusal.specs.Limit.{maxWeight}
 use Rattle.refusal.specs.Outcome.{answered}
 use Rattle.field.specs.Total.{limit, inLimits}
-use Rattle.vector.specs.declared.kernel.Kernel.{Kernel}
+use Rattle.kernel.specs.declared.Kernel.{Kernel}
 use Rattle.vector.proofs.StackCount.{ones-at-most}
-use Rattle.vector.proofs.KernelLevels.{Levelled, levelled-first, levelled-second, levelled-count}
+use Rattle.kernel.proofs.KernelLevels.{Levelled, levelled-first, levelled-second, levelled-count}
 use Rattle.prover.specs.declared.Mode.{Mode}
 use Rattle.prover.specs.declared.Mode.the-variants.{Small, Full}
 use Rattle.prover.specs.declared.Next.{Next}

@@ -9,8 +9,8 @@ use lib.ListN.{drop}
 use Rattle.vector.specs.Vector.{at}
 use Rattle.vector.specs.Fold.{combine}
 use Rattle.vector.specs.Stack.{entries, ones, onesFrom, levels}
-use Rattle.vector.specs.declared.kernel.Kernel.{Kernel}
-use Rattle.vector.specs.KernelView.{stackF, stackG}
+use Rattle.kernel.specs.declared.Kernel.{Kernel}
+use Rattle.kernel.specs.KernelView.{stackF, stackG}
 use Rattle.prover.specs.declared.Kind.the-variants.{Asked}
 use Rattle.prover.specs.declared.Next.the-variants as next
 use Rattle.prover.specs.declared.Run.{Run}
