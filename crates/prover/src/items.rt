@@ -22,9 +22,9 @@ use item::Given;
 use item::Item;
 use item::Parts;
 use item::Start;
-use refusal::Check;
 use kernel::Kernel;
 use kernel::Points;
+use refusal::Check;
 
 // The number that enters f.
 fn twisted(p: u32, start: Start, index: u32, f: u32) -> u32
@@ -55,7 +55,15 @@ fn sum(p: u32, pass: Pass, x: Item, f: u32) -> Pass
 }
 
 // A pair of a pass that was asked for enters the stacks.
-fn enter(p: u32, challenges: [u32; 15], level: u32, points: Points, k: Kernel, f: u32, g: u32) -> Kernel
+fn enter(
+    p: u32,
+    challenges: [u32; 15],
+    level: u32,
+    points: Points,
+    k: Kernel,
+    f: u32,
+    g: u32,
+) -> Kernel
     ensures { λ r. ⌜ r ≡ entered p challenges level points k f g ⌝ }
 {
     let a = [f];

@@ -16,9 +16,9 @@ use super::open_checks;
 use field::Checked;
 use field::Field;
 use field::modular;
-use refusal::Check;
 use kernel::Kernel;
 use kernel::Points;
+use refusal::Check;
 
 // A pass that has taken no item.
 pub fn new_pass(kind: Kind, points: Points, k: Kernel) -> Pass

@@ -11,22 +11,26 @@ use Rattle.vector.specs.Rounds.{size}
 use Rattle.vector.specs.Vector.{Vector, at}
 use Rattle.vector.specs.Fold.{fold}
 use Rattle.item.specs.declared.Item.{Item}
-use Rattle.vector.specs.declared.kernel.Entered.{Entered}
-use Rattle.kernel.specs.Kernel.{entered}
+use Rattle.kernel.specs.declared.Climber.{Climber}
+use Rattle.kernel.specs.Kernel.{climberIn}
+use Rattle.kernel.specs.Change.{placedOf, placedAt, placed}
+use Rattle.kernel.specs.KernelView.{Paired}
+use Rattle.kernel.proofs.KernelSteps.{fits-so}
+use Rattle.kernel.proofs.KernelTurns.{placed-fits}
 use Rattle.kernel.proofs.KernelOpen.{padded-fold}
-use Rattle.kernel.proofs.KernelLevels.{Levelled}
-use Rattle.kernel.proofs.KernelPass.{Taken, arrives-last, arrives-below}
+use Rattle.kernel.proofs.KernelLevels.{LevelledBelow}
+use Rattle.kernel.proofs.KernelChangePass.{Changing, arrives-last, arrives-below, reaches-last, stops-before}
 use Rattle.prover.specs.declared.Kind.the-variants.{Change}
 use Rattle.prover.specs.declared.Run.{Run}
 use Rattle.prover.specs.declared.Pass.{Pass}
 use Rattle.prover.specs.Records.{Out, kernelOf, isChange}
 use Rattle.prover.specs.Order.{isTotal, levelOf, foldSize, padding}
 use Rattle.prover.specs.WellFormed.{runFormed}
-use Rattle.prover.specs.Take.{entering, enteredItem, placeOf, placedIn, takes}
+use Rattle.prover.specs.Take.{entering, placedItem, takenItem, takes}
+use Rattle.prover.proofs.Outcomes.{takes-sum, takes-enter, takes-place}
 use Rattle.prover.specs.Change.{cleared, paddedBuffer}
 use Rattle.runs.specs.Buffers.{Unchanged, Written}
 use Rattle.runs.proofs.RunFacts.{run-facts, run-level, run-items, run-padding, run-fold}
-use Rattle.runs.proofs.LevelReached.{reaches-last, stops-before}
 use Rattle.runs.proofs.Places.{cleared-kept, cleared-zero, placed-kept, placed-written}
 
 -- THE OPENING: of a vector that is zero from L on, the last places of the fold
@@ -56,45 +60,17 @@ padded-written p c f r xs ok zeros long =
       above = λ j l. kept .above j (omega arith);
     })
 
--- a test between two outcomes, buffer by buffer
-first-either : (b : Bool) (o o′ : Out) → cond b o o′ .f ≡ cond b (o .f) (o′ .f)
-first-either true o o′ = refl
-first-either false o o′ = refl
-
-second-either : (b : Bool) (o o′ : Out) → cond b o o′ .g ≡ cond b (o .g) (o′ .g)
-second-either true o o′ = refl
-second-either false o o′ = refl
-
-either-way : (b : Bool) (xs ys : List ℕ) → ys ≡ xs → cond b xs ys ≡ xs
-either-way true xs ys e = refl
-either-way false xs ys e = e
-
 module _ (p : ℕ) (r : Run) (s : Pass) (x : Item) (fs gs : List ℕ) where
-  abbrev enters : Entered
-  enters = enteredItem p r s (entering p r s x) (x .g)
-
-  first-buffer : takes p r s x fs gs .f ≡ cond (isTotal (r .next)) fs (placedIn r s enters (enters .f) fs)
-  unfolding takes
-  first-buffer = first-either (isTotal (r .next)) _ _
-
-  second-buffer : takes p r s x fs gs .g ≡ cond (isTotal (r .next)) gs (placedIn r s enters (enters .g) gs)
-  unfolding takes
-  second-buffer = second-either (isTotal (r .next)) _ _
-
   -- NO OTHER PASS touches the buffers
   pub total-leaves : isTotal (r .next) ≡ true → (let o : Out = takes p r s x fs gs in (o .f ≡ fs) × (o .g ≡ gs))
-  total-leaves e = (
-    first-buffer ∙ ap (λ b. cond b fs (placedIn r s enters (enters .f) fs)) e,
-    second-buffer ∙ ap (λ b. cond b gs (placedIn r s enters (enters .g) gs)) e,
-  )
+  total-leaves e = (ap (λ o. o .f) (takes-sum p r s x fs gs e), ap (λ o. o .g) (takes-sum p r s x fs gs e))
 
   pub asked-leaves : isChange (s .kind) ≡ false → (let o : Out = takes p r s x fs gs in (o .f ≡ fs) × (o .g ≡ gs))
-  asked-leaves e =
-      let none : (value : ℕ) (xs : List ℕ) → placedIn r s enters value xs ≡ xs =
-      λ value xs. ap (λ b. cond (cond b (eqb (enters .level) (levelOf r (s .kind))) false) (set xs (placeOf r s) value) xs) e in (
-        first-buffer ∙ either-way (isTotal (r .next)) fs (placedIn r s enters (enters .f) fs) (none (enters .f) fs),
-        second-buffer ∙ either-way (isTotal (r .next)) gs (placedIn r s enters (enters .g) gs) (none (enters .g) gs),
-      )
+  asked-leaves e = by (isTotal (r .next)) refl
+    where
+      by : (b : Bool) → isTotal (r .next) ≡ b → (let o : Out = takes p r s x fs gs in (o .f ≡ fs) × (o .g ≡ gs))
+      by true t = total-leaves t
+      by false t = (ap (λ o. o .f) (takes-enter p r s x fs gs t e), ap (λ o. o .g) (takes-enter p r s x fs gs t e))
 
 -- AN ITEM of a change pass
 module _ (p : ℕ) (r : Run) (s : Pass) (x : Item) (fs gs : List ℕ) (ok : runFormed p r ≡ true) (change : s .kind ≡ Change) (later : isTotal (r .next) ≡ false)
@@ -108,31 +84,32 @@ module _ (p : ℕ) (r : Run) (s : Pass) (x : Item) (fs gs : List ℕ) (ok : runF
   abbrev place : ℕ
   place = foldSize r - 1 - (padding r + s .taken) / 2 ^ i
 
-  abbrev pair : ℕ → ℕ → Entered
-  pair a b = entered p (r .challenges) i (s .points) (kernelOf s) a b
+  abbrev pair : ℕ → ℕ → Climber
+  pair a b = climberIn p (r .challenges) i (kernelOf s) a b
 
   -- a buffer after the pair, of which it gets one value
-  abbrev after : (Entered → ℕ) → List ℕ → ℕ → ℕ → List ℕ
+  abbrev after : (Climber → ℕ) → List ℕ → ℕ → ℕ → List ℕ
   after value xs a b = cond (eqb (pair a b .level) i) (set xs place (value (pair a b))) xs
 
-  in-change : (value : Entered → ℕ) (xs : List ℕ) (a b : ℕ)
-      → (let e : Entered = enteredItem p r s a b in placedIn r s e (value e) xs ≡ after value xs a b)
-  unfolding enteredItem
-  in-change value xs a b =
-      ap (λ k.
-      let e : Entered = entered p (r .challenges) (levelOf r k) (s .points) (kernelOf s) a b in
-      cond (cond (isChange k) (eqb (e .level) (levelOf r k)) false) (set xs (foldSize r - 1 - (padding r + s .taken) / 2 ^ levelOf r k) (value e)) xs)
-      change
+  in-change : (a b : ℕ) → Paired (kernelOf s)
+      → placedItem p r s a b fs gs ≡ placedAt i (foldSize r) (padding r + s .taken) (placedOf (kernelOf s) fs gs) (pair a b)
+  unfolding placedItem
+  in-change a b pr =
+      let few = run-facts p r ok .few in
+      let level = run-level p r ok Change in
+      ap (λ k. placed p (r .challenges) (levelOf r k) (foldSize r) (padding r + s .taken) (placedOf (kernelOf s) fs gs) a b) change
+      ∙ placed-fits p (r .challenges) i (foldSize r) (padding r + s .taken) (placedOf (kernelOf s) fs gs) a b
+      (fits-so i (s .fcount) (s .gcount) (omega (arith, few, level)) (pr .room) (pr .counts))
 
-  first-after : takes p r s x fs gs .f ≡ after (λ e. e .f) fs (entering p r s x) (x .g)
-  first-after =
-      let e : Entered = enteredItem p r s (entering p r s x) (x .g) in
-      first-buffer p r s x fs gs ∙ ap (λ b. cond b fs (placedIn r s e (e .f) fs)) later ∙ in-change (λ e. e .f) fs (entering p r s x) (x .g)
+  taken-after : Paired (kernelOf s)
+      → takes p r s x fs gs ≡ takenItem r s (placedAt i (foldSize r) (padding r + s .taken) (placedOf (kernelOf s) fs gs) (pair (entering p r s x) (x .g)))
+  taken-after pr = takes-place p r s x fs gs later (ap isChange change) ∙ ap (takenItem r s) (in-change (entering p r s x) (x .g) pr)
 
-  second-after : takes p r s x fs gs .g ≡ after (λ e. e .g) gs (entering p r s x) (x .g)
-  second-after =
-      let e : Entered = enteredItem p r s (entering p r s x) (x .g) in
-      second-buffer p r s x fs gs ∙ ap (λ b. cond b gs (placedIn r s e (e .g) gs)) later ∙ in-change (λ e. e .g) gs (entering p r s x) (x .g)
+  first-after : Paired (kernelOf s) → takes p r s x fs gs .f ≡ after (λ e. e .f) fs (entering p r s x) (x .g)
+  first-after pr = ap (λ o. o .f) (taken-after pr)
+
+  second-after : Paired (kernelOf s) → takes p r s x fs gs .g ≡ after (λ e. e .g) gs (entering p r s x) (x .g)
+  second-after pr = ap (λ o. o .g) (taken-after pr)
 
   there : place ≡ size n i - 1 - t / 2 ^ i
   there = ap₂ (λ a b. a - 1 - b / 2 ^ i) (run-fold p r ok) (ap (λ a. a + s .taken) (run-padding p r ok) ∙ count)
@@ -141,14 +118,14 @@ module _ (p : ℕ) (r : Run) (s : Pass) (x : Item) (fs gs : List ℕ) (ok : runF
   room = shr-mono i ht
 
   -- ANY ITEM leaves every place but that one
-  module _ (h : Levelled (levelOf r Change) t (kernelOf s)) where
-    after-kept : (value : Entered → ℕ) (xs : List ℕ) (a b : ℕ) → Unchanged (size n i - suc t / 2 ^ i) (size n i - t / 2 ^ i) xs (after value xs a b)
+  module _ (h : LevelledBelow (levelOf r Change) t (kernelOf s)) where
+    after-kept : (value : Climber → ℕ) (xs : List ℕ) (a b : ℕ) → Unchanged (size n i - suc t / 2 ^ i) (size n i - t / 2 ^ i) xs (after value xs a b)
     after-kept value xs a b =
         let few = run-facts p r ok .few in
         let level = run-level p r ok Change in
         placed-kept i t (size n i) (pair a b .level) place (value (pair a b)) xs there room
-        (reaches-last n i few level t ht (kernelOf s) h p (r .challenges) (s .points) a b)
-        (stops-before n i few level t ht (kernelOf s) h p (r .challenges) (s .points) a b)
+        (reaches-last n few t ht p (r .challenges) a b i level (kernelOf s) h)
+        (stops-before n few t ht p (r .challenges) a b i level (kernelOf s) h)
 
     pub item-kept : (let i : ℕ = levelOf r Change in
         let from : ℕ = size (r .start .rounds) i - suc t / 2 ^ i in
@@ -156,15 +133,15 @@ module _ (p : ℕ) (r : Run) (s : Pass) (x : Item) (fs gs : List ℕ) (ok : runF
         let o : Out = takes p r s x fs gs in
         Unchanged from to fs (o .f) × Unchanged from to gs (o .g))
     item-kept = (
-      subst (Unchanged (size n i - suc t / 2 ^ i) (size n i - t / 2 ^ i) fs) (sym first-after) (after-kept (λ e. e .f) fs (entering p r s x) (x .g)),
-      subst (Unchanged (size n i - suc t / 2 ^ i) (size n i - t / 2 ^ i) gs) (sym second-after) (after-kept (λ e. e .g) gs (entering p r s x) (x .g)),
+      subst (Unchanged (size n i - suc t / 2 ^ i) (size n i - t / 2 ^ i) fs) (sym (first-after (h .paired))) (after-kept (λ e. e .f) fs (entering p r s x) (x .g)),
+      subst (Unchanged (size n i - suc t / 2 ^ i) (size n i - t / 2 ^ i) gs) (sym (second-after (h .paired))) (after-kept (λ e. e .g) gs (entering p r s x) (x .g)),
     )
 
   -- THE NEXT ITEM of f and g writes the place that it completes
-  module _ (c : ℕ → ℕ) (f g : Vector) (h : Taken p (r .start .rounds) c (levelOf r Change) (s .points) f g t (kernelOf s))
+  module _ (c : ℕ → ℕ) (f g : Vector) (h : Changing p (r .start .rounds) c (levelOf r Change) f g t (kernelOf s))
       (agree : (j : ℕ) → j < levelOf r Change → at (r .challenges) j ≡ c j)
       (first : entering p r s x ≡ f (2 ^ r .start .rounds - 1 - t)) (second : x .g ≡ g (2 ^ r .start .rounds - 1 - t)) where
-    after-written : (v : Vector) (value : Entered → ℕ) (xs : List ℕ) → size n i ≤ length xs
+    after-written : (v : Vector) (value : Climber → ℕ) (xs : List ℕ) → size n i ≤ length xs
         → (suc t % 2 ^ i ≡ 0 → value (pair (f (2 ^ n - 1 - t)) (g (2 ^ n - 1 - t))) ≡ v (size n i - suc t / 2 ^ i))
         → Written v (size n i - suc t / 2 ^ i) (size n i - t / 2 ^ i) xs (after value xs (entering p r s x) (x .g))
     after-written v value xs long right =
@@ -174,8 +151,8 @@ module _ (p : ℕ) (r : Run) (s : Pass) (x : Item) (fs gs : List ℕ) (ok : runF
         let b : ℕ = g (2 ^ n - 1 - t) in
         subst (Written v (size n i - suc t / 2 ^ i) (size n i - t / 2 ^ i) xs) (ap₂ (after value xs) (sym first) (sym second))
         (placed-written i t (size n i) (pair a b .level) place (value (pair a b)) xs there room
-        (λ e. arrives-last p n c i (s .points) f g few level (r .challenges) agree t ht (kernelOf s) h e .0)
-        (arrives-below p n c i (s .points) f g few level (r .challenges) agree t ht (kernelOf s) h)
+        (λ e. arrives-last p n c f g few (r .challenges) t ht i level agree (kernelOf s) h e .0)
+        (arrives-below p n c f g few (r .challenges) t ht i level (kernelOf s) h)
         v long right)
 
     pub item-written : size (r .start .rounds) (levelOf r Change) ≤ length fs → size (r .start .rounds) (levelOf r Change) ≤ length gs
@@ -187,9 +164,9 @@ module _ (p : ℕ) (r : Run) (s : Pass) (x : Item) (fs gs : List ℕ) (ok : runF
     item-written flong glong =
         let few = run-facts p r ok .few in
         let level = run-level p r ok Change in
-        let last = arrives-last p n c i (s .points) f g few level (r .challenges) agree t ht (kernelOf s) h in (
-          subst (Written (fold p c i f) (size n i - suc t / 2 ^ i) (size n i - t / 2 ^ i) fs) (sym first-after)
+        let last = arrives-last p n c f g few (r .challenges) t ht i level agree (kernelOf s) h in (
+          subst (Written (fold p c i f) (size n i - suc t / 2 ^ i) (size n i - t / 2 ^ i) fs) (sym (first-after (h .paired)))
               (after-written (fold p c i f) (λ e. e .f) fs flong (λ e. last e .1)),
-          subst (Written (fold p c i g) (size n i - suc t / 2 ^ i) (size n i - t / 2 ^ i) gs) (sym second-after)
+          subst (Written (fold p c i g) (size n i - suc t / 2 ^ i) (size n i - t / 2 ^ i) gs) (sym (second-after (h .paired)))
               (after-written (fold p c i g) (λ e. e .g) gs glong (λ e. last e .2)),
         )

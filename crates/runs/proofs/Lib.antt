@@ -5,7 +5,6 @@ pub mod PassTotal
 pub mod PassFormed
 pub mod PassTrip
 pub mod CloseLaws
-pub mod LevelReached
 pub mod Places
 pub mod ChangeLaws
 pub mod FullBuffers

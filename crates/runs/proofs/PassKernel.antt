@@ -7,17 +7,20 @@ use Prim.Native.Nat.{ℕ, zero, suc, _+_, _/_, _^_, _<_, _≤_}
 use native.Mathlib.Nat.{eq-or-lt-of-le}
 use native.Mathlib.Omega.{arith}
 use lib.ListN.{length}
+use Rattle.kernel.specs.declared.Points.{Points}
 use Rattle.kernel.specs.declared.Kernel.{Kernel}
-use Rattle.kernel.specs.Kernel.{entered, emptyKernel, paddingKernel}
+use Rattle.kernel.specs.Kernel.{entered, emptyKernel, paddingBelow, paddingKernel}
+use Rattle.kernel.specs.Change.{placedKernel}
 use Rattle.vector.specs.Stack.{ones}
 use Rattle.vector.proofs.StackCount.{ones-below}
-use Rattle.kernel.proofs.KernelLevels.{Levelled, levelled-count}
+use Rattle.kernel.proofs.KernelLevels.{LevelledBelow, below-count}
 use Rattle.kernel.proofs.KernelStream.{kernelOf as streamOf, levelled-list}
+use Rattle.kernel.proofs.KernelChangeStream.{changeOf, levelled-change}
 use Rattle.prover.specs.declared.Kind.{Kind}
 use Rattle.prover.specs.declared.Kind.the-variants.{Shut, Asked, Change}
 use Rattle.prover.specs.declared.Run.{Run}
 use Rattle.prover.specs.declared.Pass.{Pass}
-use Rattle.prover.specs.Records.{kernelOf, isOpen}
+use Rattle.prover.specs.Records.{kernelOf, isOpen, isChange}
 use Rattle.prover.specs.Order.{isTotal, isOpenings, levelOf, padding}
 use Rattle.prover.specs.WellFormed.{runFormed}
 use Rattle.prover.specs.Open.{newPass, noPoints, pointsOf, paddedKernel, openKernel}
@@ -26,8 +29,9 @@ use Rattle.item.specs.declared.Given.{Given}
 use Rattle.item.specs.Item.{contributes}
 use Rattle.runs.specs.Passes.{openedPass, passAfter}
 use Rattle.runs.specs.Items.{pairsOf}
+use Rattle.runs.specs.Stacks.{heightOf}
 use Rattle.runs.proofs.RunFacts.{Bounds, bounds}
-use Rattle.runs.proofs.PassRecord.{takes-kernel, after-kind, after-points, after-entering}
+use Rattle.runs.proofs.PassRecord.{takes-kernel, takes-change, after-kind, after-points, after-entering}
 
 pub pairs-length : (p : ℕ) (r : Run) (xs : List Given) → length (pairsOf p r xs) ≡ length xs
 unfolding pairsOf
@@ -50,50 +54,77 @@ ones-fit n w t hn ht =
 
 module _ (p : ℕ) (r : Run) (b : ℕ) (other : isTotal (r .next) ≡ false) where
   -- "A small pass takes the padding by itself"
-  pub opened-kernel : (k : Kind) → isOpen k ≡ true → kernelOf (openedPass p r k b) ≡ paddingKernel (padding r) (levelOf r k)
-  opened-kernel Shut o = absurd (true≢false (sym o))
-  opened-kernel Asked o = by (isOpenings (r .next))
+  opened-asked : kernelOf (openedPass p r Asked b) ≡ paddedKernel r
+  opened-asked = by (isOpenings (r .next))
     where
       by : (t : Bool) → kernelOf (cond t (newPass Asked (pointsOf p b) (paddedKernel r)) (newPass Asked noPoints (openKernel r))) ≡ paddedKernel r
       by true = refl
       by false = ap (λ t. cond t emptyKernel (paddedKernel r)) other
-  opened-kernel Change o = refl
 
-  module _ (k : Kind) (isopen : isOpen k ≡ true) where
-    -- THE STACKS of a pass, item by item
-    pub after-kernel : (xs : List Given)
-        → kernelOf (passAfter p r k b xs)
-        ≡ streamOf p (r .challenges) (levelOf r k) (openedPass p r k b .points) (paddingKernel (padding r) (levelOf r k)) (pairsOf p r xs)
-    unfolding passAfter pairsOf streamOf enteredItem
-    after-kernel [] = opened-kernel k isopen
-    after-kernel (x ∷ xs) =
-        let s : Pass = passAfter p r k b xs in
-        let a : ℕ = entering p r s (contributes p (r .start) x) in
-        let q : Kernel = streamOf p (r .challenges) (levelOf r k) (openedPass p r k b .points) (paddingKernel (padding r) (levelOf r k)) (pairsOf p r xs) in
-        takes-kernel p r s (contributes p (r .start) x) [] [] other
-        ∙ ap (λ m. entered p (r .challenges) (levelOf r m) (s .points) (kernelOf s) a (contributes p (r .start) x .g) .kernel) (after-kind p r k b xs)
-        ∙ ap (λ at. entered p (r .challenges) (levelOf r k) at (kernelOf s) a (contributes p (r .start) x .g) .kernel) (after-points p r k b xs)
-        ∙ ap (λ m. entered p (r .challenges) (levelOf r k) (openedPass p r k b .points) m a (contributes p (r .start) x .g) .kernel) (after-kernel xs)
-        ∙ ap (λ f. entered p (r .challenges) (levelOf r k) (openedPass p r k b .points) q f (contributes p (r .start) x .g) .kernel) (after-entering p r k b xs x)
+  -- THE STACKS of a pass that was asked for, item by item
+  pub after-kernel : (xs : List Given)
+      → kernelOf (passAfter p r Asked b xs)
+      ≡ streamOf p (r .challenges) (levelOf r Asked) (openedPass p r Asked b .points) (paddingKernel (padding r) (levelOf r Asked)) (pairsOf p r xs)
+  unfolding passAfter pairsOf streamOf enteredItem
+  after-kernel [] = opened-asked
+  after-kernel (x ∷ xs) =
+      let s : Pass = passAfter p r Asked b xs in
+      let i : ℕ = levelOf r Asked in
+      let on : Points = openedPass p r Asked b .points in
+      let a : ℕ = entering p r s (contributes p (r .start) x) in
+      let g : ℕ = contributes p (r .start) x .g in
+      let q : Kernel = streamOf p (r .challenges) i on (paddingKernel (padding r) i) (pairsOf p r xs) in
+      takes-kernel p r s (contributes p (r .start) x) [] [] other (ap isChange (after-kind p r Asked b xs))
+      ∙ ap (λ m. entered p (r .challenges) (levelOf r m) (s .points) (kernelOf s) a g) (after-kind p r Asked b xs)
+      ∙ ap (λ at. entered p (r .challenges) i at (kernelOf s) a g) (after-points p r Asked b xs)
+      ∙ ap (λ m. entered p (r .challenges) i on m a g) (after-kernel xs)
+      ∙ ap (λ f. entered p (r .challenges) i on q f g) (after-entering p r Asked b xs x)
 
-    module _ (formed : runFormed p r ≡ true) (xs : List Given) (within : length xs ≤ r .start .items) where
-      -- their levels, whatever the items
-      pub after-levels : Levelled (levelOf r k) (padding r + length xs) (kernelOf (passAfter p r k b xs))
-      after-levels =
-          let h : Bounds r = bounds p r formed in
-          let fits : padding r + length (pairsOf p r xs) ≤ 2 ^ r .start .rounds = omega (arith, pairs-length p r xs, h .padding, h .enough) in
-          rw (after-kernel xs, ← pairs-length p r xs)
-          (levelled-list (r .start .rounds) (levelOf r k) (h .few) (h .level k) p (r .challenges) (openedPass p r k b .points) (padding r) (pairsOf p r xs) fits)
+  -- and of a change pass
+  pub change-kernel : (xs : List Given)
+      → kernelOf (passAfter p r Change b xs) ≡ changeOf p (r .challenges) (levelOf r Change) (paddingBelow (padding r) (levelOf r Change)) (pairsOf p r xs)
+  unfolding passAfter pairsOf changeOf
+  change-kernel [] = refl
+  change-kernel (x ∷ xs) =
+      let s : Pass = passAfter p r Change b xs in
+      let i : ℕ = levelOf r Change in
+      let a : ℕ = entering p r s (contributes p (r .start) x) in
+      let g : ℕ = contributes p (r .start) x .g in
+      let q : Kernel = changeOf p (r .challenges) i (paddingBelow (padding r) i) (pairsOf p r xs) in
+      takes-change p r s (contributes p (r .start) x) [] [] other (ap isChange (after-kind p r Change b xs))
+      ∙ ap (λ m. placedKernel p (r .challenges) (levelOf r m) (kernelOf s) a g) (after-kind p r Change b xs)
+      ∙ ap (λ m. placedKernel p (r .challenges) i m a g) (change-kernel xs)
+      ∙ ap (λ f. placedKernel p (r .challenges) i q f g) (after-entering p r Change b xs x)
 
-      pub after-counts : passAfter p r k b xs .fcount ≡ passAfter p r k b xs .gcount
-      after-counts = sym (after-levels .paired .counts)
+  module _ (k : Kind) (isopen : isOpen k ≡ true) (formed : runFormed p r ≡ true) (xs : List Given) (within : length xs ≤ r .start .items) where
+    -- their levels, whatever the items
+    pub after-levels : LevelledBelow (heightOf r k) (padding r + length xs) (kernelOf (passAfter p r k b xs))
+    after-levels = by k isopen
+      where
+        h : Bounds r
+        h = bounds p r formed
 
-      pub after-room : passAfter p r k b xs .fcount ≤ 15
-      after-room =
-          let h : Bounds r = bounds p r formed in
-          let fits : padding r + length xs ≤ 2 ^ r .start .rounds = omega (arith, h .padding, h .enough) in
-          omega (
-            arith,
-            levelled-count (levelOf r k) (padding r + length xs) (kernelOf (passAfter p r k b xs)) after-levels,
-            ones-fit (r .start .rounds) (suc (levelOf r k)) (padding r + length xs) (h .few) fits,
-          )
+        fits : padding r + length (pairsOf p r xs) ≤ 2 ^ r .start .rounds
+        fits = omega (arith, pairs-length p r xs, h .padding, h .enough)
+
+        by : (k : Kind) → isOpen k ≡ true → LevelledBelow (heightOf r k) (padding r + length xs) (kernelOf (passAfter p r k b xs))
+        by Shut o = absurd (true≢false (sym o))
+        by Asked o =
+            rw (after-kernel xs, ← pairs-length p r xs)
+            (levelled-list (r .start .rounds) (levelOf r Asked) (h .few) (h .level Asked) p (r .challenges) (openedPass p r Asked b .points) (padding r) (pairsOf p r xs) fits)
+        by Change o =
+            rw (change-kernel xs, ← pairs-length p r xs)
+            (levelled-change (r .start .rounds) (levelOf r Change) (h .few) (h .level Change) p (r .challenges) (padding r) (pairsOf p r xs) fits)
+
+    pub after-counts : passAfter p r k b xs .fcount ≡ passAfter p r k b xs .gcount
+    after-counts = sym (after-levels .paired .counts)
+
+    pub after-room : passAfter p r k b xs .fcount ≤ 15
+    after-room =
+        let h : Bounds r = bounds p r formed in
+        let fits : padding r + length xs ≤ 2 ^ r .start .rounds = omega (arith, h .padding, h .enough) in
+        omega (
+          arith,
+          below-count (heightOf r k) (padding r + length xs) (kernelOf (passAfter p r k b xs)) after-levels,
+          ones-fit (r .start .rounds) (heightOf r k) (padding r + length xs) (h .few) fits,
+        )

@@ -1,5 +1,5 @@
 -- The record of a pass after any items: its kind, its count, its points, and the index at which the next item enters.
-use mathlib.Core.Path.{_≡_, refl, ap, _∙_}
+use mathlib.Core.Path.{_≡_, refl, sym, ap, _∙_}
 use mathlib.Core.Bool.{Bool, true, false, cond}
 use mathlib.Core.List.{List, [], _∷_}
 use Prim.Native.Nat.{ℕ, suc, _+_, _-_}
@@ -10,7 +10,9 @@ use Rattle.field.specs.Total.{plus}
 use Rattle.item.specs.declared.Item.{Item}
 use Rattle.kernel.specs.declared.Points.{Points}
 use Rattle.kernel.specs.declared.Kernel.{Kernel}
-use Rattle.kernel.specs.Kernel.{emptyKernel, paddingKernel}
+use Rattle.kernel.specs.Kernel.{emptyKernel, paddingBelow}
+use Rattle.kernel.specs.Change.{Placed, placedOf, placedKernel}
+use Rattle.kernel.proofs.KernelChangeStream.{placed-kernel}
 use Rattle.prover.specs.declared.Kind.{Kind}
 use Rattle.prover.specs.declared.Kind.the-variants.{Shut, Asked, Change}
 use Rattle.prover.specs.declared.Run.{Run}
@@ -18,11 +20,11 @@ use Rattle.prover.specs.declared.Pass.{Pass}
 use Rattle.prover.specs.declared.Answer.the-variants as answer
 use Rattle.refusal.specs.Outcome.{answered}
 use Rattle.prover.specs.Reply as reply
-use Rattle.prover.specs.Records.{kernelOf, withKernel, Out, out, answeredStep, noValues}
-use Rattle.prover.specs.Order.{isTotal, isOpenings, levelOf, padding}
+use Rattle.prover.specs.Records.{kernelOf, withKernel, isChange, Out, out, answeredStep, noValues}
+use Rattle.prover.specs.Order.{isTotal, isOpenings, levelOf, foldSize, padding}
 use Rattle.prover.specs.Open.{newPass, noPoints, pointsOf, paddedKernel, openKernel}
-use Rattle.prover.specs.Take.{entering, oneMore, summedItem, enteredItem, placedIn, takes}
-use Rattle.prover.proofs.Outcomes.{takes-sum, takes-climb}
+use Rattle.prover.specs.Take.{entering, oneMore, summedItem, enteredItem, placedItem, takenItem, takes}
+use Rattle.prover.proofs.Outcomes.{takes-sum, takes-enter, takes-place}
 use Rattle.item.specs.declared.Given.{Given}
 use Rattle.item.specs.Item.{contributes}
 use Rattle.runs.specs.Trip.{entersAs}
@@ -30,11 +32,11 @@ use Rattle.runs.specs.Passes.{openedPass, passAfter}
 
 -- ONE MORE ITEM of any pass
 module _ (p : ℕ) (r : Run) (s : Pass) (y : Item) (f g : List ℕ) where
+  abbrev stacked : Bool → Placed
+  stacked b = cond b (placedItem p r s (entering p r s y) (y .g) f g) (placedOf (enteredItem p r s (entering p r s y) (y .g)) f g)
+
   abbrev taking : Bool → Out
-  taking b =
-      let e = enteredItem p r s (entering p r s y) (y .g) in
-      cond b (out (answeredStep r (summedItem p s y (entering p r s y)) answer.Taken) f g)
-      (out (answeredStep r (withKernel (oneMore s) (e .kernel)) answer.Taken) (placedIn r s e (e .f) f) (placedIn r s e (e .g) g))
+  taking b = cond b (out (answeredStep r (summedItem p s y (entering p r s y)) answer.Taken) f g) (takenItem r s (stacked (isChange (s .kind))))
 
   -- what holds in a pass for the total and in any other
   either : {A : Type 0} (part : Out → A) (a : A) → part (taking true) ≡ a → part (taking false) ≡ a → part (takes p r s y f g) ≡ a
@@ -82,20 +84,34 @@ module _ (p : ℕ) (r : Run) (s : Pass) (y : Item) (f g : List ℕ) where
 
   -- any other
   module _ (h : isTotal (r .next) ≡ false) where
-    pub takes-kernel : kernelOf (takes p r s y f g .pass) ≡ enteredItem p r s (entering p r s y) (y .g) .kernel
-    takes-kernel = ap (λ o. kernelOf (o .pass)) (takes-climb p r s y f g h)
+    pub takes-kernel : isChange (s .kind) ≡ false → kernelOf (takes p r s y f g .pass) ≡ enteredItem p r s (entering p r s y) (y .g)
+    takes-kernel k = ap (λ o. kernelOf (o .pass)) (takes-enter p r s y f g h k)
+
+    pub takes-change : isChange (s .kind) ≡ true
+        → kernelOf (takes p r s y f g .pass) ≡ placedKernel p (r .challenges) (levelOf r (s .kind)) (kernelOf s) (entering p r s y) (y .g)
+    unfolding placedItem
+    takes-change k =
+        ap (λ o. kernelOf (o .pass)) (takes-place p r s y f g h k)
+        ∙ placed-kernel p (r .challenges) (levelOf r (s .kind)) (foldSize r) (padding r + s .taken) (placedOf (kernelOf s) f g) (entering p r s y) (y .g)
 
     pub takes-none : takes p r s y f g .pass .total ≡ s .total
-    takes-none = ap (λ o. o .pass .total) (takes-climb p r s y f g h)
+    unfolding takes
+    takes-none = ap (λ b. taking b .pass .total) h
 
 -- its pass does not depend on the buffers
 pub takes-buffers : (p : ℕ) (r : Run) (s : Pass) (y : Item) (f g f′ g′ : List ℕ) → takes p r s y f g .pass ≡ takes p r s y f′ g′ .pass
-unfolding takes
+unfolding takes placedItem
 takes-buffers p r s y f g f′ g′ = by (isTotal (r .next))
   where
+    same : (b : Bool) → stacked p r s y f g b .kernel ≡ stacked p r s y f′ g′ b .kernel
+    same true =
+        placed-kernel p (r .challenges) (levelOf r (s .kind)) (foldSize r) (padding r + s .taken) (placedOf (kernelOf s) f g) (entering p r s y) (y .g)
+        ∙ sym (placed-kernel p (r .challenges) (levelOf r (s .kind)) (foldSize r) (padding r + s .taken) (placedOf (kernelOf s) f′ g′) (entering p r s y) (y .g))
+    same false = refl
+
     by : (b : Bool) → taking p r s y f g b .pass ≡ taking p r s y f′ g′ b .pass
     by true = refl
-    by false = refl
+    by false = ap (withKernel (oneMore s)) (same (isChange (s .kind)))
 
 module _ (p : ℕ) (r : Run) (b : ℕ) where
   -- what holds of every new pass of a kind holds of the one that is opened
@@ -106,7 +122,7 @@ module _ (p : ℕ) (r : Run) (b : ℕ) where
       by : (t : Bool) → part (cond t (newPass Asked (pointsOf p b) (paddedKernel r)) (newPass Asked noPoints (openKernel r))) ≡ a
       by true = h (pointsOf p b) (paddedKernel r)
       by false = h noPoints (openKernel r)
-  opened-new part a Change h = h noPoints (paddingKernel (padding r) (levelOf r Change))
+  opened-new part a Change h = h noPoints (paddingBelow (padding r) (levelOf r Change))
 
 -- A PASS AFTER ITS ITEMS
 module _ (p : ℕ) (r : Run) (k : Kind) (b : ℕ) where

@@ -12,14 +12,17 @@ use Rattle.algebra.proofs.Congruence.{residue-zero}
 use Rattle.vector.specs.Vector.{Vector, at, dot, padded}
 use Rattle.vector.specs.Fold.{beside}
 use Rattle.kernel.specs.declared.Points.{Points}
-use Rattle.kernel.specs.Kernel.{paddingKernel}
+use Rattle.kernel.specs.Kernel.{paddingBelow, paddingKernel}
 use Rattle.vector.proofs.Sums.{lastSum, last-sum, running-product}
 use Rattle.vector.proofs.Messages.{dot-padded}
 use Rattle.kernel.proofs.KernelPass.{Taken}
 use Rattle.kernel.proofs.KernelStream.{kernelOf as streamOf, taken-pass}
+use Rattle.kernel.proofs.KernelChangePass.{Changing}
+use Rattle.kernel.proofs.KernelChangeStream.{changeOf, changing-pass}
 use Rattle.prover.specs.declared.Kind.{Kind}
+use Rattle.prover.specs.declared.Kind.the-variants.{Asked, Change}
 use Rattle.prover.specs.declared.Run.{Run}
-use Rattle.prover.specs.Records.{kernelOf, isOpen}
+use Rattle.prover.specs.Records.{kernelOf}
 use Rattle.prover.specs.Order.{isTotal, levelOf}
 use Rattle.prover.specs.WellFormed.{runFormed}
 use Rattle.item.specs.declared.Given.{Given}
@@ -30,7 +33,7 @@ use Rattle.runs.specs.Passes.{openedPass, passAfter, Gives}
 use Rattle.runs.specs.Items.{pairsOf, AllWithin, ownTrip}
 use Rattle.runs.proofs.RunFacts.{Bounds, bounds}
 use Rattle.runs.proofs.PassRecord.{takes-dot, opened-new, after-points, after-entering}
-use Rattle.runs.proofs.PassKernel.{pairs-length, after-kernel}
+use Rattle.runs.proofs.PassKernel.{pairs-length, after-kernel, change-kernel}
 use Rattle.runs.proofs.PassTotal.{after-total}
 
 -- a trip of the run's start
@@ -111,35 +114,62 @@ of-trip : (r : Run) (T : Trip) (xs : List Given) (Says : Trip → Type 0) → T 
 of-trip r T xs Says e h f =
     subst Says (sym (trip-is r T e)) (f (T .items) (subst (λ U. Gives U xs) (trip-is r T e) h))
 
-module _ (p : ℕ) (r : Run) (k : Kind) (b : ℕ) (xs : List Given) (formed : runFormed p r ≡ true) where
-  -- A PASS WITH STACKS
-  module _ (within : length xs ≤ r .start .items) (other : isTotal (r .next) ≡ false) (isopen : isOpen k ≡ true) (c : ℕ → ℕ) (agree : (j : ℕ) → j < levelOf r k → at (r .challenges) j ≡ c j) where
+-- A PASS WITH STACKS
+module _ (p : ℕ) (r : Run) (b : ℕ) (xs : List Given) (formed : runFormed p r ≡ true) (within : length xs ≤ r .start .items) (other : isTotal (r .next) ≡ false) (c : ℕ → ℕ) where
+  abbrev w : Bounds r
+  w = bounds p r formed
+
+  module _ (agree : (j : ℕ) → j < levelOf r Asked → at (r .challenges) j ≡ c j) where
     given-taken : (its : List Given) → Gives (tripOf r its) xs
-        → Taken p (r .start .rounds) c (levelOf r k) (passAfter p r k b xs .points) (vectorF p (tripOf r its)) (vectorG p (tripOf r its))
-        (2 ^ r .start .rounds - r .start .items + length xs) (kernelOf (passAfter p r k b xs))
+        → Taken p (r .start .rounds) c (levelOf r Asked) (passAfter p r Asked b xs .points) (vectorF p (tripOf r its)) (vectorG p (tripOf r its))
+        (2 ^ r .start .rounds - r .start .items + length xs) (kernelOf (passAfter p r Asked b xs))
     given-taken its h =
         let f : Vector = vectorF p (tripOf r its) in
         let g : Vector = vectorG p (tripOf r its) in
-        let i : ℕ = levelOf r k in
-        let on : Points = openedPass p r k b .points in
-        let w : Bounds r = bounds p r formed in
+        let i : ℕ = levelOf r Asked in
+        let on : Points = openedPass p r Asked b .points in
         let more : length (pairsOf p r xs) ≡ length xs = pairs-length p r xs in
-        let kernel : kernelOf (passAfter p r k b xs) ≡ streamOf p (r .challenges) i on (paddingKernel (2 ^ r .start .rounds - r .start .items) i) (pairsOf p r xs) =
-        after-kernel p r b other k isopen xs ∙ ap (λ t. streamOf p (r .challenges) i on (paddingKernel t i) (pairsOf p r xs)) (w .padding) in
-        subst (λ on. Taken p (r .start .rounds) c i on f g (2 ^ r .start .rounds - r .start .items + length xs) (kernelOf (passAfter p r k b xs))) (sym (after-points p r k b xs))
+        let kernel : kernelOf (passAfter p r Asked b xs) ≡ streamOf p (r .challenges) i on (paddingKernel (2 ^ r .start .rounds - r .start .items) i) (pairsOf p r xs) =
+        after-kernel p r b other xs ∙ ap (λ t. streamOf p (r .challenges) i on (paddingKernel t i) (pairsOf p r xs)) (w .padding) in
+        subst (λ on. Taken p (r .start .rounds) c i on f g (2 ^ r .start .rounds - r .start .items + length xs) (kernelOf (passAfter p r Asked b xs))) (sym (after-points p r Asked b xs))
         (subst (λ q. Taken p (r .start .rounds) c i on f g (2 ^ r .start .rounds - r .start .items + length xs) q) (sym kernel)
         (subst (λ m. Taken p (r .start .rounds) c i on f g (2 ^ r .start .rounds - r .start .items + m) (streamOf p (r .challenges) i on (paddingKernel (2 ^ r .start .rounds - r .start .items) i) (pairsOf p r xs))) more
-        (taken-pass p (r .start .rounds) c i on f g (w .few) (w .level k) (r .challenges) agree (r .start .items) (w .enough) (beyond p r its (itemF p r its)) (beyond p r its (itemG p r its))
+        (taken-pass p (r .start .rounds) c i on f g (w .few) (w .level Asked) (r .challenges) agree (r .start .items) (w .enough) (beyond p r its (itemF p r its)) (beyond p r its (itemG p r its))
         (pairsOf p r xs) (omega arith) (vectors-at p r its xs within h))))
 
     -- the trip's items from L-1 down, with their padding
     pub after-given : (T : Trip) → T .start ≡ r .start → Gives T xs
-        → Taken p (r .start .rounds) c (levelOf r k) (passAfter p r k b xs .points) (vectorF p T) (vectorG p T) (2 ^ r .start .rounds - r .start .items + length xs) (kernelOf (passAfter p r k b xs))
+        → Taken p (r .start .rounds) c (levelOf r Asked) (passAfter p r Asked b xs .points) (vectorF p T) (vectorG p T) (2 ^ r .start .rounds - r .start .items + length xs) (kernelOf (passAfter p r Asked b xs))
     after-given T e h =
         of-trip r T xs
-        (λ U. Taken p (r .start .rounds) c (levelOf r k) (passAfter p r k b xs .points) (vectorF p U) (vectorG p U) (2 ^ r .start .rounds - r .start .items + length xs) (kernelOf (passAfter p r k b xs)))
+        (λ U. Taken p (r .start .rounds) c (levelOf r Asked) (passAfter p r Asked b xs .points) (vectorF p U) (vectorG p U) (2 ^ r .start .rounds - r .start .items + length xs) (kernelOf (passAfter p r Asked b xs)))
         e h given-taken
 
+  module _ (agree : (j : ℕ) → j < levelOf r Change → at (r .challenges) j ≡ c j) where
+    given-changing : (its : List Given) → Gives (tripOf r its) xs
+        → Changing p (r .start .rounds) c (levelOf r Change) (vectorF p (tripOf r its)) (vectorG p (tripOf r its))
+        (2 ^ r .start .rounds - r .start .items + length xs) (kernelOf (passAfter p r Change b xs))
+    given-changing its h =
+        let f : Vector = vectorF p (tripOf r its) in
+        let g : Vector = vectorG p (tripOf r its) in
+        let i : ℕ = levelOf r Change in
+        let more : length (pairsOf p r xs) ≡ length xs = pairs-length p r xs in
+        let kernel : kernelOf (passAfter p r Change b xs) ≡ changeOf p (r .challenges) i (paddingBelow (2 ^ r .start .rounds - r .start .items) i) (pairsOf p r xs) =
+        change-kernel p r b other xs ∙ ap (λ t. changeOf p (r .challenges) i (paddingBelow t i) (pairsOf p r xs)) (w .padding) in
+        subst (Changing p (r .start .rounds) c i f g (2 ^ r .start .rounds - r .start .items + length xs)) (sym kernel)
+        (subst (λ m. Changing p (r .start .rounds) c i f g (2 ^ r .start .rounds - r .start .items + m) (changeOf p (r .challenges) i (paddingBelow (2 ^ r .start .rounds - r .start .items) i) (pairsOf p r xs))) more
+        (changing-pass p (r .start .rounds) c i f g (w .few) (w .level Change) (r .challenges) agree (r .start .items) (w .enough) (beyond p r its (itemF p r its)) (beyond p r its (itemG p r its))
+        (pairsOf p r xs) (omega arith) (vectors-at p r its xs within h)))
+
+    -- the same of a change pass
+    pub after-changing : (T : Trip) → T .start ≡ r .start → Gives T xs
+        → Changing p (r .start .rounds) c (levelOf r Change) (vectorF p T) (vectorG p T) (2 ^ r .start .rounds - r .start .items + length xs) (kernelOf (passAfter p r Change b xs))
+    after-changing T e h =
+        of-trip r T xs
+        (λ U. Changing p (r .start .rounds) c (levelOf r Change) (vectorF p U) (vectorG p U) (2 ^ r .start .rounds - r .start .items + length xs) (kernelOf (passAfter p r Change b xs)))
+        e h given-changing
+
+module _ (p : ℕ) (r : Run) (k : Kind) (b : ℕ) (xs : List Given) (formed : runFormed p r ≡ true) where
   -- A PASS FOR THE TOTAL, all of its items taken
   module _ (e : isTotal (r .next) ≡ true) (all : length xs ≡ r .start .items) where
     given-dot : (its : List Given) → Gives (tripOf r its) xs
@@ -187,10 +217,15 @@ module _ (r : Run) (xs : List Given) (within : length xs ≤ r .start .items) wh
 
 -- so a pass has taken the items that it was given, whatever they are
 module _ (p : ℕ) (r : Run) (k : Kind) (b : ℕ) (xs : List Given) (formed : runFormed p r ≡ true) where
-  pub own-taken : length xs ≤ r .start .items → isTotal (r .next) ≡ false → isOpen k ≡ true → (c : ℕ → ℕ) → ((j : ℕ) → j < levelOf r k → at (r .challenges) j ≡ c j)
-      → Taken p (r .start .rounds) c (levelOf r k) (passAfter p r k b xs .points) (vectorF p (ownTrip r xs)) (vectorG p (ownTrip r xs))
-      (2 ^ r .start .rounds - r .start .items + length xs) (kernelOf (passAfter p r k b xs))
-  own-taken within other isopen c agree = after-given p r k b xs formed within other isopen c agree (ownTrip r xs) refl (own-gives r xs within)
+  pub own-taken : length xs ≤ r .start .items → isTotal (r .next) ≡ false → (c : ℕ → ℕ) → ((j : ℕ) → j < levelOf r Asked → at (r .challenges) j ≡ c j)
+      → Taken p (r .start .rounds) c (levelOf r Asked) (passAfter p r Asked b xs .points) (vectorF p (ownTrip r xs)) (vectorG p (ownTrip r xs))
+      (2 ^ r .start .rounds - r .start .items + length xs) (kernelOf (passAfter p r Asked b xs))
+  own-taken within other c agree = after-given p r b xs formed within other c agree (ownTrip r xs) refl (own-gives r xs within)
+
+  pub own-changing : length xs ≤ r .start .items → isTotal (r .next) ≡ false → (c : ℕ → ℕ) → ((j : ℕ) → j < levelOf r Change → at (r .challenges) j ≡ c j)
+      → Changing p (r .start .rounds) c (levelOf r Change) (vectorF p (ownTrip r xs)) (vectorG p (ownTrip r xs))
+      (2 ^ r .start .rounds - r .start .items + length xs) (kernelOf (passAfter p r Change b xs))
+  own-changing within other c agree = after-changing p r b xs formed within other c agree (ownTrip r xs) refl (own-gives r xs within)
 
   pub own-dot : isTotal (r .next) ≡ true → length xs ≡ r .start .items
       → passAfter p r k b xs .dot ≡ dot p (2 ^ r .start .rounds) (vectorF p (ownTrip r xs)) (vectorG p (ownTrip r xs))

@@ -1,22 +1,30 @@
 -- Places of a buffer: none written, one written, some cleared, or one where a count says so.
-use mathlib.Core.Path.{_≡_, refl, ap, _∙_}
+use mathlib.Core.Path.{_≡_, refl, sym, ap, _∙_}
 use mathlib.Core.Bool.{cond}
 use mathlib.Core.List.{List}
 use mathlib.Core.Logic.{⊎-elim}
-use Prim.Native.Nat.{ℕ, zero, suc, _+_, _-_, _/_, _%_, _^_, _<_, _≤_}
-use native.Mathlib.Nat.{eq-or-lt-of-le}
+use Prim.Native.Nat.{ℕ, zero, suc, _+_, _-_, _*_, _/_, _%_, _^_, _<_, _≤_}
+use native.Mathlib.Nat.{eq-or-lt-of-le, mod-lt}
 use native.Mathlib.Decide.{decLe}
 use native.Mathlib.Omega.{arith}
 use borrow.Author.Tests.{eq-eqb, ne-eqb}
 use lib.Dec.{eqb}
 use lib.ListN.{length, set, length-set}
+use lib.Pow.{high, split, pow-pos}
 use lib.Seq.{getD-set-same, getD-set-other}
 use Rattle.algebra.proofs.Primes.{by-dec}
 use Rattle.vector.specs.Vector.{Vector, at}
 use Rattle.vector.proofs.Arrivals.{multiple-completes}
 use Rattle.prover.specs.Change.{cleared}
 use Rattle.runs.specs.Buffers.{Unchanged, Written}
-use Rattle.runs.proofs.LevelReached.{count-stays}
+
+-- no item of level i is complete at any other count
+count-stays : (i t : ℕ) → (suc t % 2 ^ i ≡ 0 → ⊥) → suc t / 2 ^ i ≡ t / 2 ^ i
+count-stays i t ne =
+    let q : ℕ = suc t / 2 ^ i in
+    let low : suc t % 2 ^ i < 2 ^ i = mod-lt (suc t) (pow-pos i) in
+    let rest : q * 2 ^ i + (suc t % 2 ^ i - 1) ≡ t = omega (arith, split (suc t) i, ne) in
+    sym (high q i (omega arith)) ∙ ap (λ x. x / 2 ^ i) rest
 
 -- what is written stays within its places
 pub written-kept : (v : Vector) (from to : ℕ) (before after : List ℕ) → Written v from to before after → Unchanged from to before after

@@ -78,7 +78,7 @@ unfolding entering placedItem
 returns-2 c =
     let s = c .before .before .before .before .before .before .before .before .before .before .before .before .before .before .before .before .before .before .before .before .before .before .before .before .before .before .args in
     let same : placed (s .p) (s .run .challenges) (c .before .before .before .before .before .before .before .before .before .before .before .before .before .before .before .before .level-of .result) (c .before .before .before .before .before .before .before .before .before .before .before .before .fold-size .result) (c .before .before .before .before .before .before .before .before .before .before .before .padding-of .result + s .pass .taken) (placedOf (c .before .before .before .before .before .before .before .before .before .before .before .before .before .before .before .kernel-of .result) (now (s .f)) (now (s .g))) (c .before .before .before .before .before .before .before .before .before .before .before .before .before .before .before .before .before .before .before .before .twisted .result) (s .x .g)
-        ≡ placedItem (s .p) (s .run) (s .pass) (entering (s .p) (s .run) (s .pass) (s .x)) (s .x .g) (now (s .f)) (now (s .g)) =
+    ≡ placedItem (s .p) (s .run) (s .pass) (entering (s .p) (s .run) (s .pass) (s .x)) (s .x .g) (now (s .f)) (now (s .g)) =
     rw (c .before .before .before .before .before .before .before .before .before .before .before .before .before .before .before .before .level-of .ensures, c .before .before .before .before .before .before .before .before .before .before .before .before .fold-size .ensures, c .before .before .before .before .before .before .before .before .before .before .before .padding-of .ensures, c .before .before .before .before .before .before .before .before .before .before .before .before .before .before .before .kernel-of .ensures, c .before .before .before .before .before .before .before .before .before .before .before .before .before .before .before .before .before .before .before .before .twisted .ensures) in
     rw (c .answered2 .ensures, c .before .with-kernel .ensures, c .before .before .one-more .ensures)
     (ap (takenItem (s .run) (s .pass)) (c .before .before .before .before .before .before .before .place .ensures ∙ same)
@@ -103,7 +103,7 @@ unfolding entering enteredItem
 returns-3 c =
     let s = c .before .before .before .before .before .before .before .before .before .before .before .before .before .before .before .before .before .before .args in
     let same : entered (s .p) (s .run .challenges) (c .before .before .before .before .before .before .before .before .level-of .result) (s .pass .points) (c .before .before .before .before .before .before .before .kernel-of .result) (c .before .before .before .before .before .before .before .before .before .before .before .before .twisted .result) (s .x .g)
-        ≡ enteredItem (s .p) (s .run) (s .pass) (entering (s .p) (s .run) (s .pass) (s .x)) (s .x .g) =
+    ≡ enteredItem (s .p) (s .run) (s .pass) (entering (s .p) (s .run) (s .pass) (s .x)) (s .x .g) =
     rw (c .before .before .before .before .before .before .before .before .level-of .ensures, c .before .before .before .before .before .before .before .kernel-of .ensures, c .before .before .before .before .before .before .before .before .before .before .before .before .twisted .ensures) in
     rw (c .answered3 .ensures, c .before .with-kernel2 .ensures, c .before .before .one-more2 .ensures)
     (ap (λ k. takenItem (s .run) (s .pass) (placedOf k (now (s .f)) (now (s .g)))) (c .before .before .before .enter .ensures ∙ same)
