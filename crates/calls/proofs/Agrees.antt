@@ -14,6 +14,7 @@ use Rattle.vector.proofs.Rounds.{rounds-enough}
 use Rattle.vector.proofs.Folds.{fold-challenges}
 use Rattle.vector.proofs.Messages.{message-same}
 use Rattle.kernel.proofs.KernelPass.{Taken}
+use Rattle.kernel.proofs.KernelChangePass.{Changing}
 use Rattle.prover.specs.declared.Mode.{Mode}
 use Rattle.prover.specs.declared.Next.{Next}
 use Rattle.prover.specs.declared.Next.the-variants as next
@@ -26,7 +27,7 @@ use Rattle.prover.specs.WellFormed.{roundFits}
 use Rattle.item.specs.declared.Given.{Given}
 use Rattle.runs.specs.Trip.{Trip, vectorF, vectorG, totalOf}
 use Rattle.runs.specs.Passes.{passAfter, Gives}
-use Rattle.runs.proofs.PassTrip.{after-given}
+use Rattle.runs.proofs.PassTrip.{after-given, after-changing}
 use Rattle.calls.specs.State.{isChange, isFull, isOpen, State}
 use Rattle.calls.specs.Table.{waits, long}
 use Rattle.calls.specs.Meaning.{messageAt, messagesTo, foldF, foldG}
@@ -110,22 +111,28 @@ module _ (p : ℕ) (its : List Given) (a : State) {past : Notes} (h : Fits p a p
   pub agree-at : (k : Kind) (j : ℕ) → j < levelOf (runOf a past) k → at (runOf a past .challenges) j ≡ at (a .turn .challenges) j
   agree-at k j l = array-at 15 (a .turn .challenges) j (omega (arith, level-taken k))
 
-  -- THE OPEN PASS has taken the trip's items
-  pub pass-taken : (k : Kind) → a .pass .kind ≡ k → isOpen k ≡ true → isTotal (a .turn .next) ≡ false → Gives T (a .pass .items)
-      → (let s : Pass = passAfter p (runOf a past) k (a .pass .point) (a .pass .items) in
-      Taken p (a .start .rounds) (at (a .turn .challenges)) (levelOf (runOf a past) k) (s .points) (vectorF p T) (vectorG p T) (2 ^ a .start .rounds - a .start .items + length (a .pass .items)) (kernelOf s))
-  pass-taken k e op other gives =
-      after-given p (runOf a past) k (a .pass .point) (a .pass .items) (run-formed p a h) (h .pass .count) other op (at (a .turn .challenges)) (agree-at k) T refl gives
+  -- THE OPEN PASS has taken the trip's items, asked for or for a change
+  pub pass-taken : isTotal (a .turn .next) ≡ false → Gives T (a .pass .items)
+      → (let s : Pass = passAfter p (runOf a past) Asked (a .pass .point) (a .pass .items) in
+      Taken p (a .start .rounds) (at (a .turn .challenges)) (levelOf (runOf a past) Asked) (s .points) (vectorF p T) (vectorG p T) (2 ^ a .start .rounds - a .start .items + length (a .pass .items)) (kernelOf s))
+  pass-taken other gives =
+      after-given p (runOf a past) (a .pass .point) (a .pass .items) (run-formed p a h) (h .pass .count) other (at (a .turn .challenges)) (agree-at Asked) T refl gives
+
+  pub pass-changing : isTotal (a .turn .next) ≡ false → Gives T (a .pass .items)
+      → (let s : Pass = passAfter p (runOf a past) Change (a .pass .point) (a .pass .items) in
+      Changing p (a .start .rounds) (at (a .turn .challenges)) (levelOf (runOf a past) Change) (vectorF p T) (vectorG p T) (2 ^ a .start .rounds - a .start .items + length (a .pass .items)) (kernelOf s))
+  pass-changing other gives =
+      after-changing p (runOf a past) (a .pass .point) (a .pass .items) (run-formed p a h) (h .pass .count) other (at (a .turn .challenges)) (agree-at Change) T refl gives
 
   pub enough : a .start .items ≤ 2 ^ a .start .rounds
   enough = subst (λ n. a .start .items ≤ 2 ^ n) (sym (h .run .rounds)) (rounds-enough (a .start .items) (h .run .most))
 
   -- a whole one
-  pub pass-whole : (k : Kind) → a .pass .kind ≡ k → isOpen k ≡ true → isTotal (a .turn .next) ≡ false → Gives T (a .pass .items) → length (a .pass .items) ≡ a .start .items
-      → (let s : Pass = passAfter p (runOf a past) k (a .pass .point) (a .pass .items) in
-      Taken p (a .start .rounds) (at (a .turn .challenges)) (levelOf (runOf a past) k) (s .points) (vectorF p T) (vectorG p T) (2 ^ a .start .rounds) (kernelOf s))
-  pass-whole k e op other gives all =
-      let s : Pass = passAfter p (runOf a past) k (a .pass .point) (a .pass .items) in
+  pub pass-whole : isTotal (a .turn .next) ≡ false → Gives T (a .pass .items) → length (a .pass .items) ≡ a .start .items
+      → (let s : Pass = passAfter p (runOf a past) Asked (a .pass .point) (a .pass .items) in
+      Taken p (a .start .rounds) (at (a .turn .challenges)) (levelOf (runOf a past) Asked) (s .points) (vectorF p T) (vectorG p T) (2 ^ a .start .rounds) (kernelOf s))
+  pass-whole other gives all =
+      let s : Pass = passAfter p (runOf a past) Asked (a .pass .point) (a .pass .items) in
       let t : 2 ^ a .start .rounds - a .start .items + length (a .pass .items) ≡ 2 ^ a .start .rounds = omega (arith, enough) in
-      subst (λ t. Taken p (a .start .rounds) (at (a .turn .challenges)) (levelOf (runOf a past) k) (s .points) (vectorF p T) (vectorG p T) t (kernelOf s)) t
-      (pass-taken k e op other gives)
+      subst (λ t. Taken p (a .start .rounds) (at (a .turn .challenges)) (levelOf (runOf a past) Asked) (s .points) (vectorF p T) (vectorG p T) t (kernelOf s)) t
+      (pass-taken other gives)

@@ -150,7 +150,7 @@ module _ (p : ℕ) (large : maxWeight < p) (through : Bool) (its : List Given) w
       let s : Pass = passAfter p (runOf a past) Asked (a .pass .point) (a .pass .items) in
       let level : levelOf (runOf a past) Asked ≡ passLevel a = asked-level p large n (length (a .turn .challenges)) (a .turn .next) in
       let hi = level-at-most n (length (a .turn .challenges)) (a .turn .next) Asked (round-most p its a h) in
-      let t = subst (λ i. (i ≤ n) × Taken p n c i (s .points) (vectorF p T) (vectorG p T) (taken a) (kernelOf s)) level (hi, pass-taken p its a h Asked (e .0) refl other (g .gives)) in
+      let t = subst (λ i. (i ≤ n) × Taken p n c i (s .points) (vectorF p T) (vectorG p T) (taken a) (kernelOf s)) level (hi, pass-taken p its a h other (g .gives)) in
       subst (λ k. Stacks p T a (kernelOf (passAfter p (runOf a past) k (a .pass .point) (a .pass .items)))) (sym (e .0))
       (record {
         f = taken-first p n c (passLevel a) (s .points) (vectorF p T) (vectorG p T) (few p a h) (t .0) (taken a) (kernelOf s) (t .1);

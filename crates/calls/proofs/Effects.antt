@@ -36,7 +36,7 @@ use Rattle.calls.specs.Table.{level, long, taken, completed}
 use Rattle.calls.proofs.Records.{Notes, runOf, passOf}
 use Rattle.calls.proofs.Guards.{level-now}
 use Rattle.calls.proofs.Fits.{Fits, run-formed}
-use Rattle.calls.proofs.Agrees.{tripAt, old-challenges, new-challenge, agree-at, pass-taken, enough}
+use Rattle.calls.proofs.Agrees.{tripAt, old-challenges, new-challenge, agree-at, pass-changing, enough}
 
 pub nothing-written : (v : Vector) (xs : List ℕ) → Written v 0 0 xs xs
 nothing-written v xs = record { size = refl; wrote = λ j l h. absurd (omega arith); below = λ j h. refl; above = λ j h. refl }
@@ -106,7 +106,7 @@ module _ (p : ℕ) (its : List Given) (a : State) {past : Notes} (h : Fits p a p
         → Written (fold p cs i (vectorF p T)) (size n i - suc t / 2 ^ i) (size n i - t / 2 ^ i) fs (o .f)
         × Written (fold p cs i (vectorG p T)) (size n i - suc t / 2 ^ i) (size n i - t / 2 ^ i) gs (o .g)) change-at
         (item-written p R S (contributes p (a .start) x) fs gs (run-formed p a h) (after-kind p R Change (a .pass .point) (a .pass .items)) later t count room
-        cs (vectorF p T) (vectorG p T) (pass-taken p its a h Change change refl later gives) (agree-at p its a h Change) first second) lf lg
+        cs (vectorF p T) (vectorG p T) (pass-changing p its a h later gives) (agree-at p its a h Change) first second) lf lg
 
   -- A CHALLENGE in full mode
   module _ (l : Lent) (turn : challengeTurn p R (passOf p a past) ≡ true) (waiting : a .turn .next ≡ next.Challenge) (c : ℕ)

@@ -110,7 +110,7 @@ module _ (p : ℕ) (large : maxWeight < p) (through : Bool) (its : List Given) (
         → Taken p n cs (levelOf R (S Asked .kind)) (S Asked .points) (vectorF p T) (vectorG p T) (2 ^ n) (kernelOf (S Asked))
     taken-whole ek other =
         subst (λ k. Taken p n cs (levelOf R k) (S Asked .points) (vectorF p T) (vectorG p T) (2 ^ n) (kernelOf (S Asked))) (sym (after-kind p R Asked (a .pass .point) (a .pass .items)))
-        (pass-whole p its a h Asked ek refl other gives all)
+        (pass-whole p its a h other gives all)
 
     -- an opening pass evaluates at its point
     opening-points : a .turn .next ≡ next.Openings → S Asked .points ≡ pointsOf p (a .pass .point)

@@ -76,7 +76,7 @@ module _ (p : ℕ) (some : 0 < p) where
       whole =
           let e : 2 ^ r .start .rounds - r .start .items + length xs ≡ 2 ^ r .start .rounds = omega arith in
           subst (λ t. Taken p (r .start .rounds) (at (r .challenges)) (levelOf r Asked) (s .points) (vectorF p T) (vectorG p T) t (kernelOf s)) e
-          (own-taken p r Asked b xs ok (omega arith) other refl (at (r .challenges)) (λ j l. refl))
+          (own-taken p r Asked b xs ok (omega arith) other (at (r .challenges)) (λ j l. refl))
 
       -- the message of a pass for a round
       pub own-message : (i : ℕ) → levelOf r Asked ≡ i → i < r .start .rounds → (s .even < p) × (s .cross < p) × (s .odd < p)
