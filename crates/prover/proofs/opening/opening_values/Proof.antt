@@ -4,8 +4,6 @@ use native.Mathlib.Omega.{arith}
 use lib.ListN.{take}
 use lib.Seq.{length-take-le}
 use denote.Ref.{now}
-use Rattle.kernel.specs.declared.Points.{Points}
-use Rattle.kernel.specs.declared.Kernel.{Kernel}
 use Rattle.kernel.specs.Kernel.{pairsIn, streamed}
 use Rattle.vector.proofs.Rounds.{size-all}
 use Rattle.prover.specs.Values.{valuesOf}
