@@ -79,11 +79,11 @@ module _ (p n : ℕ) (c : ℕ → ℕ) (i : ℕ) (at : Points) (f g : Vector) (h
       (subst (λ y. Taken p n c i at f g (suc t) (entered p cs i at k y (g (2 ^ n - 1 - t)))) one (taken-item p n c i at f g hn hi cs agree t h k x))
 
   -- t places were taken and m are left
-  pub streamed-taken : (m t : ℕ) → t + m ≡ 2 ^ n → (k : Kernel) → Taken p n c i at f g t k → Taken p n c i at f g (2 ^ n) (streamed p cs i at fs gs m k)
+  pub streamed-taken : (m t : ℕ) → t + m ≡ 2 ^ n → (k : Kernel) → Taken p n c i at f g t k → Taken p n c i at f g (2 ^ n) (streamed p cs i at (items fs) (items gs) m k)
   unfolding streamed
   streamed-taken zero t e k x = subst (λ v. Taken p n c i at f g v k) (sym (add-zero t) ∙ e) x
   streamed-taken (suc m) t e k x =
       streamed-taken m (suc t) (omega arith) (entered p cs i at k (items fs m) (items gs m)) (place-taken t m k (omega arith) (omega arith) x)
 
-  pub whole-stream : Taken p n c i at f g (2 ^ n) (streamed p cs i at fs gs (2 ^ n) emptyKernel)
+  pub whole-stream : Taken p n c i at f g (2 ^ n) (streamed p cs i at (items fs) (items gs) (2 ^ n) emptyKernel)
   whole-stream = streamed-taken (2 ^ n) 0 (zero-add (2 ^ n)) emptyKernel (taken-none p n c i at f g hn hi)

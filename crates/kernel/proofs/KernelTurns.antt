@@ -7,7 +7,7 @@ use native.Mathlib.Numerals.{sub-one}
 use native.Mathlib.Omega.{arith}
 use lib.Dec.{eqb}
 use lib.ListN.{length, getD, set, length-set}
-use Rattle.vector.specs.Vector.{at as item}
+use Rattle.vector.specs.Vector.{Vector}
 use Rattle.vector.specs.Fold.{combine}
 use Rattle.kernel.specs.declared.Points.{Points}
 use Rattle.kernel.specs.declared.Evals.{Evals}
@@ -120,13 +120,13 @@ off-same p at at′ off off′ cs last k f g =
     (evaluated-off p at off cs last (k .flevels) (k .fvalues) (k .gvalues) (k .fcount) f g (k .evals)
     ∙ sym (evaluated-off p at′ off′ cs last (k .flevels) (k .fvalues) (k .gvalues) (k .fcount) f g (k .evals)))
 
-pub streamed-off : (p : ℕ) (at : Points) → at .on ≡ false → (cs : List ℕ) (last : ℕ) (f g : List ℕ) (m : ℕ) (k : Kernel)
+pub streamed-off : (p : ℕ) (at : Points) → at .on ≡ false → (cs : List ℕ) (last : ℕ) (f g : Vector) (m : ℕ) (k : Kernel)
     → streamed p cs last noPoints f g m k ≡ streamed p cs last at f g m k
 unfolding streamed
 streamed-off p at off cs last f g zero k = refl
 streamed-off p at off cs last f g (suc m) k =
-    streamed-off p at off cs last f g m (entered p cs last noPoints k (item f m) (item g m))
-    ∙ ap (streamed p cs last at f g m) (off-same p noPoints at refl off cs last k (item f m) (item g m))
+    streamed-off p at off cs last f g m (entered p cs last noPoints k (f m) (g m))
+    ∙ ap (streamed p cs last at f g m) (off-same p noPoints at refl off cs last k (f m) (g m))
 
 -- WHERE NOTHING FITS nothing enters
 module _ (p : ℕ) (cs : List ℕ) (last : ℕ) where
@@ -135,17 +135,17 @@ module _ (p : ℕ) (cs : List ℕ) (last : ℕ) where
   entered-refused at k f g e =
       ap (λ b. cond b (kernelWith (settledIn last k (climberIn p cs last k f g)) (sumsWith p last k (climberIn p cs last k f g)) (evalsIn p cs last at k f g)) k) e
 
-  pub streamed-refused : (at : Points) (f g : List ℕ) (m : ℕ) (k : Kernel) → fits last k ≡ false → streamed p cs last at f g m k ≡ k
+  pub streamed-refused : (at : Points) (f g : Vector) (m : ℕ) (k : Kernel) → fits last k ≡ false → streamed p cs last at f g m k ≡ k
   unfolding streamed
   streamed-refused at f g zero k e = refl
   streamed-refused at f g (suc m) k e =
-      ap (streamed p cs last at f g m) (entered-refused at k (item f m) (item g m) e) ∙ streamed-refused at f g m k e
+      ap (streamed p cs last at f g m) (entered-refused at k (f m) (g m) e) ∙ streamed-refused at f g m k e
 
-  pub placed-refused : (size : ℕ) (a b : List ℕ) (m t : ℕ) (s : Placed) → fits last (s .kernel) ≡ false → placedAll p cs last size a b m t s ≡ s
+  pub placed-refused : (size : ℕ) (a b : Vector) (m t : ℕ) (s : Placed) → fits last (s .kernel) ≡ false → placedAll p cs last size a b m t s ≡ s
   unfolding placedAll placed
   placed-refused size a b zero t s e = refl
   placed-refused size a b (suc m) t s e =
-      ap (λ x. placedAll p cs last size a b m (t + 1) (cond x (placedAt last size t s (climberIn p cs last (s .kernel) (item a m) (item b m))) s)) e
+      ap (λ x. placedAll p cs last size a b m (t + 1) (cond x (placedAt last size t s (climberIn p cs last (s .kernel) (a m) (b m))) s)) e
       ∙ placed-refused size a b m (t + 1) s e
 
   -- WHERE IT FITS
@@ -161,49 +161,49 @@ module _ (p : ℕ) (cs : List ℕ) (last : ℕ) where
   unfolding placed
   placed-fits size t s f g e = ap (λ b. cond b (placedAt last size t s (climberIn p cs last (s .kernel) f g)) s) e
 
-  pub stream-end : (at : Points) (f g : List ℕ) (m : ℕ) (k : Kernel) → m ≡ 0 → k ≡ streamed p cs last at f g m k
+  pub stream-end : (at : Points) (f g : Vector) (m : ℕ) (k : Kernel) → m ≡ 0 → k ≡ streamed p cs last at f g m k
   unfolding streamed
   stream-end at f g m k e = ap (λ m. streamed p cs last at f g m k) (sym e)
 
-  pub place-end : (size : ℕ) (a b : List ℕ) (m t : ℕ) (s : Placed) → m ≡ 0 → s ≡ placedAll p cs last size a b m t s
+  pub place-end : (size : ℕ) (a b : Vector) (m t : ℕ) (s : Placed) → m ≡ 0 → s ≡ placedAll p cs last size a b m t s
   unfolding placedAll
   place-end size a b m t s e = ap (λ m. placedAll p cs last size a b m t s) (sym e)
 
-  pub one-pair : (at : Points) (f g : List ℕ) (k : Kernel) (m : ℕ) → 0 < m
-      → streamed p cs last at f g m k ≡ streamed p cs last at f g (m - 1) (entered p cs last at k (item f (m - 1)) (item g (m - 1)))
+  pub one-pair : (at : Points) (f g : Vector) (k : Kernel) (m : ℕ) → 0 < m
+      → streamed p cs last at f g m k ≡ streamed p cs last at f g (m - 1) (entered p cs last at k (f (m - 1)) (g (m - 1)))
   unfolding streamed
   one-pair at f g k zero h = absurd (omega arith)
   one-pair at f g k (suc m) h = simp sub-one
 
-  pub one-place : (size t : ℕ) (a b : List ℕ) (s : Placed) (m : ℕ) → 0 < m
-      → placedAll p cs last size a b m t s ≡ placedAll p cs last size a b (m - 1) (t + 1) (placed p cs last size t s (item a (m - 1)) (item b (m - 1)))
+  pub one-place : (size t : ℕ) (a b : Vector) (s : Placed) (m : ℕ) → 0 < m
+      → placedAll p cs last size a b m t s ≡ placedAll p cs last size a b (m - 1) (t + 1) (placed p cs last size t s (a (m - 1)) (b (m - 1)))
   unfolding placedAll
   one-place size t a b s zero h = absurd (omega arith)
   one-place size t a b s (suc m) h = simp sub-one
 
   module _ (low : last ≤ 15) (fl fv gl gv : List ℕ) (count : ℕ) (room : count ≤ 16) (m : ℕ) (some : 0 < m) where
     -- the next pair of two slices
-    pub next-pair : (at : Points) (f g : List ℕ) (sums : Sums) (evals : Evals) (c : Climber) (s : Stacks) (sums′ : Sums) (evals′ : Evals)
-        → c ≡ climbed p cs last fl fv gv count (item f (m - 1)) (item g (m - 1))
+    pub next-pair : (at : Points) (f g : Vector) (sums : Sums) (evals : Evals) (c : Climber) (s : Stacks) (sums′ : Sums) (evals′ : Evals)
+        → c ≡ climbed p cs last fl fv gv count (f (m - 1)) (g (m - 1))
         → s ≡ settled fl fv gl gv last c
         → sums′ ≡ sumsAfter p last fl fv gv sums c
-        → evals′ ≡ evaluated p cs last at fl fv gv count (item f (m - 1)) (item g (m - 1)) evals
+        → evals′ ≡ evaluated p cs last at fl fv gv count (f (m - 1)) (g (m - 1)) evals
         → streamed p cs last at f g (m - 1) (kernelWith s sums′ evals′)
         ≡ streamed p cs last at f g m (kernelWith (stacksIn fl fv gl gv count) sums evals)
     next-pair at f g sums evals c s sums′ evals′ ec es em ee =
         ap (streamed p cs last at f g (m - 1))
         (ap (λ s. kernelWith s sums′ evals′) (es ∙ ap (settled fl fv gl gv last) ec)
-        ∙ ap₂ (kernelWith (settled fl fv gl gv last (climbed p cs last fl fv gv count (item f (m - 1)) (item g (m - 1)))))
+        ∙ ap₂ (kernelWith (settled fl fv gl gv last (climbed p cs last fl fv gv count (f (m - 1)) (g (m - 1)))))
         (em ∙ ap (sumsAfter p last fl fv gv sums) ec) ee
-        ∙ sym (entered-fits at k (item f (m - 1)) (item g (m - 1)) (fits-so last count count low room refl)))
+        ∙ sym (entered-fits at k (f (m - 1)) (g (m - 1)) (fits-so last count count low room refl)))
         ∙ sym (one-pair at f g k m some)
       where
         k : Kernel
         k = kernelWith (stacksIn fl fv gl gv count) sums evals
 
     -- the next pair of a change pass
-    pub next-place : (size t : ℕ) (a b : List ℕ) (sums : Sums) (evals : Evals) (f g f′ g′ : List ℕ) (c : Climber) (s : Stacks)
-        → c ≡ climbed p cs last fl fv gv count (item a (m - 1)) (item b (m - 1))
+    pub next-place : (size t : ℕ) (a b : Vector) (sums : Sums) (evals : Evals) (f g f′ g′ : List ℕ) (c : Climber) (s : Stacks)
+        → c ≡ climbed p cs last fl fv gv count (a (m - 1)) (b (m - 1))
         → s ≡ left last fl fv gl gv c
         → f′ ≡ putIn size last t (c .level) (c .f) f
         → g′ ≡ putIn size last t (c .level) (c .g) g
@@ -214,7 +214,7 @@ module _ (p : ℕ) (cs : List ℕ) (last : ℕ) where
         (ap (λ s. placedOf (kernelWith s sums evals) f′ g′) es
         ∙ ap₂ (placedOf (kernelWith (left last fl fv gl gv c) sums evals)) ef eg
         ∙ ap (placedAt last size t here) ec
-        ∙ sym (placed-fits size t here (item a (m - 1)) (item b (m - 1)) (fits-so last count count low room refl)))
+        ∙ sym (placed-fits size t here (a (m - 1)) (b (m - 1)) (fits-so last count count low room refl)))
         ∙ sym (one-place size t a b here m some)
       where
         here : Placed

@@ -4,7 +4,7 @@ use mathlib.Core.Bool.{cond}
 use mathlib.Core.List.{List}
 use lib.Dec.{eqb}
 use lib.ListN.{set}
-use Rattle.vector.specs.Vector.{at}
+use Rattle.vector.specs.Vector.{Vector}
 use Rattle.kernel.specs.declared.Kernel.{Kernel}
 use Rattle.kernel.specs.declared.Climber.{Climber}
 use Rattle.kernel.specs.Kernel.{Stacks, stacksIn, kernelWith, sumsIn, pushed, fits, climberIn}
@@ -53,8 +53,8 @@ unfoldable pub placed : ℕ → List ℕ → ℕ → ℕ → ℕ → Placed → 
 placed p challenges last size t s f g =
     cond (fits last (s .kernel)) (placedAt last size t s (climberIn p challenges last (s .kernel) f g)) s
 
--- the pairs at the places m - 1 down to 0 of a and b: "from last item to first"
-unfoldable pub placedAll : ℕ → List ℕ → ℕ → ℕ → List ℕ → List ℕ → ℕ → ℕ → Placed → Placed
+-- the pairs m - 1 down to 0 of a and b: "from last item to first"
+unfoldable pub placedAll : ℕ → List ℕ → ℕ → ℕ → Vector → Vector → ℕ → ℕ → Placed → Placed
 placedAll p challenges last size a b zero t s = s
 placedAll p challenges last size a b (suc m) t s =
-    placedAll p challenges last size a b m (t + 1) (placed p challenges last size t s (at a m) (at b m))
+    placedAll p challenges last size a b m (t + 1) (placed p challenges last size t s (a m) (b m))

@@ -5,7 +5,7 @@ use mathlib.Core.List.{List}
 use lib.Dec.{eqb, ltb}
 use lib.ListN.{length, getD, set, replicate}
 use Rattle.algebra.specs.Mod.{addMod, mulMod}
-use Rattle.vector.specs.Vector.{at as item, bit}
+use Rattle.vector.specs.Vector.{Vector, bit}
 use Rattle.vector.specs.Fold.{combine}
 use Rattle.kernel.specs.declared.Points.{Points}
 use Rattle.kernel.specs.declared.Evals.{Evals}
@@ -176,11 +176,11 @@ entered p challenges last at k f g =
 abbrev pub pairsIn : List ℕ → List ℕ → ℕ
 pairsIn f g = min (length f) (length g)
 
--- the pairs at the places m - 1 down to 0: "from last item to first"
-unfoldable pub streamed : ℕ → List ℕ → ℕ → Points → List ℕ → List ℕ → ℕ → Kernel → Kernel
+-- the pairs m - 1 down to 0 of f and g: "from last item to first"
+unfoldable pub streamed : ℕ → List ℕ → ℕ → Points → Vector → Vector → ℕ → Kernel → Kernel
 streamed p challenges last at f g zero k = k
 streamed p challenges last at f g (suc m) k =
-    streamed p challenges last at f g m (entered p challenges last at k (item f m) (item g m))
+    streamed p challenges last at f g m (entered p challenges last at k (f m) (g m))
 
 abbrev pub zeros : List ℕ
 zeros = replicate 16 0

@@ -1,5 +1,6 @@
 // The stacks of a small pass: pairs enter at level 0, last to first, and climb to the level that the pass folds to.
 ghost use mathlib.Core.Path.{_≡_};
+ghost use Rattle.vector.specs.Vector.{at as item};
 ghost use Rattle.kernel.specs.Kernel.{noPoints, pairsIn, streamed};
 ghost use Rattle.kernel.specs.Change.{placedOf, placedAll};
 use change::leave;
@@ -75,7 +76,7 @@ pub fn enter_all(
     f: &[u32],
     g: &[u32],
 ) -> Kernel
-    ensures { λ r. ⌜ r ≡ streamed p challenges last noPoints (now (f .entry)) (now (g .entry)) (pairsIn (now (f .entry)) (now (g .entry))) k ⌝ }
+    ensures { λ r. ⌜ r ≡ streamed p challenges last noPoints (item (now (f .entry))) (item (now (g .entry))) (pairsIn (now (f .entry)) (now (g .entry))) k ⌝ }
 {
     if stacks_fit(last, k.fcount, k.gcount) {} else {
         return k;
@@ -142,7 +143,7 @@ pub fn evaluate_all(
     f: &[u32],
     g: &[u32],
 ) -> Kernel
-    ensures { λ r. ⌜ r ≡ streamed p challenges last at (now (f .entry)) (now (g .entry)) (pairsIn (now (f .entry)) (now (g .entry))) k ⌝ }
+    ensures { λ r. ⌜ r ≡ streamed p challenges last at (item (now (f .entry))) (item (now (g .entry))) (pairsIn (now (f .entry)) (now (g .entry))) k ⌝ }
 {
     if at.on {} else {
         return enter_all(p, challenges, last, k, f, g);
@@ -235,7 +236,7 @@ pub fn place_all(
     f: &mut [u32],
     g: &mut [u32],
 ) -> Kernel
-    ensures { λ r. ⌜ placedOf r (now (f .exit)) (now (g .exit)) ≡ placedAll p challenges last size (now (a .entry)) (now (b .entry)) (pairsIn (now (a .entry)) (now (b .entry))) taken (placedOf k (now (f .entry)) (now (g .entry))) ⌝ }
+    ensures { λ r. ⌜ placedOf r (now (f .exit)) (now (g .exit)) ≡ placedAll p challenges last size (item (now (a .entry))) (item (now (b .entry))) (pairsIn (now (a .entry)) (now (b .entry))) taken (placedOf k (now (f .entry)) (now (g .entry))) ⌝ }
 {
     if stacks_fit(last, k.fcount, k.gcount) {} else {
         return k;

@@ -2,6 +2,7 @@ use Prim.Native.Nat.{_≤_, _-_}
 use mathlib.Core.Path.{_≡_, refl, sym, ap, _∙_}
 use native.Mathlib.Omega.{arith}
 use lib.ListN.{length, getD}
+use Rattle.vector.specs.Vector.{at as item}
 use borrow.Author.Needs.{needs}
 use Rattle.kernel.specs.declared.Climber.{Climber}
 use Rattle.kernel.specs.Kernel.{Stacks, stacksIn, kernelWith, noPoints, streamed}
@@ -19,8 +20,8 @@ use Rattle.kernel.proofs.stacks.settle.Reads as settle-reads
 abbrev Inv-loop : tie.InvT-loop
 Inv-loop p last f g challenges flevels₀ fvalues₀ glevels₀ gvalues₀ evals count₀ sums₀ i₀ flevels fvalues glevels gvalues count sums i =
     (last ≤ 15) × (count ≤ 16) × (i ≤ length f) × (i ≤ length g)
-    × (streamed p challenges last noPoints f g i (kernelWith (stacksIn flevels fvalues glevels gvalues count) sums evals)
-    ≡ streamed p challenges last noPoints f g i₀ (kernelWith (stacksIn flevels₀ fvalues₀ glevels₀ gvalues₀ count₀) sums₀ evals))
+    × (streamed p challenges last noPoints (item f) (item g) i (kernelWith (stacksIn flevels fvalues glevels gvalues count) sums evals)
+    ≡ streamed p challenges last noPoints (item f) (item g) i₀ (kernelWith (stacksIn flevels₀ fvalues₀ glevels₀ gvalues₀ count₀) sums₀ evals))
 
 abbrev μ-loop : tie.MeasureT-loop
 μ-loop p last f g challenges flevels₀ fvalues₀ glevels₀ gvalues₀ evals count₀ sums₀ i₀ flevels fvalues glevels gvalues count sums i = i
@@ -33,7 +34,7 @@ stacks-fit-requires c κs = search needs
 returns : tie.Need-returns Inv-loop μ-loop
 returns c =
     let s = c .before .before .before .before .args in
-    sym (streamed-refused (s .p) (s .t2) (s .last) noPoints (s .f .now) (s .g .now) _ (s .k) (sym (c .before .stacks-fit .ensures) ∙ c .if1 .left))
+    sym (streamed-refused (s .p) (s .t2) (s .last) noPoints (item (s .f .now)) (item (s .g .now)) _ (s .k) (sym (c .before .stacks-fit .ensures) ∙ c .if1 .left))
 
 -- src/lib.rt:94:9
 pairs-requires : tie.Need-pairs-requires Inv-loop μ-loop
@@ -93,7 +94,7 @@ loop-again c =
       omega (arith, l .inv .2),
       omega (arith, l .inv .3),
       next-pair (s .p) (s .t2) (s .last) (l .inv .0) (l .flevels) (l .fvalues) (l .glevels) (l .gvalues) (l .count) (l .inv .1) (l .i) (c .before .before .before .before .before .before .before .before .before .before .before .before .before .loop-test .taken)
-          noPoints (s .f .now) (s .g .now) (l .sums) (s .k .evals) x _ _ (s .k .evals) (c .before .before .before .before .before .before .climb .ensures) (c .before .settle .ensures .0) (c .before .settle .ensures .1)
+          noPoints (item (s .f .now)) (item (s .g .now)) (l .sums) (s .k .evals) x _ _ (s .k .evals) (c .before .before .before .before .before .before .climb .ensures) (c .before .settle .ensures .0) (c .before .settle .ensures .1)
           (sym (evaluated-off (s .p) noPoints refl (s .t2) (s .last) (l .flevels) (l .fvalues) (l .gvalues) (l .count) _ _ (s .k .evals)))
           ∙ l .inv .4,
     )
@@ -105,10 +106,10 @@ returns-2 c =
     let s = c .before .before .before .before .before .before .before .before .before .before .before .before .args in
     let none : l .i ≡ 0 = omega arith in
     let same = fits-facts (s .last) (s .k .fcount) (s .k .gcount) (sym (c .before .before .before .before .before .before .before .before .before .stacks-fit .ensures) ∙ c .before .before .before .before .before .before .before .before .if1 .taken) .2 in
-    stream-end (s .p) (s .t2) (s .last) noPoints (s .f .now) (s .g .now) (l .i) (kernelWith (stacksIn (l .flevels) (l .fvalues) (l .glevels) (l .gvalues) (l .count)) (l .sums) (s .k .evals)) none
+    stream-end (s .p) (s .t2) (s .last) noPoints (item (s .f .now)) (item (s .g .now)) (l .i) (kernelWith (stacksIn (l .flevels) (l .fvalues) (l .glevels) (l .gvalues) (l .count)) (l .sums) (s .k .evals)) none
     ∙ l .inv .4
-    ∙ ap (λ k. streamed (s .p) (s .t2) (s .last) noPoints (s .f .now) (s .g .now) (c .before .before .pairs .result) k) (kernel-parts (s .k) same)
-    ∙ ap (λ m. streamed (s .p) (s .t2) (s .last) noPoints (s .f .now) (s .g .now) m (s .k)) (c .before .before .pairs .ensures .0)
+    ∙ ap (λ k. streamed (s .p) (s .t2) (s .last) noPoints (item (s .f .now)) (item (s .g .now)) (c .before .before .pairs .result) k) (kernel-parts (s .k) same)
+    ∙ ap (λ m. streamed (s .p) (s .t2) (s .last) noPoints (item (s .f .now)) (item (s .g .now)) m (s .k)) (c .before .before .pairs .ensures .0)
 
 pub enter-all-spec : {M : Type 1} → statement M
 enter-all-spec =

@@ -2,6 +2,7 @@ use Prim.Native.Nat.{_≤_, _-_}
 use mathlib.Core.Path.{_≡_, refl, sym, ap, _∙_}
 use native.Mathlib.Omega.{arith}
 use lib.ListN.{length, getD}
+use Rattle.vector.specs.Vector.{at as item}
 use borrow.Author.Needs.{needs}
 use Rattle.kernel.specs.declared.Climber.{Climber}
 use mathlib.Core.Bool.{true}
@@ -21,8 +22,8 @@ use Rattle.kernel.proofs.stacks.settle.Reads as settle-reads
 abbrev Inv-loop : tie.InvT-loop
 Inv-loop p last at f g challenges flevels₀ fvalues₀ glevels₀ gvalues₀ fpoint₀ fminus₀ fsquare₀ gpoint₀ gminus₀ gsquare₀ count₀ sums₀ i₀ flevels fvalues glevels gvalues fpoint fminus fsquare gpoint gminus gsquare count sums i =
     (last ≤ 15) × (count ≤ 16) × (i ≤ length f) × (i ≤ length g) × (at .on ≡ true)
-    × (streamed p challenges last at f g i (kernelWith (stacksIn flevels fvalues glevels gvalues count) sums (evalsOf fpoint fminus fsquare gpoint gminus gsquare))
-    ≡ streamed p challenges last at f g i₀ (kernelWith (stacksIn flevels₀ fvalues₀ glevels₀ gvalues₀ count₀) sums₀ (evalsOf fpoint₀ fminus₀ fsquare₀ gpoint₀ gminus₀ gsquare₀)))
+    × (streamed p challenges last at (item f) (item g) i (kernelWith (stacksIn flevels fvalues glevels gvalues count) sums (evalsOf fpoint fminus fsquare gpoint gminus gsquare))
+    ≡ streamed p challenges last at (item f) (item g) i₀ (kernelWith (stacksIn flevels₀ fvalues₀ glevels₀ gvalues₀ count₀) sums₀ (evalsOf fpoint₀ fminus₀ fsquare₀ gpoint₀ gminus₀ gsquare₀)))
 
 abbrev μ-loop : tie.MeasureT-loop
 μ-loop p last at f g challenges flevels₀ fvalues₀ glevels₀ gvalues₀ fpoint₀ fminus₀ fsquare₀ gpoint₀ gminus₀ gsquare₀ count₀ sums₀ i₀ flevels fvalues glevels gvalues fpoint fminus fsquare gpoint gminus gsquare count sums i = i
@@ -35,7 +36,7 @@ enter-all-requires c κs = search needs
 returns : tie.Need-returns Inv-loop μ-loop
 returns c =
     let s = c .before .before .before .before .args in
-    c .enter-all .ensures ∙ streamed-off (s .p) (s .at) (c .before .if1 .left) (s .t2) (s .last) (s .f .now) (s .g .now) _ (s .k)
+    c .enter-all .ensures ∙ streamed-off (s .p) (s .at) (c .before .if1 .left) (s .t2) (s .last) (item (s .f .now)) (item (s .g .now)) _ (s .k)
 
 -- src/lib.rt:140:8
 stacks-fit-requires : tie.Need-stacks-fit-requires Inv-loop μ-loop
@@ -45,7 +46,7 @@ stacks-fit-requires c κs = search needs
 returns-2 : tie.Need-returns-2 Inv-loop μ-loop
 returns-2 c =
     let s = c .before .before .before .before .before .args in
-    sym (streamed-refused (s .p) (s .t2) (s .last) (s .at) (s .f .now) (s .g .now) _ (s .k) (sym (c .before .stacks-fit .ensures) ∙ c .if2 .left))
+    sym (streamed-refused (s .p) (s .t2) (s .last) (s .at) (item (s .f .now)) (item (s .g .now)) _ (s .k) (sym (c .before .stacks-fit .ensures) ∙ c .if2 .left))
 
 -- src/lib.rt:160:9
 pairs-requires : tie.Need-pairs-requires Inv-loop μ-loop
@@ -107,7 +108,7 @@ loop-again c =
       omega (arith, l .inv .3),
       l .inv .4,
       next-pair (s .p) (s .t2) (s .last) (l .inv .0) (l .flevels) (l .fvalues) (l .glevels) (l .gvalues) (l .count) (l .inv .1) (l .i) (c .before .before .before .before .before .before .before .before .before .before .before .before .before .before .before .before .before .before .before .loop-test .taken)
-          (s .at) (s .f .now) (s .g .now) (l .sums) (evalsOf (l .fpoint) (l .fminus) (l .fsquare) (l .gpoint) (l .gminus) (l .gsquare)) x _ _ _ (c .before .before .before .before .before .before .climb-evaluating .ensures .0) (c .before .settle .ensures .0) (c .before .settle .ensures .1)
+          (s .at) (item (s .f .now)) (item (s .g .now)) (l .sums) (evalsOf (l .fpoint) (l .fminus) (l .fsquare) (l .gpoint) (l .gminus) (l .gsquare)) x _ _ _ (c .before .before .before .before .before .before .climb-evaluating .ensures .0) (c .before .settle .ensures .0) (c .before .settle .ensures .1)
           (c .before .before .before .before .before .before .climb-evaluating .ensures .1)
           ∙ l .inv .5,
     )
@@ -119,10 +120,10 @@ returns-3 c =
     let s = c .before .before .before .before .before .before .before .before .before .before .before .before .before .before .before .before .before .before .before .args in
     let none : l .i ≡ 0 = omega arith in
     let same = fits-facts (s .last) (s .k .fcount) (s .k .gcount) (sym (c .before .before .before .before .before .before .before .before .before .before .before .before .before .before .before .stacks-fit .ensures) ∙ c .before .before .before .before .before .before .before .before .before .before .before .before .before .before .if2 .taken) .2 in
-    stream-end (s .p) (s .t2) (s .last) (s .at) (s .f .now) (s .g .now) (l .i) (kernelWith (stacksIn (l .flevels) (l .fvalues) (l .glevels) (l .gvalues) (l .count)) (l .sums) (evalsOf (l .fpoint) (l .fminus) (l .fsquare) (l .gpoint) (l .gminus) (l .gsquare))) none
+    stream-end (s .p) (s .t2) (s .last) (s .at) (item (s .f .now)) (item (s .g .now)) (l .i) (kernelWith (stacksIn (l .flevels) (l .fvalues) (l .glevels) (l .gvalues) (l .count)) (l .sums) (evalsOf (l .fpoint) (l .fminus) (l .fsquare) (l .gpoint) (l .gminus) (l .gsquare))) none
     ∙ l .inv .5
-    ∙ ap (λ k. streamed (s .p) (s .t2) (s .last) (s .at) (s .f .now) (s .g .now) (c .before .before .pairs .result) k) (kernel-parts (s .k) same)
-    ∙ ap (λ m. streamed (s .p) (s .t2) (s .last) (s .at) (s .f .now) (s .g .now) m (s .k)) (c .before .before .pairs .ensures .0)
+    ∙ ap (λ k. streamed (s .p) (s .t2) (s .last) (s .at) (item (s .f .now)) (item (s .g .now)) (c .before .before .pairs .result) k) (kernel-parts (s .k) same)
+    ∙ ap (λ m. streamed (s .p) (s .t2) (s .last) (s .at) (item (s .f .now)) (item (s .g .now)) m (s .k)) (c .before .before .pairs .ensures .0)
 
 pub evaluate-all-spec : {M : Type 1} → statement M
 evaluate-all-spec =

@@ -2,6 +2,7 @@ use Prim.Native.Nat.{_≤_, _<_, _-_, _+_, _^_}
 use mathlib.Core.Path.{_≡_, refl, sym, ap, _∙_}
 use native.Mathlib.Omega.{arith}
 use lib.ListN.{length, getD}
+use Rattle.vector.specs.Vector.{at as item}
 use borrow.Author.Needs.{needs}
 use Rattle.kernel.specs.declared.Climber.{Climber}
 use Rattle.kernel.specs.Kernel.{Stacks, stacksIn, sumsIn, kernelWith}
@@ -21,8 +22,8 @@ use Rattle.kernel.proofs.stacks.pairs.Reads as pairs-reads
 abbrev Inv-loop : tie.InvT-loop
 Inv-loop p last size taken k a b f₀ g₀ challenges flevels₀ fvalues₀ glevels₀ gvalues₀ evals count₀ t₀ i₀ f g flevels fvalues glevels gvalues count t i =
     (last ≤ 15) × (count ≤ 16) × (i ≤ length a) × (i ≤ length b)
-    × (placedAll p challenges last size a b i t (placedOf (kernelWith (stacksIn flevels fvalues glevels gvalues count) (sumsIn k) evals) f g)
-    ≡ placedAll p challenges last size a b i₀ t₀ (placedOf (kernelWith (stacksIn flevels₀ fvalues₀ glevels₀ gvalues₀ count₀) (sumsIn k) evals) f₀ g₀))
+    × (placedAll p challenges last size (item a) (item b) i t (placedOf (kernelWith (stacksIn flevels fvalues glevels gvalues count) (sumsIn k) evals) f g)
+    ≡ placedAll p challenges last size (item a) (item b) i₀ t₀ (placedOf (kernelWith (stacksIn flevels₀ fvalues₀ glevels₀ gvalues₀ count₀) (sumsIn k) evals) f₀ g₀))
     × (t + i ≡ taken + i₀) × (i₀ < 2 ^ 63) × (length f ≡ length f₀) × (length g ≡ length g₀)
 
 abbrev μ-loop : tie.MeasureT-loop
@@ -36,7 +37,7 @@ stacks-fit-requires c κs = search needs
 returns : tie.Need-returns Inv-loop μ-loop
 returns c =
     let s = c .before .before .before .before .before .before .args in
-    sym (placed-refused (s .p) (s .t2) (s .last) (s .size) (s .a .now) (s .b .now) _ (s .taken) (placedOf (s .k) (s .f .now) (s .g .now)) (sym (c .before .stacks-fit .ensures) ∙ c .if1 .left))
+    sym (placed-refused (s .p) (s .t2) (s .last) (s .size) (item (s .a .now)) (item (s .b .now)) _ (s .taken) (placedOf (s .k) (s .f .now) (s .g .now)) (sym (c .before .stacks-fit .ensures) ∙ c .if1 .left))
 
 -- src/lib.rt:240:9
 pairs-requires : tie.Need-pairs-requires Inv-loop μ-loop
@@ -104,7 +105,7 @@ loop-again c =
       omega (arith, l .inv .2),
       omega (arith, l .inv .3),
       next-place (s .p) (s .t2) (s .last) (l .inv .0) (l .flevels) (l .fvalues) (l .glevels) (l .gvalues) (l .count) (l .inv .1) (l .i) (c .before .before .before .before .before .before .before .before .before .before .before .before .before .before .before .before .before .before .before .loop-test .taken)
-          (s .size) (l .t) (s .a .now) (s .b .now) (sumsIn (s .k)) (s .k .evals) (l .f) (l .g) _ _ x _ (c .before .before .before .before .before .before .before .before .before .before .before .before .climb .ensures) (c .leave .ensures) (c .before .before .before .before .before .before .before .before .before .put .ensures .0) (c .before .before .before .before .before .before .before .before .before .put .ensures .1)
+          (s .size) (l .t) (item (s .a .now)) (item (s .b .now)) (sumsIn (s .k)) (s .k .evals) (l .f) (l .g) _ _ x _ (c .before .before .before .before .before .before .before .before .before .before .before .before .climb .ensures) (c .leave .ensures) (c .before .before .before .before .before .before .before .before .before .put .ensures .0) (c .before .before .before .before .before .before .before .before .before .put .ensures .1)
           ∙ l .inv .4,
       omega (arith, l .inv .5),
       l .inv .6,
@@ -127,10 +128,10 @@ returns-2 c =
     let s = c .before .before .before .before .before .before .before .before .before .before .before .before .before .before .args in
     let none : l .i ≡ 0 = omega arith in
     let same = fits-facts (s .last) (s .k .fcount) (s .k .gcount) (sym (c .before .before .before .before .before .before .before .before .before .stacks-fit .ensures) ∙ c .before .before .before .before .before .before .before .before .if1 .taken) .2 in
-    place-end (s .p) (s .t2) (s .last) (s .size) (s .a .now) (s .b .now) (l .i) (l .t) (placedOf (kernelWith (stacksIn (l .flevels) (l .fvalues) (l .glevels) (l .gvalues) (l .count)) (sumsIn (s .k)) (s .k .evals)) (l .f) (l .g)) none
+    place-end (s .p) (s .t2) (s .last) (s .size) (item (s .a .now)) (item (s .b .now)) (l .i) (l .t) (placedOf (kernelWith (stacksIn (l .flevels) (l .fvalues) (l .glevels) (l .gvalues) (l .count)) (sumsIn (s .k)) (s .k .evals)) (l .f) (l .g)) none
     ∙ l .inv .4
-    ∙ ap (λ k. placedAll (s .p) (s .t2) (s .last) (s .size) (s .a .now) (s .b .now) (c .before .before .pairs .result) (s .taken) (placedOf k (s .f .now) (s .g .now))) (kernel-parts (s .k) same)
-    ∙ ap (λ m. placedAll (s .p) (s .t2) (s .last) (s .size) (s .a .now) (s .b .now) m (s .taken) (placedOf (s .k) (s .f .now) (s .g .now))) (c .before .before .pairs .ensures .0)
+    ∙ ap (λ k. placedAll (s .p) (s .t2) (s .last) (s .size) (item (s .a .now)) (item (s .b .now)) (c .before .before .pairs .result) (s .taken) (placedOf k (s .f .now) (s .g .now))) (kernel-parts (s .k) same)
+    ∙ ap (λ m. placedAll (s .p) (s .t2) (s .last) (s .size) (item (s .a .now)) (item (s .b .now)) m (s .taken) (placedOf (s .k) (s .f .now) (s .g .now))) (c .before .before .pairs .ensures .0)
 
 pub place-all-spec : {M : Type 1} → statement M
 place-all-spec =
