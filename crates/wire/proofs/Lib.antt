@@ -1,6 +1,7 @@
 pub mod Numbers
 pub mod Told
 pub mod Marks
+pub mod Blocks
 pub mod LogSays
 pub mod Below
 pub mod Writes
