@@ -8,10 +8,10 @@ use lib.Dec.{ltb}
 use lib.IntN.{ℤ, pos, negsuc, natAbs, negℤ, subℕ, _+ℤ_, _*ℤ_}
 use lib.Signed.{ltZ}
 use borrow.Author.Tests.{le-ltb, ltb-true, ltb-false}
-use Rattle.algebra.specs.Mod.{base, residue, addMod, negMod, subMod, mulMod}
-use Rattle.algebra.proofs.Congruence.{Cong, cong-add, cong-eq, cong-modulus, cong-mul, cong-reduced, cong-refl, cong-residue, cong-sym, cong-trans, add-cong, mul-cong, residue-lt, residue-small}
+use Rattle.algebra.specs.Mod.{base, residue, addMod, negMod, mulMod}
+use Rattle.algebra.proofs.Congruence.{Cong, cong-add, cong-eq, cong-mul, cong-reduced, cong-refl, cong-residue, cong-sym, cong-trans, add-cong, mul-cong, residue-lt, residue-small, residue-twice}
 use Rattle.algebra.proofs.Laws.{add-commutes, add-lt, mul-lt}
-use Rattle.algebra.proofs.Ring.{var, num, add, sub, mul, neg, solve-by, solve-cong, solve-from, vars, none, given}
+use Rattle.algebra.proofs.Ring.{var, num, add, mul, neg, solve-cong, solve-from, vars, none, given}
 use Rattle.field.specs.Integer.{image, bySign}
 
 cond-false : (b : Bool) (x y : ℤ) → b ≡ false → cond b x y ≡ y
@@ -35,23 +35,16 @@ module _ (p : ℕ) where
   unfolding image
   image-negsuc n = cong-refl (negMod p (suc n))
 
-  -- the modulus less a number is its negative
-  modulus-less : (n : ℕ) → subMod p p (residue p n) ≡ negMod p n
-  modulus-less n =
-      solve-by p (vars (p ∷ residue p n ∷ n ∷ [])) (sub (var 0) (var 1)) (neg (var 2))
-      (given (num 1) (var 0) (num 0) (cong-modulus p) (given (neg (num 1)) (var 1) (var 2) (cong-residue n) none))
-      tt
-
   -- by the sign and the absolute value
   pub image-positive : (z : ℤ) → ltZ z (pos 0) ≡ false → image p z ≡ residue p (natAbs z)
   unfolding image
   image-positive (pos n) h = refl
   image-positive (negsuc n) h = absurd (true≢false h)
 
-  pub image-negative : (z : ℤ) → ltZ z (pos 0) ≡ true → image p z ≡ subMod p p (residue p (natAbs z))
-  unfolding image
+  pub image-negative : (z : ℤ) → ltZ z (pos 0) ≡ true → image p z ≡ negMod p (residue p (natAbs z))
+  unfolding image negMod
   image-negative (pos n) h = let l = ltb-true n 0 h in absurd (omega arith)
-  image-negative (negsuc n) h = sym (modulus-less (suc n))
+  image-negative (negsuc n) h = ap (λ x. residue p (base p - x)) (sym (residue-twice p (suc n)))
 
   -- the image of a difference of natural numbers
   image-sub : (x y : ℕ) → Cong p (addMod p (image p (subℕ x y)) y) x

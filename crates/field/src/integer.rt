@@ -42,7 +42,7 @@ pub fn image(p: u32, x: i64) -> u32
 {
     let m = super::modular::reduce(p, magnitude(x));
     if is_negative(x) {
-        super::modular::sub(p, p, m)
+        super::modular::neg(p, m)
     } else {
         m
     }

@@ -4,9 +4,8 @@ use mathlib.Core.Bool.{cond}
 use mathlib.Core.List.{List}
 use Rattle.algebra.specs.Mod.{addMod, mulMod}
 use Rattle.field.specs.Total.{plus}
-use Rattle.vector.specs.Vector.{at, weight}
 use Rattle.item.specs.declared.Item.{Item}
-use Rattle.item.specs.declared.Start.{Start}
+pub use Rattle.item.specs.Item.{entersAs}
 use Rattle.kernel.specs.declared.Kernel.{Kernel}
 use Rattle.kernel.specs.Kernel.{entered}
 use Rattle.kernel.specs.Change.{Placed, placedOf, placed}
@@ -19,10 +18,6 @@ use Rattle.prover.specs.Order.{isTotal, levelOf, foldSize, padding}
 -- the index of the next item: "from index L-1 down"
 abbrev pub nextIndex : Run → Pass → ℕ
 nextIndex r s = r .start .items - 1 - s .taken
-
--- "Item i of f is first multiplied by the product of those v_k with b_k = 1"; the twists of a plain run are 1
-abbrev pub entersAs : ℕ → Start → ℕ → ℕ → ℕ
-entersAs p start i x = cond (start .plain) x (mulMod p x (weight p (at (start .twists)) (start .rounds) i))
 
 unfoldable pub entering : ℕ → Run → Pass → Item → ℕ
 entering p r s x = entersAs p (r .start) (nextIndex r s) (x .f)

@@ -4,9 +4,9 @@ use mathlib.Core.Bool.{Bool, true, false, cond}
 use mathlib.Core.List.{List}
 use Prim.Native.Nat.{ℕ, zero, suc, _+_, _-_, _*_, _/_, _%_, _^_, _<_, _≤_, min}
 use native.Mathlib.Omega.{arith}
-use borrow.Author.Tests.{ltb-true, ltb-false}
+use borrow.Author.Tests.{ltb-true, ltb-false, eqb-true, eqb-false}
 use lib.Dec.{eqb, ltb}
-use lib.ListN.{replicate, length-replicate}
+use lib.ListN.{set, replicate, length-replicate}
 use lib.Pow.{pow-mono, shr-shr}
 use Rattle.algebra.specs.Mod.{residue, mulMod}
 use Rattle.algebra.proofs.Laws.{mul-commutes, mul-associates, one-product, mul-residue}
@@ -14,7 +14,8 @@ use Rattle.algebra.proofs.Congruence.{residue-twice}
 use Rattle.vector.specs.Vector.{Vector, at, bit, weight}
 use Rattle.vector.specs.Twist.{lowWeights}
 use Rattle.vector.proofs.Counts.{bit-low, bit-modulo}
-use Rattle.vector.proofs.Overwrite.{overwrite-written}
+use Rattle.vector.specs.Slice.{overwrite}
+use Rattle.vector.proofs.Overwrite.{overwrite-written, overwrite-next}
 use Rattle.vector.proofs.Weights.{weight-zero}
 
 -- the bits of an index, in its two parts
@@ -77,3 +78,37 @@ pub split-weight-is : (p : ℕ) (cs : List ℕ) (n i : ℕ)
     → mulMod p (weight p (at cs) (min n 15) (i / 16 * 16)) (at (lowWeights p cs n) (i % 16)) ≡ weight p (at cs) (min n 15) i
 split-weight-is p cs n i =
     ap (mulMod p (weight p (at cs) (min n 15) (i / 16 * 16))) (low-at p cs n i) ∙ sym (weight-split p (at cs) (min n 15) i)
+
+-- the product of the upper bits, kept from one index to the next
+pub upper-is : (W : ℕ → ℕ) (i before : ℕ) → ((i % 16 ≡ 0 → ⊥) → before ≡ W (i / 16 * 16)) → cond (eqb (i % 16) 0) (W i) before ≡ W (i / 16 * 16)
+upper-is W i before same = by (eqb (i % 16) 0) refl
+  where
+    by : (t : Bool) → eqb (i % 16) 0 ≡ t → cond t (W i) before ≡ W (i / 16 * 16)
+    by true e =
+        let z : i % 16 ≡ 0 = eqb-true (i % 16) 0 e in
+        let q : i ≡ i / 16 * 16 = omega arith in
+        ap W q
+    by false e = same (eqb-false (i % 16) 0 e)
+
+-- one turn of the loop over consecutive indices
+module _ (p : ℕ) (cs : List ℕ) (n first : ℕ) (xs out : List ℕ) (i high high′ x : ℕ) where
+  abbrev W : ℕ → ℕ
+  W = weight p (at cs) (min n 15)
+
+  module _ (kept : ((first + i) % 16 ≡ 0 → ⊥) → high ≡ W ((first + i) / 16 * 16)) (now : high′ ≡ cond (eqb ((first + i) % 16) 0) (W (first + i)) high) where
+    upper-now : high′ ≡ W ((first + i) / 16 * 16)
+    upper-now = now ∙ upper-is W (first + i) high kept
+
+    pub weights-kept : ((first + (i + 1)) % 16 ≡ 0 → ⊥) → high′ ≡ W ((first + (i + 1)) / 16 * 16)
+    weights-kept h =
+        let same : (first + i) / 16 * 16 ≡ (first + (i + 1)) / 16 * 16 = by h in
+        upper-now ∙ ap W same
+      where
+        by : ((first + (i + 1)) % 16 ≡ 0 → ⊥) → (first + i) / 16 * 16 ≡ (first + (i + 1)) / 16 * 16
+        by h = omega (arith, h)
+
+    pub weights-turn : out ≡ overwrite (λ j. W (first + j)) i xs → x ≡ mulMod p high′ (at (lowWeights p cs n) ((first + i) % 16))
+        → set out i x ≡ overwrite (λ j. W (first + j)) (i + 1) xs
+    weights-turn so val =
+        ap₂ (λ ys y. set ys i y) so (val ∙ ap (λ h. mulMod p h (at (lowWeights p cs n) ((first + i) % 16))) upper-now ∙ split-weight-is p cs n (first + i))
+        ∙ overwrite-next (λ j. W (first + j)) xs i

@@ -72,7 +72,7 @@ pub fn evaluate(p: u32, v: &[u32], n: usize, x: u32) -> u32
 }
 
 // A test that never leaves its loop.
-fn still(ok: bool, good: bool) -> bool
+pub fn still(ok: bool, good: bool) -> bool
     ensures { λ r. ⌜ r ≡ (ok && good) ⌝ }
 {
     if good {

@@ -3,11 +3,13 @@ ghost use mathlib.Core.Path.{_≡_};
 ghost use Prim.Native.Nat.{min, _%_};
 ghost use Rattle.algebra.specs.Mod.{mulMod};
 ghost use Rattle.vector.specs.Vector.{at, weight};
-ghost use Rattle.vector.specs.Twist.{lowWeights, twistsOf};
+ghost use Rattle.vector.specs.Twist.{lowWeights, weightsFrom, twistsOf};
+ghost use mathlib.Core.Bool.{cond};
+ghost use lib.Dec.{eqb};
 
 // Bit k of the index, the lowest first, with place k.
-pub fn weight_of(p: u32, cs: [u32; 15], n: u32, index: u32) -> u32
-    ensures { λ r. ⌜ r ≡ weight p (at cs) (min n 15) index ⌝ }
+fn weight_in(p: u32, cs: &[u32; 15], n: u32, index: u32) -> u32
+    ensures { λ r. ⌜ r ≡ weight p (at (now (cs .entry))) (min n 15) index ⌝ }
 {
     let mut product = field::modular::reduce(p, 1);
     let mut rest = index;
@@ -23,6 +25,12 @@ pub fn weight_of(p: u32, cs: [u32; 15], n: u32, index: u32) -> u32
         k += 1;
     }
     product
+}
+
+pub fn weight_of(p: u32, cs: [u32; 15], n: u32, index: u32) -> u32
+    ensures { λ r. ⌜ r ≡ weight p (at cs) (min n 15) index ⌝ }
+{
+    weight_in(p, &cs, n, index)
 }
 
 // The weights of the indices 0 to 15.
@@ -45,6 +53,35 @@ pub fn split_weight(p: u32, low: &[u32; 16], high: u32, index: u32) -> u32
 {
     let l = (index % 16) as usize;
     field::modular::mul(p, high, low[l])
+}
+
+// The product of the upper bits, kept from the index before unless they change here.
+fn upper(p: u32, cs: &[u32; 15], n: u32, index: u32, before: u32) -> u32
+    ensures { λ r. ⌜ r ≡ cond (eqb (index % 16) 0) (weight p (at (now (cs .entry))) (min n 15) index) before ⌝ }
+{
+    if index % 16 == 0 {
+        return weight_in(p, cs, n, index);
+    }
+    before
+}
+
+// The weights of consecutive indices, one product each; nothing where they go past 32 bits.
+pub fn weights(p: u32, cs: [u32; 15], n: u32, first: u32, out: &mut [u32])
+    ensures { λ r. ⌜ now (out .exit) ≡ weightsFrom p cs n first (now (out .entry)) ⌝ }
+{
+    let m = out.len();
+    if ((4294967295 - first) as usize) < m {
+        return;
+    }
+    let low = low_weights(p, cs, n);
+    let mut high = weight_in(p, &cs, n, first / 16 * 16);
+    let mut i: usize = 0;
+    while i < m {
+        let index = first + (i as u32);
+        high = upper(p, &cs, n, index, high);
+        out[i] = split_weight(p, &low, high, index);
+        i += 1;
+    }
 }
 
 // Place j, for j below n, by squaring; the rest zero.

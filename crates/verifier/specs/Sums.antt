@@ -1,17 +1,17 @@
 -- "it works out both end values in one pass, first item to last": what an answered item does to the running end values.
 use Prim.Native.Nat.{ℕ, _+_}
-use mathlib.Core.Bool.{cond}
 use Rattle.algebra.specs.Mod.{addMod, mulMod}
 use Rattle.vector.specs.Vector.{at, weight}
 use Rattle.item.specs.declared.Item.{Item}
 use Rattle.item.specs.declared.Start.{Start}
+use Rattle.item.specs.Item.{entersAs}
 use Rattle.verifier.specs.declared.Verifier.{Verifier}
 use Rattle.verifier.specs.Reply as reply
 use Rattle.verifier.specs.Records.{Replied}
 
--- "Item i of f is first multiplied by the product of those v_k with b_k = 1"; the twists of a plain run are 1
+-- the number that enters f
 unfoldable pub entering : ℕ → Start → ℕ → ℕ → ℕ
-entering p s i f = cond (s .plain) f (mulMod p f (weight p (at (s .twists)) (s .rounds) i))
+entering p s i f = entersAs p s i f
 
 -- the next item, each number times the challenges over the ones of its index
 unfoldable pub oneMore : ℕ → Verifier → ℕ → ℕ → Verifier

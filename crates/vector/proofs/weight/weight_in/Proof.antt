@@ -8,14 +8,14 @@ use borrow.Author.Needs.{needs}
 use Rattle.algebra.specs.Mod.{mulMod}
 use Rattle.vector.specs.Vector.{at, weight}
 use Rattle.vector.proofs.Weights.{rest-turn, weight-take, weight-skip}
-use Rattle.vector.proofs.weight.weight_of.Statement.{statement}
-use Rattle.vector.proofs.weight.weight_of.Tie as tie
+use Rattle.vector.proofs.weight.weight_in.Statement.{statement}
+use Rattle.vector.proofs.weight.weight_in.Tie as tie
 
 abbrev Inv-loop : tie.InvT-loop
-Inv-loop p n index cs product₀ rest₀ k₀ product rest k = (k ≤ n) × (k ≤ 15) × (rest ≡ index / 2 ^ k) × (product ≡ weight p (at cs) k index)
+Inv-loop p cs n index product₀ rest₀ k₀ product rest k = (k ≤ n) × (k ≤ 15) × (rest ≡ index / 2 ^ k) × (product ≡ weight p (at cs) k index)
 
 abbrev μ-loop : tie.MeasureT-loop
-μ-loop p n index cs product₀ rest₀ k₀ product rest k = n - k
+μ-loop p cs n index product₀ rest₀ k₀ product rest k = n - k
 
 reduce-requires : tie.Need-reduce-requires Inv-loop μ-loop
 reduce-requires c κs = search needs
@@ -30,8 +30,8 @@ cast-mul c = search needs
 mul-mul : tie.Need-mul-mul Inv-loop μ-loop
 mul-mul c = search needs
 
-array-read-mul : tie.Need-array-read-mul Inv-loop μ-loop
-array-read-mul c = search needs
+element-copy-out-mul : tie.Need-element-copy-out-mul Inv-loop μ-loop
+element-copy-out-mul c = search needs
 
 mul-requires : tie.Need-mul-requires Inv-loop μ-loop
 mul-requires c κs = search needs
@@ -46,7 +46,7 @@ loop-again : tie.Need-loop-again Inv-loop μ-loop
 loop-again c =
     let l = c .before .before .before .loop in
     let s = c .before .before .before .before .before .args in
-    let cs = at (s .t2) in
+    let cs = at (s .cs .now) in
     let rest = l .inv .2 in (
       omega arith,
       omega arith,
@@ -54,7 +54,7 @@ loop-again c =
       rw (add-one (l .k))
           (⊎-elim
           (λ w.
-          w .2 ∙ w .1 .ensures ∙ ap (λ x. mulMod (s .p) x (cs (l .k))) (l .inv .3)
+          w .3 ∙ w .2 .ensures ∙ ap (λ x. mulMod (s .p) x (cs (l .k))) (l .inv .3)
           ∙ weight-take (s .p) cs (l .k) (s .index) (l .rest) rest (w .0 .taken))
           (λ w. w .1 ∙ l .inv .3 ∙ weight-skip (s .p) cs (l .k) (s .index) (l .rest) rest (w .0 .left))
           (c .if2 .came)),
@@ -65,17 +65,17 @@ returns c =
     let l = c .before .loop in
     let s = c .before .before .before .args in
     let all : l .k ≡ min (s .n) 15 = omega arith in
-    l .inv .3 ∙ ap (λ k. weight (s .p) (at (s .t2)) k (s .index)) all
+    l .inv .3 ∙ ap (λ k. weight (s .p) (at (s .cs .now)) k (s .index)) all
 
 returns-2 : tie.Need-returns-2 Inv-loop μ-loop
 returns-2 c =
     let l = c .before .before .loop in
     let s = c .before .before .before .before .args in
     let all : l .k ≡ min (s .n) 15 = omega arith in
-    l .inv .3 ∙ ap (λ k. weight (s .p) (at (s .t2)) k (s .index)) all
+    l .inv .3 ∙ ap (λ k. weight (s .p) (at (s .cs .now)) k (s .index)) all
 
-pub weight-of-spec : {M : Type 1} → statement M
-weight-of-spec =
+pub weight-in-spec : {M : Type 1} → statement M
+weight-in-spec =
     tie.close
     (tie.spec
     Inv-loop
@@ -84,7 +84,7 @@ weight-of-spec =
     loop-holds
     cast-mul
     mul-mul
-    array-read-mul
+    element-copy-out-mul
     mul-requires
     add-k
     loop-less
