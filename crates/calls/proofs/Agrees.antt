@@ -15,15 +15,17 @@ use Rattle.vector.proofs.Folds.{fold-challenges}
 use Rattle.vector.proofs.Messages.{message-same}
 use Rattle.kernel.proofs.KernelPass.{Taken}
 use Rattle.kernel.proofs.KernelChangePass.{Changing}
-use Rattle.prover.specs.declared.Mode.{Mode}
-use Rattle.prover.specs.declared.Next.{Next}
-use Rattle.prover.specs.declared.Next.the-variants as next
-use Rattle.prover.specs.declared.Kind.{Kind}
-use Rattle.prover.specs.declared.Kind.the-variants.{Shut, Asked, Change}
+use Rattle.phase.specs.declared.Mode.{Mode}
+use Rattle.phase.specs.declared.Next.{Next}
+use Rattle.phase.specs.declared.Next.the-variants as next
+use Rattle.phase.specs.declared.Kind.{Kind}
+use Rattle.phase.specs.declared.Kind.the-variants.{Shut, Asked, Change}
+use Rattle.phase.specs.Cases.{isTotal}
+use Rattle.phase.specs.Level.{levelAt}
+use Rattle.phase.specs.Order.{roundFits}
 use Rattle.prover.specs.declared.Pass.{Pass}
 use Rattle.prover.specs.Records.{kernelOf}
-use Rattle.prover.specs.Order.{isTotal, levelAt, levelOf}
-use Rattle.prover.specs.WellFormed.{roundFits}
+use Rattle.prover.specs.Level.{levelOf}
 use Rattle.item.specs.declared.Given.{Given}
 use Rattle.runs.specs.Trip.{Trip, vectorF, vectorG, totalOf}
 use Rattle.runs.specs.Passes.{passAfter, Gives}

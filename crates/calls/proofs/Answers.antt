@@ -11,24 +11,25 @@ use borrow.Author.Tests.{eqb-true}
 use Rattle.refusal.specs.Limit.{maxWeight}
 use Rattle.vector.specs.Vector.{at}
 use Rattle.kernel.proofs.KernelPass.{Taken, taken-first, taken-second}
-use Rattle.prover.specs.declared.Mode.{Mode}
-use Rattle.prover.specs.declared.Mode.the-variants.{Small, Full}
-use Rattle.prover.specs.declared.Next.{Next}
-use Rattle.prover.specs.declared.Next.the-variants as next
-use Rattle.prover.specs.declared.Kind.{Kind}
-use Rattle.prover.specs.declared.Kind.the-variants.{Shut, Asked, Change}
+use Rattle.phase.specs.declared.Mode.{Mode}
+use Rattle.phase.specs.declared.Mode.the-variants.{Small, Full}
+use Rattle.phase.specs.declared.Next.{Next}
+use Rattle.phase.specs.declared.Next.the-variants as next
+use Rattle.phase.specs.declared.Kind.{Kind}
+use Rattle.phase.specs.declared.Kind.the-variants.{Shut, Asked, Change}
+use Rattle.phase.specs.Cases.{isTotal}
+use Rattle.phase.proofs.Facts.{level-at-most}
 use Rattle.prover.specs.declared.Run.{Run}
 use Rattle.prover.specs.declared.Pass.{Pass}
 use Rattle.refusal.specs.Outcome.{Outcome, answered}
 use Rattle.prover.specs.Reply.{Reply, answerIn}
 use Rattle.prover.specs.Reply as reply
 use Rattle.prover.specs.Records.{Out, kernelOf}
-use Rattle.prover.specs.Order.{isTotal, levelOf}
+use Rattle.prover.specs.Level.{levelOf}
 use Rattle.prover.specs.Take.{takes}
 use Rattle.prover.specs.Full.{messageGiven}
 use Rattle.prover.specs.Challenge.{challengedFull}
 use Rattle.prover.specs.Opening.{openingGiven}
-use Rattle.prover.proofs.Facts.{level-at-most}
 use Rattle.item.specs.declared.Given.{Given}
 use Rattle.item.specs.Item.{contributes}
 use Rattle.runs.specs.Trip.{Trip, vectorF, vectorG}

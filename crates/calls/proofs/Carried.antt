@@ -10,7 +10,7 @@ use lib.ListN.{length, take}
 use Rattle.algebra.specs.Prime.{Prime}
 use Rattle.refusal.specs.Limit.{maxWeight}
 use Rattle.vector.specs.Slice.{isNonzero}
-use Rattle.prover.specs.declared.Next.the-variants as next
+use Rattle.phase.specs.declared.Next.the-variants as next
 use Rattle.verifier.specs.declared.Verifier.{Verifier}
 use Rattle.verifier.specs.Starts.{verifierOf}
 use Rattle.runs.specs.Trip.{Trip, itemOf}

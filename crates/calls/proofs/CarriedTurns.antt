@@ -8,11 +8,11 @@ use native.Mathlib.Omega.{arith}
 use lib.Dec.{ltb}
 use lib.ListN.{length, length-append}
 use borrow.Author.Tests.{eqb-true, ltb-true}
-use Rattle.prover.specs.declared.Next.{Next}
-use Rattle.prover.specs.declared.Next.the-variants as next
-use Rattle.prover.specs.declared.Kind.{Kind}
-use Rattle.prover.specs.declared.Kind.the-variants.{Shut, Asked, Change}
-use Rattle.prover.specs.WellFormed.{roundFits}
+use Rattle.phase.specs.declared.Next.{Next}
+use Rattle.phase.specs.declared.Next.the-variants as next
+use Rattle.phase.specs.declared.Kind.{Kind}
+use Rattle.phase.specs.declared.Kind.the-variants.{Shut, Asked, Change}
+use Rattle.phase.specs.Order.{roundFits}
 use Rattle.calls.specs.declared.Call.{Call}
 use Rattle.calls.specs.declared.Call.the-variants as call
 use Rattle.calls.specs.Step.{Lent, Result, isAnswered}

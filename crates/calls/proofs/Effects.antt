@@ -11,12 +11,14 @@ use Rattle.vector.specs.Vector.{Vector, at}
 use Rattle.vector.specs.Rounds.{size}
 use Rattle.vector.specs.Fold.{combine, fold}
 use Rattle.vector.proofs.Folds.{fold-challenges}
-use Rattle.prover.specs.declared.Next.the-variants as next
-use Rattle.prover.specs.declared.Kind.the-variants.{Shut, Change}
+use Rattle.phase.specs.declared.Next.the-variants as next
+use Rattle.phase.specs.declared.Kind.the-variants.{Shut, Change}
+use Rattle.phase.specs.Cases.{isTotal}
+use Rattle.phase.specs.Level.{levelAt}
 use Rattle.prover.specs.declared.Run.{Run}
 use Rattle.prover.specs.declared.Pass.{Pass}
 use Rattle.prover.specs.Records.{Out}
-use Rattle.prover.specs.Order.{isTotal, levelAt, levelOf}
+use Rattle.prover.specs.Level.{levelOf}
 use Rattle.prover.specs.Take.{entering, takes}
 use Rattle.prover.specs.Change.{paddedBuffer}
 use Rattle.prover.specs.Challenge.{challengeTurn, challengedFull}

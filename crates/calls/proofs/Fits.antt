@@ -16,13 +16,14 @@ use Rattle.wire.specs.Proof.{allBelow}
 use Rattle.vector.specs.Vector.{at}
 use Rattle.vector.specs.Rounds.{roundsOf}
 use Rattle.vector.proofs.Rounds.{rounds-at-most}
-use Rattle.prover.specs.declared.Mode.{Mode}
-use Rattle.prover.specs.declared.Next.{Next}
-use Rattle.prover.specs.declared.Next.the-variants as next
-use Rattle.prover.specs.declared.Kind.{Kind}
-use Rattle.prover.specs.declared.Kind.the-variants.{Shut}
-use Rattle.prover.specs.Order.{isTotal}
-use Rattle.prover.specs.WellFormed.{roundFits, kindFits, runFormed, wellFormed}
+use Rattle.phase.specs.declared.Mode.{Mode}
+use Rattle.phase.specs.declared.Next.{Next}
+use Rattle.phase.specs.declared.Next.the-variants as next
+use Rattle.phase.specs.declared.Kind.{Kind}
+use Rattle.phase.specs.declared.Kind.the-variants.{Shut}
+use Rattle.phase.specs.Cases.{isTotal}
+use Rattle.phase.specs.Order.{roundFits, kindFits}
+use Rattle.prover.specs.WellFormed.{runFormed, wellFormed}
 use Rattle.item.specs.declared.Start.{Start}
 use Rattle.item.specs.declared.Given.{Given}
 use Rattle.item.specs.declared.Given.the-variants.{Numbers}

@@ -21,22 +21,24 @@ use Rattle.vector.specs.Message.{Message}
 use Rattle.vector.specs.Slice.{allReduced, messageSlice}
 use Rattle.vector.proofs.Rounds.{rounds-enough, size-last}
 use Rattle.vector.proofs.Every.{all-reduced-iff}
-use Rattle.prover.specs.declared.Mode.{Mode}
-use Rattle.prover.specs.declared.Mode.the-variants.{Small, Full}
-use Rattle.prover.specs.declared.Next.{Next}
-use Rattle.prover.specs.declared.Next.the-variants as next
-use Rattle.prover.specs.declared.Kind.{Kind}
-use Rattle.prover.specs.declared.Kind.the-variants.{Shut, Asked, Change}
+use Rattle.phase.specs.declared.Mode.{Mode}
+use Rattle.phase.specs.declared.Mode.the-variants.{Small, Full}
+use Rattle.phase.specs.declared.Next.{Next}
+use Rattle.phase.specs.declared.Next.the-variants as next
+use Rattle.phase.specs.declared.Kind.{Kind}
+use Rattle.phase.specs.declared.Kind.the-variants.{Shut, Asked, Change}
+use Rattle.phase.specs.Cases.{isTotal}
+use Rattle.phase.specs.Level.{levelAt}
+use Rattle.phase.specs.Order.{roundOrEnds, roundFits, kindFits}
 use Rattle.prover.specs.declared.Run.{Run}
 use Rattle.prover.specs.declared.Pass.{Pass}
 use Rattle.prover.specs.declared.Answer.the-variants as answer
 use Rattle.prover.specs.Reply as reply
 use Rattle.prover.specs.Reply.{answerIn}
 use Rattle.prover.specs.Records.{answeredStep}
-use Rattle.prover.specs.Order.{isTotal, levelAt, foldSize, roundOrEnds}
+use Rattle.prover.specs.Level.{foldSize}
 use Rattle.prover.specs.Close.{goneTo, withTotal, keptMessage, withMessage, shutPass}
 use Rattle.prover.specs.declared.Step.{Step}
-use Rattle.prover.specs.WellFormed.{roundFits, kindFits}
 use Rattle.prover.specs.Take.{takes}
 use Rattle.prover.specs.Full.{messageGiven}
 use Rattle.prover.specs.Challenge.{keptChallenge, challengedFull}

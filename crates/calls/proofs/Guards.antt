@@ -13,27 +13,30 @@ use Rattle.vector.specs.Rounds.{size}
 use Rattle.vector.specs.Slice.{allReduced, isNonzero}
 use Rattle.item.specs.declared.Item.{Item}
 use Rattle.item.specs.declared.Given.{Given}
-use Rattle.prover.specs.declared.Mode.{Mode}
-use Rattle.prover.specs.declared.Mode.the-variants.{Small, Full}
-use Rattle.prover.specs.declared.Next.{Next}
-use Rattle.prover.specs.declared.Next.the-variants as next
-use Rattle.prover.specs.declared.Kind.{Kind}
-use Rattle.prover.specs.declared.Kind.the-variants.{Shut, Asked, Change}
+use Rattle.phase.specs.declared.Mode.{Mode}
+use Rattle.phase.specs.declared.Mode.the-variants.{Small, Full}
+use Rattle.phase.specs.declared.Next.{Next}
+use Rattle.phase.specs.declared.Next.the-variants as next
+use Rattle.phase.specs.declared.Kind.{Kind}
+use Rattle.phase.specs.declared.Kind.the-variants.{Shut, Asked, Change}
+use Rattle.phase.specs.Cases as cases
+use Rattle.phase.specs.Cases.{isTotal, isMessage, isEnds, isOpenings, isChallenge}
+use Rattle.phase.specs.Level.{levelAt}
+use Rattle.phase.specs.Order.{openNext, changeAt}
 use Rattle.prover.specs.declared.Run.{Run}
 use Rattle.prover.specs.declared.Pass.{Pass}
-use Rattle.prover.specs.Records as records
 use Rattle.prover.specs.Records.{Out, out}
-use Rattle.prover.specs.Order.{isTotal, isMessage, isEnds, isOpenings, levelAt, foldSize}
+use Rattle.prover.specs.Level.{foldSize}
 use Rattle.prover.specs.WellFormed.{wellFormed}
-use Rattle.prover.specs.Open.{openNext, opened, noPoints, pointsOf, openKernel, paddedKernel, openCall, openAtCall}
+use Rattle.prover.specs.Open.{opened, noPoints, pointsOf, openKernel, paddedKernel, openCall, openAtCall}
 use Rattle.prover.specs.Take.{takes}
 use Rattle.prover.specs.Calls as calls
 use Rattle.prover.specs.Calls.{withItem, itemPlaces, placesThere, giveCall}
-use Rattle.prover.specs.Change.{changeAt, changes, toFullCall}
+use Rattle.prover.specs.Change.{changes, toFullCall}
 use Rattle.prover.specs.Close as close
 use Rattle.prover.specs.Close.{closing, closeCall}
 use Rattle.prover.specs.Full.{bothReduced, lentFolds, messageGiven, messageCall, endsGiven, endsCall}
-use Rattle.prover.specs.Challenge.{isChallenge, challengedSmall, challengedFull, challenged, challengeCall}
+use Rattle.prover.specs.Challenge.{challengedSmall, challengedFull, challenged, challengeCall}
 use Rattle.prover.specs.Opening.{openingGiven, openingCall}
 use Rattle.prover.proofs.Facts.{size-32}
 use Rattle.item.specs.declared.Given.the-variants.{Reading, Numbers}
@@ -61,26 +64,26 @@ pub like-row : {A : Type 0} (b c : Bool) (k : ℕ) (rest : Outcome A) (t : Optio
 like-row b c k rest t o e r = ap (λ x. require x k rest) e ∙ same-row c k rest t o r
 
 -- the tests of the code beside the table's
-modes : (m : Mode) → records.isSmall m ≡ isSmall m
+modes : (m : Mode) → cases.isSmall m ≡ isSmall m
 modes Small = refl
 modes Full = refl
 
-fulls : (m : Mode) → records.isFull m ≡ isFull m
+fulls : (m : Mode) → cases.isFull m ≡ isFull m
 fulls Small = refl
 fulls Full = refl
 
-opens : (k : Kind) → records.isOpen k ≡ isOpen k
+opens : (k : Kind) → cases.isOpen k ≡ isOpen k
 opens Shut = refl
 opens Asked = refl
 opens Change = refl
 
-changing : (k : Kind) → records.isChange k ≡ isChange k
+changing : (k : Kind) → cases.isChange k ≡ isChange k
 changing Shut = refl
 changing Asked = refl
 changing Change = refl
 
 -- the tests of what is next, one against the other
-pass-next : (m : Mode) (t : Next) → cond (records.isSmall m) (openNext t) false ≡ passNext m t
+pass-next : (m : Mode) (t : Next) → cond (cases.isSmall m) (openNext t) false ≡ passNext m t
 pass-next Full t = refl
 pass-next Small next.Total = refl
 pass-next Small next.Message = refl
@@ -96,7 +99,7 @@ openings-next true next.Challenge n = refl
 openings-next true next.Ends n = refl
 openings-next true next.Openings n = refl
 
-change-next : (m : Mode) (t : Next) (n : ℕ) → cond (records.isSmall m) (changeAt t n) false ≡ changeNext m t n
+change-next : (m : Mode) (t : Next) (n : ℕ) → cond (cases.isSmall m) (changeAt t n) false ≡ changeNext m t n
 change-next Full t n = refl
 change-next Small next.Total n = refl
 change-next Small next.Message n = refl
@@ -187,7 +190,7 @@ module _ (p : ℕ) (a : State) (past : Notes) (few : a .start .rounds ≤ 15) wh
     formed-and : (x y : Bool) → x ≡ y → cond (wellFormed p R s) x false ≡ y
     formed-and x y e = ap (λ b. cond b x false) wf ∙ e
 
-    full-and : (x y : Bool) → cond (isFull (a .turn .mode)) x false ≡ y → cond (cond (wellFormed p R s) (records.isFull (a .turn .mode)) false) x false ≡ y
+    full-and : (x y : Bool) → cond (isFull (a .turn .mode)) x false ≡ y → cond (cond (wellFormed p R s) (cases.isFull (a .turn .mode)) false) x false ≡ y
     full-and x y e = ap (λ b. cond b x false) (formed-and _ _ (fulls (a .turn .mode))) ∙ e
 
     pub open-decided : (l : Lent) → openCall p R s ≡ decided (table p a call.OpenPass l) (answered (opened R noPoints (openKernel R)))
@@ -198,7 +201,7 @@ module _ (p : ℕ) (a : State) (past : Notes) (few : a .start .rounds ≤ 15) wh
     unfolding openAtCall table
     open-at-decided b l =
         like-row _ _ 10 _ _ _
-        (formed-and _ _ (openings-next (records.isSmall (a .turn .mode)) (a .turn .next) (a .start .rounds) ∙ ap (λ m. m && openingsNext (a .turn .next) (a .start .rounds)) (modes (a .turn .mode))))
+        (formed-and _ _ (openings-next (cases.isSmall (a .turn .mode)) (a .turn .next) (a .start .rounds) ∙ ap (λ m. m && openingsNext (a .turn .next) (a .start .rounds)) (modes (a .turn .mode))))
         (same-row (isNonzero p b) 6 _ none _ refl)
 
     pub to-full-decided : (l : Lent) → toFullCall p R s (l .f) (l .g) ≡ decided (table p a call.ToFull l) (answered (changes R (l .f) (l .g)))
@@ -237,7 +240,7 @@ module _ (p : ℕ) (a : State) (past : Notes) (few : a .start .rounds ≤ 15) wh
 
     -- the open pass is the state's
     module _ (kind : s .kind ≡ a .pass .kind) (count : s .taken ≡ length (a .pass .items)) where
-      open-test : cond (wellFormed p R s) (records.isOpen (s .kind)) false ≡ isOpen (a .pass .kind)
+      open-test : cond (wellFormed p R s) (cases.isOpen (s .kind)) false ≡ isOpen (a .pass .kind)
       open-test = formed-and _ _ (opens (s .kind) ∙ ap isOpen kind)
 
       wanted-test : ltb (s .taken) (a .start .items) ≡ ltb (length (a .pass .items)) (a .start .items)

@@ -20,11 +20,11 @@ use Rattle.vector.specs.Opening.{evaluate, triple, tripleValues, opening}
 use Rattle.vector.proofs.Folds.{fold-challenges}
 use Rattle.vector.proofs.Horner.{evaluate-same}
 use Rattle.refusal.specs.Outcome.{answered}
+use Rattle.phase.specs.declared.Next.{Next}
+use Rattle.phase.specs.declared.Next.the-variants as next
+use Rattle.phase.specs.declared.Kind.{Kind}
+use Rattle.phase.specs.declared.Kind.the-variants.{Shut, Asked, Change}
 use Rattle.prover.specs.Reply as reply
-use Rattle.prover.specs.declared.Next.{Next}
-use Rattle.prover.specs.declared.Next.the-variants as next
-use Rattle.prover.specs.declared.Kind.{Kind}
-use Rattle.prover.specs.declared.Kind.the-variants.{Shut, Asked, Change}
 use Rattle.prover.specs.Values.{inNinety}
 use Rattle.prover.proofs.OpeningValues.{triples-length, triples-same}
 use Rattle.runs.specs.Trip.{Trip, vectorF, vectorG, totalOf}

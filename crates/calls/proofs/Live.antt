@@ -11,12 +11,12 @@ use lib.ListN.{length}
 use borrow.Author.Tests.{eqb-true, eqb-false, leb-true, leb-false, lt-ltb, le-ltb, le-leb}
 use Rattle.refusal.specs.Limit.{maxWeight}
 use Rattle.vector.specs.Slice.{isNonzero}
-use Rattle.prover.specs.declared.Mode.{Mode}
-use Rattle.prover.specs.declared.Mode.the-variants.{Small, Full}
-use Rattle.prover.specs.declared.Next.{Next}
-use Rattle.prover.specs.declared.Next.the-variants as next
-use Rattle.prover.specs.declared.Kind.the-variants.{Shut}
-use Rattle.prover.specs.Order.{roundOrEnds}
+use Rattle.phase.specs.declared.Mode.{Mode}
+use Rattle.phase.specs.declared.Mode.the-variants.{Small, Full}
+use Rattle.phase.specs.declared.Next.{Next}
+use Rattle.phase.specs.declared.Next.the-variants as next
+use Rattle.phase.specs.declared.Kind.the-variants.{Shut}
+use Rattle.phase.specs.Order.{roundOrEnds}
 use Rattle.runs.specs.Trip.{Trip}
 use Rattle.calls.specs.State.{isFull}
 use Rattle.calls.specs.declared.Call.{Call}

@@ -10,13 +10,13 @@ use Rattle.refusal.specs.Limit.{maxWeight}
 use Rattle.field.specs.Total.{inLimits}
 use Rattle.vector.specs.Vector.{Vector}
 use Rattle.vector.specs.Slice.{isNonzero}
-use Rattle.prover.specs.declared.Mode.{Mode}
-use Rattle.prover.specs.declared.Mode.the-variants.{Small, Full}
-use Rattle.prover.specs.declared.Next.{Next}
-use Rattle.prover.specs.declared.Next.the-variants as next
-use Rattle.prover.specs.declared.Kind.{Kind}
-use Rattle.prover.specs.declared.Kind.the-variants.{Shut, Asked, Change}
-use Rattle.prover.specs.Order.{roundOrEnds}
+use Rattle.phase.specs.declared.Mode.{Mode}
+use Rattle.phase.specs.declared.Mode.the-variants.{Small, Full}
+use Rattle.phase.specs.declared.Next.{Next}
+use Rattle.phase.specs.declared.Next.the-variants as next
+use Rattle.phase.specs.declared.Kind.{Kind}
+use Rattle.phase.specs.declared.Kind.the-variants.{Shut, Asked, Change}
+use Rattle.phase.specs.Order.{roundOrEnds}
 use Rattle.item.specs.declared.Given.{Given}
 use Rattle.item.specs.declared.Given.the-variants.{Reading, Numbers}
 use Rattle.runs.specs.Trip.{Trip, itemOf, sumOf}

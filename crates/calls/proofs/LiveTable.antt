@@ -9,7 +9,7 @@ use Rattle.refusal.specs.Limit.{maxWeight}
 use Rattle.vector.specs.Vector.{at}
 use Rattle.vector.specs.Slice.{isNonzero}
 use Rattle.vector.proofs.Every.{reduced-all}
-use Rattle.prover.specs.declared.Next.the-variants as next
+use Rattle.phase.specs.declared.Next.the-variants as next
 use Rattle.prover.specs.declared.Run.{Run}
 use Rattle.prover.specs.declared.Pass.{Pass}
 use Rattle.calls.specs.declared.Call.{Call}

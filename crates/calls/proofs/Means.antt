@@ -13,10 +13,12 @@ use Rattle.wire.specs.Proof.{proofFile}
 use Rattle.vector.specs.Vector.{at, dot}
 use Rattle.vector.specs.Slice.{allReduced, isNonzero}
 use Rattle.kernel.proofs.KernelPass.{Taken}
-use Rattle.prover.specs.declared.Next.{Next}
-use Rattle.prover.specs.declared.Next.the-variants as next
-use Rattle.prover.specs.declared.Kind.{Kind}
-use Rattle.prover.specs.declared.Kind.the-variants.{Shut, Asked, Change}
+use Rattle.phase.specs.declared.Next.{Next}
+use Rattle.phase.specs.declared.Next.the-variants as next
+use Rattle.phase.specs.declared.Kind.{Kind}
+use Rattle.phase.specs.declared.Kind.the-variants.{Shut, Asked, Change}
+use Rattle.phase.specs.Cases.{isTotal, isOpenings}
+use Rattle.phase.specs.Order.{roundOrEnds, roundFits, kindFits}
 use Rattle.prover.specs.declared.Run.{Run}
 use Rattle.prover.specs.declared.Pass.{Pass}
 use Rattle.prover.specs.declared.Step.{Step}
@@ -24,8 +26,7 @@ use Rattle.prover.specs.declared.Answer.the-variants as answer
 use Rattle.prover.specs.Reply.{answerIn}
 use Rattle.prover.specs.Reply as reply
 use Rattle.prover.specs.Records.{Out, noValues, answeredStep, kernelOf}
-use Rattle.prover.specs.Order.{isTotal, isOpenings, levelOf, roundOrEnds}
-use Rattle.prover.specs.WellFormed.{roundFits, kindFits}
+use Rattle.prover.specs.Level.{levelOf}
 use Rattle.prover.specs.Open.{newPass, noPoints, pointsOf, openKernel, paddedKernel}
 use Rattle.prover.specs.Close.{withTotal, goneTo, shutPass}
 use Rattle.prover.specs.Full.{messageTurn, endsTurn, openingTurn, bothReduced, messageGiven, endsGiven}

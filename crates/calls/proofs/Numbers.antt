@@ -15,12 +15,13 @@ use Rattle.vector.specs.Slice.{messageSlice, bothHave}
 use Rattle.kernel.specs.KernelView.{sumsOf}
 use Rattle.kernel.proofs.KernelPass.{Taken}
 use Rattle.kernel.proofs.KernelEnds.{taken-message}
-use Rattle.prover.specs.declared.Next.the-variants as next
-use Rattle.prover.specs.declared.Kind.the-variants.{Asked}
+use Rattle.phase.specs.declared.Next.the-variants as next
+use Rattle.phase.specs.declared.Kind.the-variants.{Asked}
+use Rattle.phase.specs.Cases.{isTotal}
 use Rattle.prover.specs.declared.Run.{Run}
 use Rattle.prover.specs.declared.Pass.{Pass}
 use Rattle.prover.specs.Records.{kernelOf}
-use Rattle.prover.specs.Order.{isTotal, levelOf}
+use Rattle.prover.specs.Level.{levelOf}
 use Rattle.prover.specs.WellFormed.{runFormed}
 use Rattle.item.specs.declared.Start.{Start}
 use Rattle.item.specs.declared.Given.{Given}

@@ -14,19 +14,22 @@ use Rattle.field.specs.Total.{limit, inLimits}
 use Rattle.kernel.specs.declared.Kernel.{Kernel}
 use Rattle.vector.proofs.StackCount.{ones-at-most}
 use Rattle.kernel.proofs.KernelLevels.{Levelled, levelled-first, levelled-second, levelled-count}
-use Rattle.prover.specs.declared.Mode.{Mode}
-use Rattle.prover.specs.declared.Mode.the-variants.{Small, Full}
-use Rattle.prover.specs.declared.Next.{Next}
-use Rattle.prover.specs.declared.Next.the-variants as next
-use Rattle.prover.specs.declared.Kind.{Kind}
-use Rattle.prover.specs.declared.Kind.the-variants.{Shut, Asked, Change}
+use Rattle.phase.specs.declared.Mode.{Mode}
+use Rattle.phase.specs.declared.Mode.the-variants.{Small, Full}
+use Rattle.phase.specs.declared.Next.{Next}
+use Rattle.phase.specs.declared.Next.the-variants as next
+use Rattle.phase.specs.declared.Kind.{Kind}
+use Rattle.phase.specs.declared.Kind.the-variants.{Shut, Asked, Change}
+use Rattle.phase.specs.Cases.{isTotal}
+use Rattle.phase.specs.Level.{levelAt}
+use Rattle.phase.specs.Order.{roundOrEnds}
 use Rattle.prover.specs.declared.Run.{Run}
 use Rattle.prover.specs.declared.Pass.{Pass}
 use Rattle.prover.specs.declared.Answer.the-variants as answer
 use Rattle.prover.specs.Reply as reply
 use Rattle.prover.specs.Reply.{answerIn}
 use Rattle.prover.specs.Records.{kernelOf, answeredStep}
-use Rattle.prover.specs.Order.{isTotal, levelAt, levelOf, padding, roundOrEnds}
+use Rattle.prover.specs.Level.{levelOf, padding}
 use Rattle.prover.specs.Close.{withTotal, goneTo, shutPass}
 use Rattle.prover.specs.Full.{messageGiven}
 use Rattle.prover.specs.Opening.{openingGiven}

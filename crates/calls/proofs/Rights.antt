@@ -17,18 +17,18 @@ use Rattle.vector.specs.Fold.{fold, foldWith}
 use Rattle.vector.specs.Slice.{isNonzero}
 use Rattle.vector.proofs.Rounds.{size-all}
 use Rattle.vector.proofs.Padding.{padded-zero}
-use Rattle.prover.specs.declared.Mode.{Mode}
-use Rattle.prover.specs.declared.Mode.the-variants.{Small, Full}
-use Rattle.prover.specs.declared.Next.{Next}
-use Rattle.prover.specs.declared.Next.the-variants as next
-use Rattle.prover.specs.declared.Kind.{Kind}
-use Rattle.prover.specs.declared.Kind.the-variants.{Shut, Asked, Change}
+use Rattle.phase.specs.declared.Mode.{Mode}
+use Rattle.phase.specs.declared.Mode.the-variants.{Small, Full}
+use Rattle.phase.specs.declared.Next.{Next}
+use Rattle.phase.specs.declared.Next.the-variants as next
+use Rattle.phase.specs.declared.Kind.{Kind}
+use Rattle.phase.specs.declared.Kind.the-variants.{Shut, Asked, Change}
+use Rattle.phase.specs.Cases.{isTotal}
+use Rattle.phase.specs.Order.{roundFits, kindFits}
 use Rattle.prover.specs.declared.Run.{Run}
 use Rattle.prover.specs.declared.Pass.{Pass}
 use Rattle.prover.specs.Reply as reply
 use Rattle.prover.specs.Records.{Out, noValues}
-use Rattle.prover.specs.Order.{isTotal}
-use Rattle.prover.specs.WellFormed.{roundFits, kindFits}
 use Rattle.prover.specs.Take.{takes}
 use Rattle.prover.specs.Full.{messageGiven, openingTurn}
 use Rattle.prover.specs.Challenge.{challengeTurn, challengedFull}

@@ -15,18 +15,18 @@ use Rattle.item.specs.declared.Start.{Start}
 use Rattle.item.specs.declared.Item.{Item}
 use Rattle.item.specs.Start.{modulusOf}
 use Rattle.item.specs.Item.{partsOf}
-use Rattle.prover.specs.declared.Mode.{Mode}
-use Rattle.prover.specs.declared.Mode.the-variants.{Small, Full}
-use Rattle.prover.specs.declared.Next.{Next}
-use Rattle.prover.specs.declared.Next.the-variants as next
-use Rattle.prover.specs.declared.Kind.{Kind}
-use Rattle.prover.specs.declared.Kind.the-variants.{Shut, Asked, Change}
+use Rattle.phase.specs.declared.Mode.{Mode}
+use Rattle.phase.specs.declared.Mode.the-variants.{Small, Full}
+use Rattle.phase.specs.declared.Next.{Next}
+use Rattle.phase.specs.declared.Next.the-variants as next
+use Rattle.phase.specs.declared.Kind.{Kind}
+use Rattle.phase.specs.declared.Kind.the-variants.{Shut, Asked, Change}
+use Rattle.phase.specs.Order.{roundOrEnds}
 use Rattle.prover.specs.declared.Run.{Run}
 use Rattle.prover.specs.declared.Pass.{Pass}
 use Rattle.prover.specs.declared.Step.{Step}
 use Rattle.prover.specs.declared.Answer.the-variants as answer
 use Rattle.prover.specs.Records.{Out, out, leaves, answeredStep}
-use Rattle.prover.specs.Order.{roundOrEnds}
 use Rattle.prover.specs.Open.{mayOpen, mayOpenAt, opened, noPoints, pointsOf, openKernel, paddedKernel, openCall, openAtCall, toSmallCall}
 use Rattle.prover.specs.Take as item
 use Rattle.prover.specs.Take.{nextIndex}

@@ -11,19 +11,20 @@ use Rattle.refusal.specs.Limit.{maxRounds}
 use Rattle.refusal.specs.Outcome.{Outcome, answered}
 use Rattle.field.specs.Total.{inLimits}
 use Rattle.wire.specs.Proof.{allBelow, proofSize, writeProof, writtenIn}
-use Rattle.prover.specs.declared.Mode.{Mode}
-use Rattle.prover.specs.declared.Mode.the-variants.{Small, Full}
-use Rattle.prover.specs.declared.Next.{Next}
-use Rattle.prover.specs.declared.Next.the-variants as next
-use Rattle.prover.specs.declared.Kind.{Kind}
-use Rattle.prover.specs.declared.Kind.the-variants.{Shut, Asked, Change}
+use Rattle.phase.specs.declared.Mode.{Mode}
+use Rattle.phase.specs.declared.Mode.the-variants.{Small, Full}
+use Rattle.phase.specs.declared.Next.{Next}
+use Rattle.phase.specs.declared.Next.the-variants as next
+use Rattle.phase.specs.declared.Kind.{Kind}
+use Rattle.phase.specs.declared.Kind.the-variants.{Shut, Asked, Change}
+use Rattle.phase.specs.Cases.{isTotal, isOpenings}
+use Rattle.phase.specs.Order.{kindFits}
 use Rattle.prover.specs.declared.Run.{Run}
 use Rattle.prover.specs.declared.Pass.{Pass}
 use Rattle.prover.specs.declared.Step.{Step}
 use Rattle.prover.specs.Reply as reply
 use Rattle.prover.specs.Records.{Out, out, leaves, noValues}
-use Rattle.prover.specs.Order.{isTotal, isOpenings}
-use Rattle.prover.specs.WellFormed.{kindFits, wellFormed}
+use Rattle.prover.specs.WellFormed.{wellFormed}
 use Rattle.prover.specs.Open.{opened, noPoints, pointsOf, openKernel, paddedKernel, toSmallCall}
 use Rattle.prover.specs.Take.{takes}
 use Rattle.prover.specs.Change.{changes}

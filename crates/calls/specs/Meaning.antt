@@ -11,11 +11,11 @@ use Rattle.vector.specs.Vector.{Vector, at, dot}
 use Rattle.vector.specs.Fold.{fold, endValue}
 use Rattle.vector.specs.Message.{Message, message}
 use Rattle.vector.specs.Opening.{opening}
-use Rattle.prover.specs.declared.Mode.{Mode}
-use Rattle.prover.specs.declared.Next.{Next}
-use Rattle.prover.specs.declared.Next.the-variants as next
-use Rattle.prover.specs.declared.Kind.{Kind}
-use Rattle.prover.specs.declared.Kind.the-variants.{Shut, Asked, Change}
+use Rattle.phase.specs.declared.Mode.{Mode}
+use Rattle.phase.specs.declared.Next.{Next}
+use Rattle.phase.specs.declared.Next.the-variants as next
+use Rattle.phase.specs.declared.Kind.{Kind}
+use Rattle.phase.specs.declared.Kind.the-variants.{Shut, Asked, Change}
 use Rattle.prover.specs.Reply.{Reply}
 use Rattle.prover.specs.Reply as reply
 use Rattle.prover.specs.Records.{noValues}

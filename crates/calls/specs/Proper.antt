@@ -11,7 +11,7 @@ use Rattle.refusal.specs.Limit.{maxWeight}
 use Rattle.field.specs.Total.{inLimits}
 use Rattle.vector.specs.Vector.{at}
 use Rattle.vector.specs.Slice.{overwrite, isNonzero}
-use Rattle.prover.specs.declared.Next.the-variants as next
+use Rattle.phase.specs.declared.Next.the-variants as next
 use Rattle.item.specs.declared.Given.{Given}
 use Rattle.item.specs.declared.Given.the-variants.{Reading, Numbers}
 use Rattle.runs.specs.Trip.{Trip, itemOf, vectorF, vectorG, totalOf}

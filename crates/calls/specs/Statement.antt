@@ -11,8 +11,8 @@ use Rattle.vector.specs.Fold.{combine}
 use Rattle.vector.specs.Stack.{entries, ones, onesFrom, levels}
 use Rattle.kernel.specs.declared.Kernel.{Kernel}
 use Rattle.kernel.specs.KernelView.{stackF, stackG}
-use Rattle.prover.specs.declared.Kind.the-variants.{Asked}
-use Rattle.prover.specs.declared.Next.the-variants as next
+use Rattle.phase.specs.declared.Next.the-variants as next
+use Rattle.phase.specs.declared.Kind.the-variants.{Asked}
 use Rattle.prover.specs.declared.Run.{Run}
 use Rattle.prover.specs.declared.Pass.{Pass}
 use Rattle.prover.specs.Records.{kernelOf, noValues}

@@ -12,9 +12,9 @@ use Rattle.vector.specs.Slice.{allReduced, isNonzero}
 use Rattle.item.specs.declared.Start.{Start}
 use Rattle.item.specs.declared.Given.{Given}
 use Rattle.item.specs.declared.Given.the-variants.{Reading, Numbers}
-use Rattle.prover.specs.declared.Mode.{Mode}
-use Rattle.prover.specs.declared.Next.{Next}
-use Rattle.prover.specs.declared.Next.the-variants as next
+use Rattle.phase.specs.declared.Mode.{Mode}
+use Rattle.phase.specs.declared.Next.{Next}
+use Rattle.phase.specs.declared.Next.the-variants as next
 use Rattle.runs.specs.Trip.{sumOf}
 use Rattle.calls.specs.declared.Call.{Call}
 use Rattle.calls.specs.declared.Call.the-variants as call

@@ -1,23 +1,20 @@
 -- What a well-formed record tells, and bounds of levels and sizes.
 use mathlib.Core.Path.{_≡_, refl, sym, ap}
 use mathlib.Core.Bool.{Bool, true, false, cond, true≢false}
-use Prim.Native.Nat.{ℕ, _-_, _^_, _≤_}
-use native.Mathlib.Nat.{le-refl}
+use Prim.Native.Nat.{ℕ, _^_, _≤_}
 use native.Mathlib.Omega.{arith}
 use lib.Dec.{eqb, ltb}
 use lib.Pow.{pow-mono}
-use borrow.Author.Tests.{eqb-true, ltb-true, ltb-false, lt-ltb}
+use borrow.Author.Tests.{eqb-true, ltb-false, lt-ltb}
 use Rattle.vector.specs.Rounds.{roundsOf, size}
 use Rattle.vector.specs.Power.{sizeIn32}
 use Rattle.vector.proofs.Rounds.{rounds-at-most, size-all}
-use Rattle.prover.specs.declared.Next.{Next}
-use Rattle.prover.specs.declared.Next.the-variants.{Total, Message, Challenge, Ends, Openings}
-use Rattle.prover.specs.declared.Kind.{Kind}
-use Rattle.prover.specs.declared.Kind.the-variants.{Shut, Asked, Change}
+use Rattle.phase.specs.Order.{roundFits, kindFits}
+use Rattle.phase.proofs.Facts.{round-at-most}
 use Rattle.prover.specs.declared.Run.{Run}
 use Rattle.prover.specs.declared.Pass.{Pass}
-use Rattle.prover.specs.Order.{levelAt, padding}
-use Rattle.prover.specs.WellFormed.{roundFits, kindFits, runFormed, passFormed, wellFormed}
+use Rattle.prover.specs.Level.{padding}
+use Rattle.prover.specs.WellFormed.{runFormed, passFormed, wellFormed}
 
 -- a test that must hold, and one that must not
 pub holds : (b x : Bool) → cond b x false ≡ true → (b ≡ true) × (x ≡ true)
@@ -27,22 +24,6 @@ holds false x e = absurd (true≢false (sym e))
 pub fails : (b x : Bool) → cond b false x ≡ true → (b ≡ false) × (x ≡ true)
 fails true x e = absurd (true≢false (sym e))
 fails false x e = (refl, e)
-
-round-at-most : (next : Next) (round rounds : ℕ) → roundFits next round rounds ≡ true → round ≤ rounds
-round-at-most Total round rounds e = omega (arith, eqb-true round 0 e)
-round-at-most Message round rounds e = omega (arith, ltb-true round rounds e)
-round-at-most Challenge round rounds e = omega (arith, ltb-true round rounds e)
-round-at-most Ends round rounds e = omega (arith, eqb-true round rounds e)
-round-at-most Openings round rounds e = omega (arith, eqb-true round rounds e)
-
-pub level-at-most : (n i : ℕ) (next : Next) (kind : Kind) → i ≤ n → levelAt n i next kind ≤ n
-level-at-most n i Total kind h = omega arith
-level-at-most n i Message kind h = h
-level-at-most n i Challenge kind h = h
-level-at-most n i Ends kind h = le-refl n
-level-at-most n i Openings Shut h = omega arith
-level-at-most n i Openings Asked h = le-refl n
-level-at-most n i Openings Change h = omega arith
 
 -- what safety needs of a record that a call returned
 pub record Formed (r : Run) (s : Pass) : Type 0 where

@@ -1,7 +1,7 @@
 -- The tests of a well-formed record one by one, and what is next after a full-mode call or a challenge.
-use mathlib.Core.Path.{_≡_, refl, sym, ap, subst, _∙_}
+use mathlib.Core.Path.{_≡_, sym, ap, _∙_}
 use mathlib.Core.List.{List}
-use mathlib.Core.Bool.{true, false, cond, true≢false}
+use mathlib.Core.Bool.{true, false, cond}
 use Prim.Native.Nat.{ℕ, suc, _*_, _/_, _≤_, _<_}
 use native.Mathlib.Omega.{arith}
 use lib.Dec.{eqb, leb, ltb}
@@ -11,20 +11,19 @@ use borrow.Author.Tests.{eqb-true, leb-true, ltb-true}
 use Rattle.field.specs.Total.{inLimits}
 use Rattle.vector.specs.Rounds.{roundsOf, size}
 use Rattle.vector.proofs.Rounds.{size-halves, size-last}
-use Rattle.prover.specs.declared.Mode.{Mode}
-use Rattle.prover.specs.declared.Mode.the-variants.{Small, Full}
-use Rattle.prover.specs.declared.Next.{Next}
-use Rattle.prover.specs.declared.Next.the-variants.{Total, Message, Challenge, Ends, Openings}
-use Rattle.prover.specs.declared.Kind.{Kind}
-use Rattle.prover.specs.declared.Kind.the-variants.{Shut, Asked, Change}
+use Rattle.phase.specs.declared.Next.{Next}
+use Rattle.phase.specs.declared.Next.the-variants.{Message, Challenge, Ends, Openings}
+use Rattle.phase.specs.declared.Kind.the-variants.{Shut}
+use Rattle.phase.specs.Cases.{isFull, isMessage, isEnds, isOpenings, isChallenge}
+use Rattle.phase.specs.Order.{roundFits, kindFits}
+use Rattle.phase.proofs.Facts.{is-message, is-challenge, is-ends, is-openings}
 use Rattle.prover.specs.declared.Run.{Run}
 use Rattle.prover.specs.declared.Pass.{Pass}
-use Rattle.prover.specs.Records.{isFull}
-use Rattle.prover.specs.Order.{levelOf, foldSize}
-use Rattle.prover.specs.WellFormed.{roundFits, kindFits, runFormed, passFormed, wellFormed}
+use Rattle.prover.specs.Level.{levelOf, foldSize}
+use Rattle.prover.specs.WellFormed.{runFormed, passFormed, wellFormed}
 use Rattle.prover.specs.Calls.{bothLong}
-use Rattle.prover.specs.Full.{isMessage, isEnds, isOpenings, fullFormed, messageTurn, endsTurn, openingTurn}
-use Rattle.prover.specs.Challenge.{isChallenge, challengeTurn}
+use Rattle.prover.specs.Full.{fullFormed, messageTurn, endsTurn, openingTurn}
+use Rattle.prover.specs.Challenge.{challengeTurn}
 use Rattle.prover.proofs.Facts.{holds, fails, Formed, formed, size-32}
 
 -- the tests, but those of the counts and sums of the pass
@@ -51,53 +50,6 @@ tests p r s e =
 pub tested : (p : ℕ) (r : Run) (s : Pass) → Tests p r s → wellFormed p r s ≡ true
 unfolding wellFormed runFormed passFormed
 tested p r s t = rw (t .some, t .most, t .rounds, t .fits, t .total, t .kind) (t .rest)
-
--- in full mode no pass is open, whatever is next
-pub full-kind : (kind : Kind) (mode : Mode) (a b : Next) → isFull mode ≡ true → kindFits kind mode a ≡ true → kindFits kind mode b ≡ true
-full-kind Shut mode a b h e = refl
-full-kind Asked Small a b h e = absurd (true≢false (sym h))
-full-kind Asked Full a b h e = absurd (true≢false (sym e))
-full-kind Change Small a b h e = absurd (true≢false (sym h))
-full-kind Change Full a b h e = absurd (true≢false (sym e))
-
-is-message : (a : Next) → isMessage a ≡ true → a ≡ Message
-is-message Total h = absurd (true≢false (sym h))
-is-message Message h = refl
-is-message Challenge h = absurd (true≢false (sym h))
-is-message Ends h = absurd (true≢false (sym h))
-is-message Openings h = absurd (true≢false (sym h))
-
-is-challenge : (a : Next) → isChallenge a ≡ true → a ≡ Challenge
-is-challenge Total h = absurd (true≢false (sym h))
-is-challenge Message h = absurd (true≢false (sym h))
-is-challenge Challenge h = refl
-is-challenge Ends h = absurd (true≢false (sym h))
-is-challenge Openings h = absurd (true≢false (sym h))
-
-is-ends : (a : Next) → isEnds a ≡ true → a ≡ Ends
-is-ends Total h = absurd (true≢false (sym h))
-is-ends Message h = absurd (true≢false (sym h))
-is-ends Challenge h = absurd (true≢false (sym h))
-is-ends Ends h = refl
-is-ends Openings h = absurd (true≢false (sym h))
-
-pub is-openings : (a : Next) → isOpenings a ≡ true → a ≡ Openings
-is-openings Total h = absurd (true≢false (sym h))
-is-openings Message h = absurd (true≢false (sym h))
-is-openings Challenge h = absurd (true≢false (sym h))
-is-openings Ends h = absurd (true≢false (sym h))
-is-openings Openings h = refl
-
--- nor is one open where a challenge is next
-pub challenge-kind : (kind : Kind) (mode : Mode) (a b : Next) → isChallenge a ≡ true → kindFits kind mode a ≡ true → kindFits kind mode b ≡ true
-challenge-kind kind mode a b h e = go kind mode (subst (λ n. kindFits kind mode n ≡ true) (is-challenge a h) e)
-  where
-    go : (kind : Kind) (mode : Mode) → kindFits kind mode Challenge ≡ true → kindFits kind mode b ≡ true
-    go Shut mode e = refl
-    go Asked Small e = absurd (true≢false (sym e))
-    go Asked Full e = absurd (true≢false (sym e))
-    go Change Small e = absurd (true≢false (sym e))
-    go Change Full e = absurd (true≢false (sym e))
 
 -- what a call whose turn it is knows of the run
 module _ (p : ℕ) (r : Run) (s : Pass) where

@@ -17,20 +17,24 @@ use Rattle.vector.specs.Message.{Message, message}
 use Rattle.vector.specs.Slice.{messageSlice, isNonzero}
 use Rattle.vector.proofs.Overwrite.{fold-length, fold-kept}
 use Rattle.vector.proofs.Agreement.{Holds, fold-holds, message-holds}
-use Rattle.prover.specs.declared.Mode.the-variants.{Full}
-use Rattle.prover.specs.declared.Next.the-variants as next
-use Rattle.prover.specs.declared.Kind.the-variants.{Shut}
+use Rattle.phase.specs.declared.Mode.the-variants.{Full}
+use Rattle.phase.specs.declared.Next.the-variants as next
+use Rattle.phase.specs.declared.Kind.the-variants.{Shut}
+use Rattle.phase.specs.Cases.{isFull}
+use Rattle.phase.specs.Level.{levelAt}
+use Rattle.phase.specs.Order.{roundOrEnds, roundFits}
+use Rattle.phase.proofs.Facts.{full-kind, challenge-kind}
 use Rattle.prover.specs.declared.Run.{Run}
 use Rattle.prover.specs.declared.Pass.{Pass}
 use Rattle.prover.specs.declared.Answer.the-variants as answer
-use Rattle.prover.specs.Records.{Out, out, answeredStep, isFull}
-use Rattle.prover.specs.Order.{levelAt, levelOf, foldSize, roundOrEnds}
-use Rattle.prover.specs.WellFormed.{roundFits, wellFormed}
+use Rattle.prover.specs.Records.{Out, out, answeredStep}
+use Rattle.prover.specs.Level.{levelOf, foldSize}
+use Rattle.prover.specs.WellFormed.{wellFormed}
 use Rattle.prover.specs.Calls.{bothLong}
 use Rattle.prover.specs.Full.{fullFormed, messageTurn, endsTurn, openingTurn, bothReduced, lentFolds, keptMessage, messageGiven, messageCall, keptEnds, endsCall}
 use Rattle.prover.specs.Challenge.{challengeTurn, keptChallenge, challengedFull, challenged, challengeCall}
 use Rattle.prover.proofs.Facts.{holds, size-32}
-use Rattle.prover.proofs.FullFacts.{tested, full-kind, challenge-kind, message-round, challenge-round, at-ends}
+use Rattle.prover.proofs.FullFacts.{tested, message-round, challenge-round, at-ends}
 
 -- the buffers hold the current fold of f and of g, under the challenges c
 pub record Lent (p : ℕ) (c : ℕ → ℕ) (f g : Vector) (r : Run) (fs gs : List ℕ) : Type 0 where

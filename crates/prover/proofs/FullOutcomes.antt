@@ -6,11 +6,12 @@ use Prim.Native.Nat.{ℕ}
 use lib.ListN.{length}
 use Rattle.refusal.specs.Number as number
 use Rattle.refusal.specs.Outcome.{Outcome, answered, require}
-use Rattle.prover.specs.declared.Mode.{Mode}
-use Rattle.prover.specs.declared.Mode.the-variants.{Small, Full}
+use Rattle.phase.specs.declared.Mode.{Mode}
+use Rattle.phase.specs.declared.Mode.the-variants.{Small, Full}
+use Rattle.phase.specs.Cases.{isSmall}
 use Rattle.prover.specs.declared.Run.{Run}
 use Rattle.prover.specs.declared.Pass.{Pass}
-use Rattle.prover.specs.Records.{Out, out, leaves, refusedStep, isSmall}
+use Rattle.prover.specs.Records.{Out, out, leaves, refusedStep}
 use Rattle.prover.specs.Calls.{bothLong}
 use Rattle.prover.specs.Full.{bothReduced, lentFolds}
 use Rattle.prover.specs.Challenge.{challengedSmall, challengedFull, challenged}

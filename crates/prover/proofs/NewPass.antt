@@ -14,14 +14,17 @@ use Rattle.vector.proofs.StackCount.{ones-below}
 use Rattle.kernel.proofs.KernelLevels.{levelled-padding, levelled-count}
 use Rattle.kernel.proofs.KernelPass.{Taken}
 use Rattle.kernel.proofs.KernelOpen.{taken-padding}
-use Rattle.prover.specs.declared.Kind.{Kind}
-use Rattle.prover.specs.declared.Kind.the-variants.{Asked}
+use Rattle.phase.specs.declared.Kind.{Kind}
+use Rattle.phase.specs.declared.Kind.the-variants.{Asked}
+use Rattle.phase.specs.Cases.{isTotal}
+use Rattle.phase.specs.Order.{kindFits}
+use Rattle.phase.proofs.Facts.{level-at-most}
 use Rattle.prover.specs.declared.Run.{Run}
 use Rattle.prover.specs.declared.Pass.{Pass}
-use Rattle.prover.specs.Order.{isTotal, levelOf, padding}
-use Rattle.prover.specs.WellFormed.{kindFits, runFormed, passFormed, wellFormed}
+use Rattle.prover.specs.Level.{levelOf, padding}
+use Rattle.prover.specs.WellFormed.{runFormed, passFormed, wellFormed}
 use Rattle.prover.specs.Open.{newPass, paddedKernel, openKernel}
-use Rattle.prover.proofs.Facts.{Formed, holds, level-at-most, size-32}
+use Rattle.prover.proofs.Facts.{Formed, holds, size-32}
 
 -- A new pass is well formed where its kind fits and its kernel's stacks have room.
 pub new-formed : (p : ℕ) (r : Run) (s : Pass) (kind : Kind) (points : Points) (k : Kernel) → wellFormed p r s ≡ true

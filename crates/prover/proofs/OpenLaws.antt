@@ -10,17 +10,20 @@ use Rattle.kernel.specs.declared.Kernel.{Kernel}
 use Rattle.kernel.specs.declared.Points.{Points}
 use Rattle.vector.specs.Slice.{isNonzero}
 use Rattle.kernel.specs.Kernel.{emptyKernel, paddingKernel}
-use Rattle.prover.specs.declared.Mode.{Mode}
-use Rattle.prover.specs.declared.Mode.the-variants.{Small, Full}
-use Rattle.prover.specs.declared.Next.{Next}
-use Rattle.prover.specs.declared.Next.the-variants.{Total, Message, Ends, Openings}
-use Rattle.prover.specs.declared.Kind.the-variants.{Asked}
+use Rattle.phase.specs.declared.Mode.{Mode}
+use Rattle.phase.specs.declared.Mode.the-variants.{Small, Full}
+use Rattle.phase.specs.declared.Next.{Next}
+use Rattle.phase.specs.declared.Next.the-variants.{Total, Message, Ends, Openings}
+use Rattle.phase.specs.declared.Kind.the-variants.{Asked}
+use Rattle.phase.specs.Cases.{isSmall, isTotal}
+use Rattle.phase.specs.Level.{levelAt}
+use Rattle.phase.specs.Order.{kindFits}
 use Rattle.prover.specs.declared.Run.{Run}
 use Rattle.prover.specs.declared.Pass.{Pass}
 use Rattle.prover.specs.Reply as reply
-use Rattle.prover.specs.Records.{Out, kernelOf, isSmall}
-use Rattle.prover.specs.Order.{isTotal, levelAt, padding}
-use Rattle.prover.specs.WellFormed.{kindFits, wellFormed}
+use Rattle.prover.specs.Records.{Out, kernelOf}
+use Rattle.prover.specs.Level.{padding}
+use Rattle.prover.specs.WellFormed.{wellFormed}
 use Rattle.prover.specs.Open.{newPass, noPoints, pointsOf, mayOpen, mayOpenAt, paddedKernel, openKernel, opened, openCall, openAtCall}
 use Rattle.prover.proofs.Facts.{formed}
 use Rattle.prover.proofs.Decides.{Nonzero, nonzero, not-so}

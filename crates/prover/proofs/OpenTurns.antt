@@ -4,18 +4,19 @@ use mathlib.Core.Bool.{Bool, true, false, cond, true≢false}
 use Prim.Native.Nat.{ℕ, _<_}
 use lib.Dec.{ltb}
 use borrow.Author.Tests.{lt-ltb, ltb-true}
-use Rattle.prover.specs.declared.Mode.{Mode}
-use Rattle.prover.specs.declared.Mode.the-variants.{Small, Full}
-use Rattle.prover.specs.declared.Next.{Next}
-use Rattle.prover.specs.declared.Next.the-variants.{Total, Message, Challenge, Ends, Openings}
+use Rattle.phase.specs.declared.Mode.{Mode}
+use Rattle.phase.specs.declared.Mode.the-variants.{Small, Full}
+use Rattle.phase.specs.declared.Next.{Next}
+use Rattle.phase.specs.declared.Next.the-variants.{Total, Message, Challenge, Ends, Openings}
+use Rattle.phase.specs.Cases.{isSmall, isOpenings}
+use Rattle.phase.specs.Order.{openNext}
+use Rattle.phase.proofs.Facts.{is-openings}
 use Rattle.prover.specs.declared.Run.{Run}
 use Rattle.prover.specs.declared.Pass.{Pass}
-use Rattle.prover.specs.Records.{isSmall}
 use Rattle.prover.specs.WellFormed.{wellFormed}
-use Rattle.prover.specs.Open.{openNext, isOpenings, mayOpen, mayOpenAt}
+use Rattle.prover.specs.Open.{mayOpen, mayOpenAt}
 use Rattle.prover.proofs.Facts.{holds}
 use Rattle.prover.proofs.Decides.{Decides}
-use Rattle.prover.proofs.FullFacts.{is-openings}
 
 -- where a pass of small mode may be opened: what is next takes one, and no point
 pub data TakesPass : Next → Type 0 where

@@ -24,7 +24,7 @@ use Rattle.kernel.proofs.KernelStream.{whole-stream}
 use Rattle.prover.specs.declared.Run.{Run}
 use Rattle.prover.specs.declared.Pass.{Pass}
 use Rattle.prover.specs.Reply as reply
-use Rattle.prover.specs.Order.{foldSize}
+use Rattle.prover.specs.Level.{foldSize}
 use Rattle.prover.specs.Values.{inNinety, valuesOf}
 use Rattle.prover.specs.Calls.{bothLong}
 use Rattle.prover.specs.Full.{openingTurn, bothReduced}

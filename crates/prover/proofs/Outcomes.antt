@@ -14,12 +14,12 @@ use Rattle.item.specs.declared.Parts.{Parts}
 use Rattle.item.specs.declared.Parts.the-variants as parts
 use Rattle.item.specs.Item.{partsOf, partsIn}
 use Rattle.kernel.specs.Change.{placedOf}
+use Rattle.phase.specs.Cases.{isChange, isTotal}
 use Rattle.prover.specs.declared.Run.{Run}
 use Rattle.prover.specs.declared.Pass.{Pass}
 use Rattle.prover.specs.declared.Step.{Step}
 use Rattle.prover.specs.declared.Answer.the-variants as answer
-use Rattle.prover.specs.Records.{isChange, Out, out, leaves, answeredStep, refusedStep}
-use Rattle.prover.specs.Order.{isTotal}
+use Rattle.prover.specs.Records.{Out, out, leaves, answeredStep, refusedStep}
 use Rattle.prover.specs.Take.{nextIndex, entering, summedItem, enteredItem, placedItem, takenItem, takes}
 use Rattle.prover.specs.Calls.{passOpen, bothLong, placesThere, withItem, refusedParts, itemPlaces, giveCall}
 use Rattle.prover.specs.Change.{mayChange, changes, toFullCall}

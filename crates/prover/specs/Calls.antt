@@ -11,12 +11,13 @@ use Rattle.item.specs.declared.Item.{Item}
 use Rattle.item.specs.declared.Parts.{Parts}
 use Rattle.item.specs.declared.Parts.the-variants as parts
 use Rattle.item.specs.Item.{partsOf}
+use Rattle.phase.specs.Cases.{isOpen, isChange}
 use Rattle.prover.specs.declared.Run.{Run}
 use Rattle.prover.specs.declared.Pass.{Pass}
 use Rattle.prover.specs.declared.Step.{Step}
 use Rattle.prover.specs.declared.Answer.the-variants as answer
-use Rattle.prover.specs.Records.{Out, answeredStep, refusedStep, refusedAtStep, isOpen, isChange}
-use Rattle.prover.specs.Order.{foldSize}
+use Rattle.prover.specs.Records.{Out, answeredStep, refusedStep, refusedAtStep}
+use Rattle.prover.specs.Level.{foldSize}
 use Rattle.prover.specs.WellFormed.{wellFormed}
 use Rattle.prover.specs.Take.{nextIndex, takes}
 

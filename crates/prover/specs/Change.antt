@@ -1,21 +1,20 @@
 -- "a small run may change to full: one pass writes the current folds .. to the first places of the two buffers".
 use Prim.Native.Nat.{ℕ, zero, suc, _+_, _-_, _/_, _^_}
-use mathlib.Core.Bool.{Bool, true, false, cond}
+use mathlib.Core.Bool.{Bool, false, cond}
 use mathlib.Core.List.{List}
-use lib.Dec.{ltb}
 use lib.ListN.{length, set}
 use Rattle.refusal.specs.Number as number
 use Rattle.refusal.specs.Outcome.{Outcome, answered, require}
 use Rattle.kernel.specs.Kernel.{emptyKernel, paddingBelow}
-use Rattle.prover.specs.declared.Next.{Next}
-use Rattle.prover.specs.declared.Next.the-variants.{Total, Message, Challenge, Ends, Openings}
-use Rattle.prover.specs.declared.Kind.{Kind}
-use Rattle.prover.specs.declared.Kind.the-variants.{Change}
+use Rattle.phase.specs.declared.Kind.{Kind}
+use Rattle.phase.specs.declared.Kind.the-variants.{Change}
+use Rattle.phase.specs.Cases.{isSmall}
+use Rattle.phase.specs.Order.{changeAt}
 use Rattle.prover.specs.declared.Run.{Run}
 use Rattle.prover.specs.declared.Pass.{Pass}
 use Rattle.prover.specs.declared.Answer.the-variants as answer
-use Rattle.prover.specs.Records.{Out, out, answeredStep, isSmall}
-use Rattle.prover.specs.Order.{levelOf, foldSize, padding}
+use Rattle.prover.specs.Records.{Out, out, answeredStep}
+use Rattle.prover.specs.Level.{levelOf, foldSize, padding}
 use Rattle.prover.specs.WellFormed.{wellFormed}
 use Rattle.prover.specs.Calls.{bothLong}
 use Rattle.prover.specs.Open.{noPoints, newPass}
@@ -23,14 +22,6 @@ use Rattle.prover.specs.Open.{noPoints, newPass}
 -- a pass of a kind that has taken nothing
 abbrev pub emptyPass : Kind → Pass
 emptyPass kind = newPass kind noPoints emptyKernel
-
--- "Before any later pass (round, ends, openings)"; not between a message and its challenge, and for openings not with n = 0
-abbrev pub changeAt : Next → ℕ → Bool
-changeAt Total n = false
-changeAt Message n = true
-changeAt Challenge n = false
-changeAt Ends n = true
-changeAt Openings n = ltb 0 n
 
 abbrev pub mayChange : ℕ → Run → Pass → Bool
 mayChange p r s = cond (wellFormed p r s) (cond (isSmall (r .mode)) (changeAt (r .next) (r .start .rounds)) false) false

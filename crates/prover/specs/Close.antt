@@ -8,17 +8,18 @@ use lib.ListN.{getD, set}
 use Rattle.refusal.specs.Number as number
 use Rattle.refusal.specs.Outcome.{Outcome, answered, refused, refusedAt, require}
 use Rattle.field.specs.Total.{inLimits}
-use Rattle.prover.specs.declared.Mode.the-variants.{Full}
-use Rattle.prover.specs.declared.Next.{Next}
-use Rattle.prover.specs.declared.Next.the-variants.{Total, Message, Challenge, Ends, Openings}
-use Rattle.prover.specs.declared.Kind.{Kind}
-use Rattle.prover.specs.declared.Kind.the-variants.{Shut, Asked, Change}
+use Rattle.phase.specs.declared.Mode.the-variants.{Full}
+use Rattle.phase.specs.declared.Next.{Next}
+use Rattle.phase.specs.declared.Next.the-variants.{Total, Message, Challenge, Ends, Openings}
+use Rattle.phase.specs.declared.Kind.{Kind}
+use Rattle.phase.specs.declared.Kind.the-variants.{Shut, Asked, Change}
+use Rattle.phase.specs.Cases.{isTotal}
+use Rattle.phase.specs.Order.{roundOrEnds}
 use Rattle.prover.specs.declared.Run.{Run}
 use Rattle.prover.specs.declared.Pass.{Pass}
 use Rattle.prover.specs.declared.Step.{Step}
 use Rattle.prover.specs.declared.Answer.the-variants as answer
 use Rattle.prover.specs.Records.{answeredStep, refusedStep, refusedAtStep}
-use Rattle.prover.specs.Order.{isTotal, roundOrEnds}
 use Rattle.prover.specs.Calls.{passOpen}
 use Rattle.prover.specs.Change.{emptyPass}
 use Rattle.prover.specs.Values.{valuesOf}

@@ -9,12 +9,12 @@ use Rattle.refusal.specs.Outcome.{Outcome, answered, require}
 use Rattle.vector.specs.Vector.{at}
 use Rattle.vector.specs.Message.{Message}
 use Rattle.vector.specs.Slice.{messageSlice, allReduced}
+use Rattle.phase.specs.Cases.{isFull, isMessage, isEnds, isOpenings}
 use Rattle.prover.specs.declared.Run.{Run}
 use Rattle.prover.specs.declared.Pass.{Pass}
 use Rattle.prover.specs.declared.Answer.the-variants as answer
-use Rattle.prover.specs.Records.{Out, out, answeredStep, isFull}
-use Rattle.prover.specs.Order.{foldSize}
-pub use Rattle.prover.specs.Order.{isMessage, isEnds, isOpenings}
+use Rattle.prover.specs.Records.{Out, out, answeredStep}
+use Rattle.prover.specs.Level.{foldSize}
 use Rattle.prover.specs.WellFormed.{wellFormed}
 use Rattle.prover.specs.Calls.{bothLong}
 use Rattle.prover.specs.Close.{withMessage, withEnds}

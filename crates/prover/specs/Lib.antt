@@ -1,7 +1,7 @@
 pub mod Reply
 pub mod Records
 pub mod WellFormed
-pub mod Order
+pub mod Level
 pub mod Open
 pub mod Take
 pub mod Calls

@@ -12,16 +12,15 @@ use Rattle.kernel.specs.declared.Kernel.{Kernel}
 use Rattle.kernel.specs.declared.Points.{Points}
 pub use Rattle.kernel.specs.Kernel.{noPoints}
 use Rattle.kernel.specs.Kernel.{emptyKernel, paddingKernel}
-use Rattle.prover.specs.declared.Next.{Next}
-use Rattle.prover.specs.declared.Next.the-variants.{Total, Message, Challenge, Ends, Openings}
-use Rattle.prover.specs.declared.Kind.{Kind}
-use Rattle.prover.specs.declared.Kind.the-variants.{Asked}
+use Rattle.phase.specs.declared.Kind.{Kind}
+use Rattle.phase.specs.declared.Kind.the-variants.{Asked}
+use Rattle.phase.specs.Cases.{isSmall, isTotal, isOpenings}
+use Rattle.phase.specs.Order.{openNext}
 use Rattle.prover.specs.declared.Run.{Run}
 use Rattle.prover.specs.declared.Pass.{Pass}
 use Rattle.prover.specs.declared.Answer.the-variants as answer
-use Rattle.prover.specs.Records.{Out, out, answeredStep, isSmall}
-use Rattle.prover.specs.Order.{isTotal, levelOf, padding}
-pub use Rattle.prover.specs.Order.{isOpenings}
+use Rattle.prover.specs.Records.{Out, out, answeredStep}
+use Rattle.prover.specs.Level.{levelOf, padding}
 use Rattle.prover.specs.WellFormed.{wellFormed}
 
 -- a pass that has taken no item, with its kernel
@@ -48,14 +47,6 @@ newPass kind points k =
 -- "Opening at point b": b, -b, b squared
 abbrev pub pointsOf : ℕ → ℕ → Points
 pointsOf p b = record { on = true; point = b; minus = negMod p b; square = mulMod p b b }
-
--- what open opens a pass for: the openings have a call of their own, with the point
-abbrev pub openNext : Next → Bool
-openNext Total = true
-openNext Message = true
-openNext Challenge = false
-openNext Ends = true
-openNext Openings = false
 
 -- "In small mode each answer needs a pass": the run is small, and a pass is next
 abbrev pub mayOpen : ℕ → Run → Pass → Bool

@@ -1,14 +1,9 @@
 -- The records of a run, what a call hands back, and that a refusal changes nothing.
 use Prim.Native.Nat.{ℕ}
-use mathlib.Core.Bool.{Bool, true, false}
 use mathlib.Core.List.{List}
 use lib.ListN.{replicate}
 use Rattle.refusal.specs.Outcome.{Outcome, answered, refused, refusedAt}
 use Rattle.kernel.specs.declared.Kernel.{Kernel}
-use Rattle.prover.specs.declared.Mode.{Mode}
-use Rattle.prover.specs.declared.Mode.the-variants.{Small, Full}
-use Rattle.prover.specs.declared.Kind.{Kind}
-use Rattle.prover.specs.declared.Kind.the-variants.{Shut, Asked, Change}
 use Rattle.prover.specs.declared.Run.{Run}
 use Rattle.prover.specs.declared.Pass.{Pass}
 use Rattle.prover.specs.declared.Step.{Step}
@@ -82,21 +77,3 @@ abbrev pub leaves : Run → Pass → List ℕ → List ℕ → Outcome Out → O
 leaves r s f g (answered o) = o
 leaves r s f g (refused k) = out (refusedStep r s k) f g
 leaves r s f g (refusedAt k i) = out (refusedAtStep r s k i) f g
-
-abbrev pub isSmall : Mode → Bool
-isSmall Small = true
-isSmall Full = false
-
-abbrev pub isFull : Mode → Bool
-isFull Small = false
-isFull Full = true
-
-abbrev pub isOpen : Kind → Bool
-isOpen Shut = false
-isOpen Asked = true
-isOpen Change = true
-
-abbrev pub isChange : Kind → Bool
-isChange Shut = false
-isChange Asked = false
-isChange Change = true

@@ -10,9 +10,9 @@ use Rattle.kernel.specs.Kernel.{emptyKernel}
 use Rattle.vector.specs.Rounds.{roundsOf}
 use Rattle.item.specs.declared.Start.{Start}
 use Rattle.item.specs.Start.{countFits, roundsFit, listFits, plainStart, twistedStart, ruleStart, noStart}
-use Rattle.prover.specs.declared.Mode.the-variants.{Small}
-use Rattle.prover.specs.declared.Next.the-variants.{Total}
-use Rattle.prover.specs.declared.Kind.the-variants.{Shut}
+use Rattle.phase.specs.declared.Mode.the-variants.{Small}
+use Rattle.phase.specs.declared.Next.the-variants.{Total}
+use Rattle.phase.specs.declared.Kind.the-variants.{Shut}
 use Rattle.prover.specs.declared.Run.{Run}
 use Rattle.prover.specs.declared.Pass.{Pass}
 use Rattle.prover.specs.declared.Answer.the-variants as answer

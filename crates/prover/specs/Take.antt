@@ -9,11 +9,12 @@ pub use Rattle.item.specs.Item.{entersAs}
 use Rattle.kernel.specs.declared.Kernel.{Kernel}
 use Rattle.kernel.specs.Kernel.{entered}
 use Rattle.kernel.specs.Change.{Placed, placedOf, placed}
+use Rattle.phase.specs.Cases.{isChange, isTotal}
 use Rattle.prover.specs.declared.Run.{Run}
 use Rattle.prover.specs.declared.Pass.{Pass}
 use Rattle.prover.specs.declared.Answer.the-variants as answer
-use Rattle.prover.specs.Records.{kernelOf, withKernel, Out, out, answeredStep, isChange}
-use Rattle.prover.specs.Order.{isTotal, levelOf, foldSize, padding}
+use Rattle.prover.specs.Records.{kernelOf, withKernel, Out, out, answeredStep}
+use Rattle.prover.specs.Level.{levelOf, foldSize, padding}
 
 -- the index of the next item: "from index L-1 down"
 abbrev pub nextIndex : Run → Pass → ℕ

@@ -5,12 +5,12 @@ use mathlib.Core.List.{List}
 use Rattle.refusal.specs.Number as number
 use Rattle.refusal.specs.Outcome.{Outcome, answered, refused, refusedAt, require}
 use Rattle.wire.specs.Proof.{proofFile, proofValues, writeProof}
+use Rattle.phase.specs.Cases.{isOpenings}
 use Rattle.prover.specs.declared.Run.{Run}
 use Rattle.prover.specs.declared.Pass.{Pass}
 use Rattle.prover.specs.declared.Step.{Step}
 use Rattle.prover.specs.declared.Answer.the-variants as answer
 use Rattle.prover.specs.Records.{answeredStep, refusedStep, refusedAtStep}
-pub use Rattle.prover.specs.Order.{isOpenings}
 use Rattle.prover.specs.WellFormed.{wellFormed}
 
 -- 10: "a proof file written .. for a twisted run", or before the ends were given

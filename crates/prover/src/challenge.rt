@@ -3,7 +3,6 @@ ghost use mathlib.Core.Path.{_≡_};
 ghost use Prim.Native.Nat.{_<_};
 ghost use Rattle.item.specs.Start.{modulusOf};
 ghost use Rattle.prover.specs.Records.{out, leaves};
-ghost use Rattle.prover.specs.Order.{roundOrEnds};
 ghost use Rattle.prover.specs.Challenge.{keptChallenge, challengedSmall, challengedFull, challengeCall};
 use super::Answer;
 use super::Pass;
@@ -12,11 +11,12 @@ use super::Step;
 use super::answers::answered;
 use super::answers::refuse;
 use super::checks;
-use super::formed;
 use super::full_checks;
-use super::levels;
 use field::Checked;
 use field::Field;
+use phase::cases;
+use phase::levels;
+use phase::order;
 use refusal::Check;
 
 fn keep_challenge(run: Run, c: u32) -> Run
@@ -28,7 +28,7 @@ fn keep_challenge(run: Run, c: u32) -> Run
     challenges[at] = c;
     let start = run.start;
     let round = run.round + 1;
-    let next = super::close::round_or_ends(round, start.rounds);
+    let next = order::round_or_ends(round, start.rounds);
     Run {
         challenges,
         round,
@@ -72,7 +72,7 @@ impl Run {
         };
         let x = number.to_u32();
         let mode = self.mode;
-        if formed::is_small(mode) {
+        if cases::is_small(mode) {
             return challenge_small(self, pass, x);
         }
         let Check::Passed = checks::both_long(self, f.len(), g.len()) else {

@@ -4,10 +4,8 @@ ghost use Prim.Native.Nat.{_+_, _≤_, _<_, _^_};
 ghost use Rattle.refusal.specs.Check.{passed};
 ghost use Rattle.item.specs.Start.{modulusOf};
 ghost use Rattle.prover.specs.Records.{out, leaves};
-ghost use Rattle.prover.specs.Change.{emptyPass, changeAt, mayChange, paddingPlaces, cleared, paddedBuffer, changePass, changes, toFullCall};
+ghost use Rattle.prover.specs.Change.{emptyPass, mayChange, paddingPlaces, cleared, paddedBuffer, changePass, changes, toFullCall};
 use super::Answer;
-use super::Kind;
-use super::Next;
 use super::Pass;
 use super::Run;
 use super::Step;
@@ -15,8 +13,11 @@ use super::answers::answered;
 use super::answers::refuse;
 use super::checks;
 use super::formed;
-use super::levels;
 use super::open;
+use phase::Kind;
+use phase::cases;
+use phase::levels;
+use phase::order;
 use refusal::Check;
 use refusal::pass_if;
 use vector::slice::write;
@@ -28,18 +29,6 @@ pub fn empty_pass(kind: Kind) -> Pass
     open::new_pass(kind, open::no_points(), kernel::start::empty())
 }
 
-fn change_at(next: Next, rounds: u32) -> bool
-    ensures { λ r. ⌜ r ≡ changeAt next rounds ⌝ }
-{
-    match next {
-        Next::Total => false,
-        Next::Message => true,
-        Next::Challenge => false,
-        Next::Ends => true,
-        Next::Openings => 0 < rounds,
-    }
-}
-
 // 10: small, before a later pass.
 fn may_change(p: u32, run: Run, pass: Pass) -> Check
     ensures { λ r. ⌜ passed r ≡ mayChange p run pass ⌝ }
@@ -48,12 +37,12 @@ fn may_change(p: u32, run: Run, pass: Pass) -> Check
         return Check::Failed;
     }
     let mode = run.mode;
-    if formed::is_small(mode) {} else {
+    if cases::is_small(mode) {} else {
         return Check::Failed;
     }
     let start = run.start;
     let next = run.next;
-    pass_if(change_at(next, start.rounds))
+    pass_if(order::change_at(next, start.rounds))
 }
 
 fn clear(v: &mut [u32], from: usize, count: usize)

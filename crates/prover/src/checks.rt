@@ -1,15 +1,13 @@
 // One check for each number of the table, each answered by Passed or Failed.
 ghost use mathlib.Core.Path.{_≡_};
-ghost use lib.Dec.{ltb};
 ghost use Rattle.refusal.specs.Check.{passed};
 ghost use Rattle.prover.specs.Calls.{passOpen, bothLong, placesThere};
-use super::Kind;
 use super::Pass;
 use super::Run;
 use super::formed;
-use super::levels;
+use phase::Kind;
+use phase::levels;
 use refusal::Check;
-use refusal::pass_if;
 
 // 10: a record that a call returned, with a pass open.
 pub fn pass_open(p: u32, run: Run, pass: Pass) -> Check
@@ -24,13 +22,6 @@ pub fn pass_open(p: u32, run: Run, pass: Pass) -> Check
         Kind::Asked => Check::Passed,
         Kind::Change => Check::Passed,
     }
-}
-
-// 8: an item is wanted.
-pub fn item_wanted(taken: u32, items: u32) -> Check
-    ensures { λ r. ⌜ passed r ≡ ltb taken items ⌝ }
-{
-    pass_if(taken < items)
 }
 
 // 9: both buffers are as long as the current fold.

@@ -3,17 +3,12 @@ ghost use mathlib.Core.Path.{_≡_};
 ghost use Prim.Native.Nat.{_≤_, _<_};
 ghost use mathlib.Core.Bool.{true};
 ghost use mathlib.Core.List.{[]};
-ghost use lib.Dec.{eqb};
 ghost use Rattle.refusal.specs.Check.{passed};
 ghost use Rattle.item.specs.Start.{modulusOf};
+ghost use Rattle.phase.specs.Order.{roundFits};
 ghost use Rattle.prover.specs.Records.{out};
-ghost use Rattle.prover.specs.Order.{roundOrEnds};
-ghost use Rattle.prover.specs.WellFormed.{roundFits};
 ghost use Rattle.prover.specs.Close.{totalFits, totalStep, messageStep, endsStep, openingStep, changedStep, finished, closing, closeCall, leavesStep, goneTo, withMessage, withEnds, inFull};
 use super::Answer;
-use super::Kind;
-use super::Mode;
-use super::Next;
 use super::Pass;
 use super::Run;
 use super::Step;
@@ -21,24 +16,21 @@ use super::answers::answered;
 use super::answers::refuse;
 use super::change::empty_pass;
 use super::checks;
-use super::levels;
 use super::values;
+use phase::Kind;
+use phase::Mode;
+use phase::Next;
+use phase::cases;
+use phase::order;
 use refusal::Check;
 use refusal::pass_if;
-
-// 8: no item is wanting.
-fn all_taken(taken: u32, items: u32) -> Check
-    ensures { λ r. ⌜ passed r ≡ eqb taken items ⌝ }
-{
-    pass_if(taken == items)
-}
 
 // 7: a plain total within its limits.
 fn total_fits(p: u32, run: Run, pass: Pass) -> Check
     ensures { λ r. ⌜ passed r ≡ totalFits p run pass ⌝ }
 {
     let next = run.next;
-    if levels::is_total(next) {} else {
+    if cases::is_total(next) {} else {
         return Check::Passed;
     }
     let start = run.start;
@@ -46,16 +38,6 @@ fn total_fits(p: u32, run: Run, pass: Pass) -> Check
         return Check::Passed;
     }
     pass_if(field::total::within(p, pass.total))
-}
-
-// After the total, and after a challenge.
-pub fn round_or_ends(round: u32, rounds: u32) -> Next
-    ensures { λ r. ⌜ r ≡ roundOrEnds round rounds ⌝ }
-{
-    if round < rounds {
-        return Next::Message;
-    }
-    Next::Ends
 }
 
 pub fn gone_to(run: Run, next: Next) -> Run
@@ -68,7 +50,7 @@ fn close_total(run: Run, pass: Pass) -> Step
     ensures { λ r. ⌜ r ≡ totalStep run pass ⌝ }
 {
     let start = run.start;
-    let next = round_or_ends(0, start.rounds);
+    let next = order::round_or_ends(0, start.rounds);
     let shut = empty_pass(Kind::Shut);
     if start.plain {
         let total = pass.total;
@@ -197,7 +179,7 @@ impl Run {
         let Check::Passed = checks::pass_open(p, self, pass) else {
             return refuse(self, pass, refusal::ORDER);
         };
-        let Check::Passed = all_taken(pass.taken, start.items) else {
+        let Check::Passed = order::all_taken(pass.taken, start.items) else {
             return refuse(self, pass, refusal::ITEMS);
         };
         let Check::Passed = total_fits(p, self, pass) else {

@@ -16,7 +16,7 @@ use super::checks;
 use super::close::keep_ends;
 use super::close::keep_message;
 use super::full_checks;
-use super::levels;
+use phase::levels;
 use refusal::Check;
 use vector::Message;
 

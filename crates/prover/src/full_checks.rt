@@ -1,62 +1,15 @@
 // The checks of the full-mode calls and of a challenge, each answered by Passed or Failed.
 ghost use mathlib.Core.Path.{_≡_};
 ghost use Rattle.refusal.specs.Check.{passed};
-ghost use Rattle.prover.specs.Records.{isFull};
-ghost use Rattle.prover.specs.Full.{isMessage, isEnds, isOpenings, fullFormed, messageTurn, endsTurn, openingTurn, bothReduced};
-ghost use Rattle.prover.specs.Challenge.{isChallenge, challengeTurn};
-use super::Mode;
-use super::Next;
+ghost use Rattle.prover.specs.Full.{fullFormed, messageTurn, endsTurn, openingTurn, bothReduced};
+ghost use Rattle.prover.specs.Challenge.{challengeTurn};
 use super::Pass;
 use super::Run;
 use super::formed;
-use super::levels;
+use phase::cases;
+use phase::levels;
 use refusal::Check;
 use refusal::pass_if;
-
-fn is_full(mode: Mode) -> bool
-    ensures { λ r. ⌜ r ≡ isFull mode ⌝ }
-{
-    match mode {
-        Mode::Small => false,
-        Mode::Full => true,
-    }
-}
-
-fn is_message(next: Next) -> bool
-    ensures { λ r. ⌜ r ≡ isMessage next ⌝ }
-{
-    match next {
-        Next::Total => false,
-        Next::Message => true,
-        Next::Challenge => false,
-        Next::Ends => false,
-        Next::Openings => false,
-    }
-}
-
-fn is_challenge(next: Next) -> bool
-    ensures { λ r. ⌜ r ≡ isChallenge next ⌝ }
-{
-    match next {
-        Next::Total => false,
-        Next::Message => false,
-        Next::Challenge => true,
-        Next::Ends => false,
-        Next::Openings => false,
-    }
-}
-
-fn is_ends(next: Next) -> bool
-    ensures { λ r. ⌜ r ≡ isEnds next ⌝ }
-{
-    match next {
-        Next::Total => false,
-        Next::Message => false,
-        Next::Challenge => false,
-        Next::Ends => true,
-        Next::Openings => false,
-    }
-}
 
 // A record that a call returned, of a run in full mode.
 fn full_formed(p: u32, run: Run, pass: Pass) -> bool
@@ -64,7 +17,7 @@ fn full_formed(p: u32, run: Run, pass: Pass) -> bool
 {
     if formed::well_formed(p, run, pass) {
         let mode = run.mode;
-        return is_full(mode);
+        return cases::is_full(mode);
     }
     false
 }
@@ -77,7 +30,7 @@ pub fn message_next(p: u32, run: Run, pass: Pass) -> Check
         return Check::Failed;
     }
     let next = run.next;
-    pass_if(is_message(next))
+    pass_if(cases::is_message(next))
 }
 
 // 10: a challenge is next.
@@ -88,7 +41,7 @@ pub fn challenge_next(p: u32, run: Run, pass: Pass) -> Check
         return Check::Failed;
     }
     let next = run.next;
-    pass_if(is_challenge(next))
+    pass_if(cases::is_challenge(next))
 }
 
 // 10: the ends of a full run are next.
@@ -99,7 +52,7 @@ pub fn ends_next(p: u32, run: Run, pass: Pass) -> Check
         return Check::Failed;
     }
     let next = run.next;
-    pass_if(is_ends(next))
+    pass_if(cases::is_ends(next))
 }
 
 // 10: openings of a full run are next, and there are rounds to open.
@@ -110,7 +63,7 @@ pub fn openings_next(p: u32, run: Run, pass: Pass) -> Check
         return Check::Failed;
     }
     let next = run.next;
-    if super::open_checks::is_openings(next) {} else {
+    if cases::is_openings(next) {} else {
         return Check::Failed;
     }
     let start = run.start;

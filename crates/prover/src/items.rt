@@ -17,13 +17,15 @@ use super::answers::refuse;
 use super::answers::refuse_at;
 use super::checks;
 use super::kernels;
-use super::levels;
 use item::Given;
 use item::Item;
 use item::Parts;
 use item::Start;
 use kernel::Kernel;
 use kernel::Points;
+use phase::cases;
+use phase::levels;
+use phase::order;
 use refusal::Check;
 
 // The number that enters f.
@@ -109,14 +111,14 @@ fn take(p: u32, run: Run, pass: Pass, x: Item, f: &mut [u32], g: &mut [u32]) -> 
     let start = run.start;
     let a = twisted(p, start, start.items - 1 - pass.taken, x.f);
     let next = run.next;
-    if levels::is_total(next) {
+    if cases::is_total(next) {
         return answered(run, sum(p, pass, x, a), Answer::Taken);
     }
     let challenges = run.challenges;
     let kind = pass.kind;
     let level = levels::level_of(start.rounds, run.round, next, kind);
     let k = kernels::kernel_of(pass);
-    if levels::is_change(kind) {
+    if cases::is_change(kind) {
         let size = levels::fold_size(start.rounds, run.round, next);
         let taken = levels::padding_of(start.items, start.rounds) + pass.taken;
         let after = place(p, challenges, level, size, taken, k, a, x.g, f, g);
@@ -154,7 +156,7 @@ fn give(p: u32, run: Run, pass: Pass, given: Given, f: &mut [u32], g: &mut [u32]
         return refuse(run, pass, refusal::ORDER);
     };
     let start = run.start;
-    let Check::Passed = checks::item_wanted(pass.taken, start.items) else {
+    let Check::Passed = order::item_wanted(pass.taken, start.items) else {
         return refuse(run, pass, refusal::ITEMS);
     };
     let parts = item::parts_of(p, start, start.items - 1 - pass.taken, given);

@@ -10,7 +10,6 @@ mod full;
 mod full_checks;
 mod items;
 mod kernels;
-mod levels;
 mod open;
 mod open_checks;
 mod opening;
@@ -21,31 +20,9 @@ mod written;
 use item::Start;
 use kernel::Evals;
 use kernel::Points;
-
-pub enum Mode {
-    // Streaming: each answer takes a pass.
-    Small,
-    // In memory: both vectors lie in lent buffers and are folded there.
-    Full,
-}
-
-// What is next in the run. The round is the number of challenges taken.
-pub enum Next {
-    Total,
-    Message,
-    Challenge,
-    Ends,
-    Openings,
-}
-
-pub enum Kind {
-    // No pass is open.
-    Shut,
-    // A pass for what is next.
-    Asked,
-    // A change to full mode.
-    Change,
-}
+use phase::Kind;
+use phase::Mode;
+use phase::Next;
 
 // 84 numbers: what the start fixed (L, n, plain, the twists), the mode and what is next, and what was taken and given.
 pub struct Run {

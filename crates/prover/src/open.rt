@@ -5,19 +5,20 @@ ghost use Rattle.item.specs.Start.{modulusOf};
 ghost use Rattle.prover.specs.Records.{out, leaves};
 ghost use Rattle.prover.specs.Open.{newPass, noPoints, pointsOf, paddedKernel, openKernel, openCall, openAtCall, toSmallCall};
 use super::Answer;
-use super::Kind;
 use super::Pass;
 use super::Run;
 use super::Step;
 use super::answers::answered;
 use super::answers::refuse;
-use super::levels;
 use super::open_checks;
 use field::Checked;
 use field::Field;
 use field::modular;
 use kernel::Kernel;
 use kernel::Points;
+use phase::Kind;
+use phase::cases;
+use phase::levels;
 use refusal::Check;
 
 // A pass that has taken no item.
@@ -89,7 +90,7 @@ fn open_kernel(run: Run) -> Kernel
     ensures { λ r. ⌜ r ≡ openKernel run ⌝ }
 {
     let next = run.next;
-    if levels::is_total(next) {
+    if cases::is_total(next) {
         return kernel::start::empty();
     }
     padded_kernel(run)

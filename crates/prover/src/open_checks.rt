@@ -1,38 +1,14 @@
 // The checks of the calls that open a pass, each answered by Passed or Failed.
 ghost use mathlib.Core.Path.{_≡_};
 ghost use Rattle.refusal.specs.Check.{passed};
-ghost use Rattle.prover.specs.Open.{openNext, isOpenings, mayOpen, mayOpenAt};
-use super::Next;
+ghost use Rattle.prover.specs.Open.{mayOpen, mayOpenAt};
 use super::Pass;
 use super::Run;
 use super::formed;
+use phase::cases;
+use phase::order;
 use refusal::Check;
 use refusal::pass_if;
-
-// What open opens a pass for.
-fn open_next(next: Next) -> bool
-    ensures { λ r. ⌜ r ≡ openNext next ⌝ }
-{
-    match next {
-        Next::Total => true,
-        Next::Message => true,
-        Next::Challenge => false,
-        Next::Ends => true,
-        Next::Openings => false,
-    }
-}
-
-pub fn is_openings(next: Next) -> bool
-    ensures { λ r. ⌜ r ≡ isOpenings next ⌝ }
-{
-    match next {
-        Next::Total => false,
-        Next::Message => false,
-        Next::Challenge => false,
-        Next::Ends => false,
-        Next::Openings => true,
-    }
-}
 
 // 10: a record that a call returned, small, with a pass next.
 pub fn may_open(p: u32, run: Run, pass: Pass) -> Check
@@ -42,11 +18,11 @@ pub fn may_open(p: u32, run: Run, pass: Pass) -> Check
         return Check::Failed;
     }
     let mode = run.mode;
-    if formed::is_small(mode) {} else {
+    if cases::is_small(mode) {} else {
         return Check::Failed;
     }
     let next = run.next;
-    pass_if(open_next(next))
+    pass_if(order::open_next(next))
 }
 
 // 10: a record that a call returned, small, with the openings next and n above 0.
@@ -57,11 +33,11 @@ pub fn may_open_at(p: u32, run: Run, pass: Pass) -> Check
         return Check::Failed;
     }
     let mode = run.mode;
-    if formed::is_small(mode) {} else {
+    if cases::is_small(mode) {} else {
         return Check::Failed;
     }
     let next = run.next;
-    if is_openings(next) {} else {
+    if cases::is_openings(next) {} else {
         return Check::Failed;
     }
     let start = run.start;

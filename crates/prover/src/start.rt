@@ -5,9 +5,6 @@ ghost use Rattle.field.specs.Modulus.{modulus};
 ghost use Rattle.prover.specs.Records.{out, refusedStep};
 ghost use Rattle.prover.specs.Start.{freshRun, zeroRun, zeroPass, started, startLeaves, startPlain, startTwisted, startRule};
 use super::Answer;
-use super::Kind;
-use super::Mode;
-use super::Next;
 use super::Run;
 use super::Step;
 use super::answers::answered;
@@ -17,6 +14,9 @@ use field::Checked;
 use field::Field;
 use item::Start;
 use item::starts;
+use phase::Kind;
+use phase::Mode;
+use phase::Next;
 use refusal::Check;
 
 // A run that has given and taken nothing.

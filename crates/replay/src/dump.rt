@@ -3,8 +3,8 @@ use super::lists::within_bytes;
 use super::print;
 use super::state::Lists;
 use super::state::Prover;
-use prover::Kind;
-use prover::Next;
+use phase::Kind;
+use phase::Next;
 use prover::Pass;
 use prover::Run;
 

@@ -20,11 +20,12 @@ use Rattle.kernel.proofs.KernelTurns.{placed-fits}
 use Rattle.kernel.proofs.KernelOpen.{padded-fold}
 use Rattle.kernel.proofs.KernelLevels.{LevelledBelow}
 use Rattle.kernel.proofs.KernelChangePass.{Changing, arrives-last, arrives-below, reaches-last, stops-before}
-use Rattle.prover.specs.declared.Kind.the-variants.{Change}
+use Rattle.phase.specs.declared.Kind.the-variants.{Change}
+use Rattle.phase.specs.Cases.{isChange, isTotal}
 use Rattle.prover.specs.declared.Run.{Run}
 use Rattle.prover.specs.declared.Pass.{Pass}
-use Rattle.prover.specs.Records.{Out, kernelOf, isChange}
-use Rattle.prover.specs.Order.{isTotal, levelOf, foldSize, padding}
+use Rattle.prover.specs.Records.{Out, kernelOf}
+use Rattle.prover.specs.Level.{levelOf, foldSize, padding}
 use Rattle.prover.specs.WellFormed.{runFormed}
 use Rattle.prover.specs.Take.{entering, placedItem, takenItem, takes}
 use Rattle.prover.proofs.Outcomes.{takes-sum, takes-enter, takes-place}

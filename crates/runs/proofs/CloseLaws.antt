@@ -17,14 +17,16 @@ use Rattle.vector.proofs.Folds.{fold-reduced}
 use Rattle.vector.specs.Stack.{ones}
 use Rattle.kernel.proofs.KernelPass.{Taken, taken-first, taken-second, taken-count, taken-at-most}
 use Rattle.kernel.proofs.KernelEnds.{taken-message, taken-end-first, taken-end-second}
-use Rattle.prover.specs.declared.Next.the-variants.{Message, Ends, Openings}
-use Rattle.prover.specs.declared.Kind.the-variants.{Asked}
+use Rattle.phase.specs.declared.Next.the-variants.{Message, Ends, Openings}
+use Rattle.phase.specs.declared.Kind.the-variants.{Asked}
+use Rattle.phase.specs.Level.{levelAt}
+use Rattle.phase.specs.Order.{roundFits}
 use Rattle.prover.specs.declared.Run.{Run}
 use Rattle.prover.specs.declared.Pass.{Pass}
 use Rattle.prover.specs.declared.Answer.the-variants as answer
 use Rattle.prover.specs.Records.{kernelOf, answeredStep}
-use Rattle.prover.specs.Order.{levelAt, levelOf}
-use Rattle.prover.specs.WellFormed.{roundFits, runFormed}
+use Rattle.prover.specs.Level.{levelOf}
+use Rattle.prover.specs.WellFormed.{runFormed}
 use Rattle.prover.specs.Open.{pointsOf}
 use Rattle.prover.specs.Values.{inNinety}
 use Rattle.prover.specs.Close.{shutPass, withMessage, withEnds, finished}

@@ -8,17 +8,18 @@ use lib.IntN.{natAbs}
 use lib.ListN.{length}
 use borrow.Author.Tests.{le-leb, le-ltb, eq-eqb}
 use Rattle.kernel.specs.Kernel.{emptyKernel}
-use Rattle.prover.specs.declared.Mode.{Mode}
-use Rattle.prover.specs.declared.Mode.the-variants.{Small, Full}
-use Rattle.prover.specs.declared.Next.{Next}
-use Rattle.prover.specs.declared.Next.the-variants.{Total, Message, Challenge, Ends, Openings}
-use Rattle.prover.specs.declared.Kind.{Kind}
-use Rattle.prover.specs.declared.Kind.the-variants.{Shut, Asked, Change}
+use Rattle.phase.specs.declared.Mode.{Mode}
+use Rattle.phase.specs.declared.Mode.the-variants.{Small, Full}
+use Rattle.phase.specs.declared.Next.{Next}
+use Rattle.phase.specs.declared.Next.the-variants.{Total, Message, Challenge, Ends, Openings}
+use Rattle.phase.specs.declared.Kind.{Kind}
+use Rattle.phase.specs.declared.Kind.the-variants.{Shut, Asked, Change}
+use Rattle.phase.specs.Cases.{isTotal, isOpenings}
+use Rattle.phase.specs.Order.{kindFits}
 use Rattle.prover.specs.declared.Run.{Run}
 use Rattle.prover.specs.declared.Pass.{Pass}
 use Rattle.prover.specs.Records.{kernelOf}
-use Rattle.prover.specs.Order.{isTotal, isOpenings}
-use Rattle.prover.specs.WellFormed.{kindFits, runFormed, passFormed, wellFormed}
+use Rattle.prover.specs.WellFormed.{runFormed, passFormed, wellFormed}
 use Rattle.prover.specs.Open.{newPass, noPoints, pointsOf, paddedKernel}
 use Rattle.item.specs.declared.Given.{Given}
 use Rattle.item.specs.Item.{contributes}

@@ -16,12 +16,13 @@ use Rattle.vector.proofs.StackCount.{ones-below}
 use Rattle.kernel.proofs.KernelLevels.{LevelledBelow, below-count}
 use Rattle.kernel.proofs.KernelStream.{kernelOf as streamOf, levelled-list}
 use Rattle.kernel.proofs.KernelChangeStream.{changeOf, levelled-change}
-use Rattle.prover.specs.declared.Kind.{Kind}
-use Rattle.prover.specs.declared.Kind.the-variants.{Shut, Asked, Change}
+use Rattle.phase.specs.declared.Kind.{Kind}
+use Rattle.phase.specs.declared.Kind.the-variants.{Shut, Asked, Change}
+use Rattle.phase.specs.Cases.{isOpen, isChange, isTotal, isOpenings}
 use Rattle.prover.specs.declared.Run.{Run}
 use Rattle.prover.specs.declared.Pass.{Pass}
-use Rattle.prover.specs.Records.{kernelOf, isOpen, isChange}
-use Rattle.prover.specs.Order.{isTotal, isOpenings, levelOf, padding}
+use Rattle.prover.specs.Records.{kernelOf}
+use Rattle.prover.specs.Level.{levelOf, padding}
 use Rattle.prover.specs.WellFormed.{runFormed}
 use Rattle.prover.specs.Open.{newPass, noPoints, pointsOf, paddedKernel, openKernel}
 use Rattle.prover.specs.Take.{entering, enteredItem}

@@ -13,15 +13,16 @@ use Rattle.kernel.specs.declared.Kernel.{Kernel}
 use Rattle.kernel.specs.Kernel.{emptyKernel, paddingBelow}
 use Rattle.kernel.specs.Change.{Placed, placedOf, placedKernel}
 use Rattle.kernel.proofs.KernelChangeStream.{placed-kernel}
-use Rattle.prover.specs.declared.Kind.{Kind}
-use Rattle.prover.specs.declared.Kind.the-variants.{Shut, Asked, Change}
+use Rattle.phase.specs.declared.Kind.{Kind}
+use Rattle.phase.specs.declared.Kind.the-variants.{Shut, Asked, Change}
+use Rattle.phase.specs.Cases.{isChange, isTotal, isOpenings}
 use Rattle.prover.specs.declared.Run.{Run}
 use Rattle.prover.specs.declared.Pass.{Pass}
 use Rattle.prover.specs.declared.Answer.the-variants as answer
 use Rattle.refusal.specs.Outcome.{answered}
 use Rattle.prover.specs.Reply as reply
-use Rattle.prover.specs.Records.{kernelOf, withKernel, isChange, Out, out, answeredStep, noValues}
-use Rattle.prover.specs.Order.{isTotal, isOpenings, levelOf, foldSize, padding}
+use Rattle.prover.specs.Records.{kernelOf, withKernel, Out, out, answeredStep, noValues}
+use Rattle.prover.specs.Level.{levelOf, foldSize, padding}
 use Rattle.prover.specs.Open.{newPass, noPoints, pointsOf, paddedKernel, openKernel}
 use Rattle.prover.specs.Take.{entering, oneMore, summedItem, enteredItem, placedItem, takenItem, takes}
 use Rattle.prover.proofs.Outcomes.{takes-sum, takes-enter, takes-place}

@@ -10,9 +10,9 @@ use lib.ListN.{length}
 use Rattle.field.specs.Total.{plus}
 use Rattle.field.proofs.Signed.{natAbs-add, natAbs-mul}
 use Rattle.field.proofs.Totals.{plus-exact}
-use Rattle.prover.specs.declared.Kind.{Kind}
+use Rattle.phase.specs.declared.Kind.{Kind}
+use Rattle.phase.specs.Cases.{isTotal}
 use Rattle.prover.specs.declared.Run.{Run}
-use Rattle.prover.specs.Order.{isTotal}
 use Rattle.item.specs.declared.Start.{Start}
 use Rattle.item.specs.declared.Given.{Given}
 use Rattle.item.specs.declared.Given.the-variants.{Reading, Numbers}

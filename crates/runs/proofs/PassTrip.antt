@@ -19,11 +19,12 @@ use Rattle.kernel.proofs.KernelPass.{Taken}
 use Rattle.kernel.proofs.KernelStream.{kernelOf as streamOf, taken-pass}
 use Rattle.kernel.proofs.KernelChangePass.{Changing}
 use Rattle.kernel.proofs.KernelChangeStream.{changeOf, changing-pass}
-use Rattle.prover.specs.declared.Kind.{Kind}
-use Rattle.prover.specs.declared.Kind.the-variants.{Asked, Change}
+use Rattle.phase.specs.declared.Kind.{Kind}
+use Rattle.phase.specs.declared.Kind.the-variants.{Asked, Change}
+use Rattle.phase.specs.Cases.{isTotal}
 use Rattle.prover.specs.declared.Run.{Run}
 use Rattle.prover.specs.Records.{kernelOf}
-use Rattle.prover.specs.Order.{isTotal, levelOf}
+use Rattle.prover.specs.Level.{levelOf}
 use Rattle.prover.specs.WellFormed.{runFormed}
 use Rattle.item.specs.declared.Given.{Given}
 use Rattle.item.specs.declared.Given.the-variants.{Numbers}

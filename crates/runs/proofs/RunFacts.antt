@@ -6,15 +6,17 @@ use native.Mathlib.Omega.{arith}
 use borrow.Author.Tests.{le-ltb}
 use Rattle.vector.specs.Rounds.{size}
 use Rattle.vector.proofs.Rounds.{rounds-enough}
-use Rattle.prover.specs.declared.Next.{Next}
-use Rattle.prover.specs.declared.Next.the-variants.{Total, Message, Challenge, Ends, Openings}
-use Rattle.prover.specs.declared.Kind.{Kind}
-use Rattle.prover.specs.declared.Kind.the-variants.{Shut, Change}
+use Rattle.phase.specs.declared.Next.{Next}
+use Rattle.phase.specs.declared.Next.the-variants.{Total, Message, Challenge, Ends, Openings}
+use Rattle.phase.specs.declared.Kind.{Kind}
+use Rattle.phase.specs.declared.Kind.the-variants.{Shut, Change}
+use Rattle.phase.specs.Level.{levelAt}
+use Rattle.phase.proofs.Facts.{level-at-most}
 use Rattle.prover.specs.declared.Run.{Run}
-use Rattle.prover.specs.Order.{levelAt, levelOf, foldSize, padding}
+use Rattle.prover.specs.Level.{levelOf, foldSize, padding}
 use Rattle.prover.specs.WellFormed.{runFormed, passFormed, wellFormed}
 use Rattle.prover.specs.Close.{shutPass}
-use Rattle.prover.proofs.Facts.{Formed, formed, level-at-most, size-32}
+use Rattle.prover.proofs.Facts.{Formed, formed, size-32}
 use Rattle.prover.proofs.NewPass.{padding-is}
 
 -- a change writes the current fold

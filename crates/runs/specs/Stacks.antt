@@ -6,11 +6,12 @@ use Rattle.vector.specs.Vector.{Vector}
 use Rattle.vector.specs.Fold.{combine}
 use Rattle.vector.specs.Stack.{entries}
 use Rattle.kernel.specs.KernelView.{stackF, stackG}
-use Rattle.prover.specs.declared.Kind.{Kind}
+use Rattle.phase.specs.declared.Kind.{Kind}
+use Rattle.phase.specs.Cases.{isChange}
 use Rattle.prover.specs.declared.Run.{Run}
 use Rattle.prover.specs.declared.Pass.{Pass}
-use Rattle.prover.specs.Records.{kernelOf, isChange}
-use Rattle.prover.specs.Order.{levelOf}
+use Rattle.prover.specs.Records.{kernelOf}
+use Rattle.prover.specs.Level.{levelOf}
 
 -- of a pass that folds to level i and has taken t of the 2^n items of f and g, under the challenges c
 pub record StacksOf (p n : ℕ) (c : ℕ → ℕ) (i : ℕ) (f g : Vector) (t : ℕ) (s : Pass) : Type 0 where

@@ -11,9 +11,9 @@ use item::Given;
 use item::Item;
 use item::Parts;
 use item::Start;
+use phase::Next;
+use phase::cases;
 use prover::Answer;
-use prover::Mode;
-use prover::Next;
 use prover::Run;
 use prover::Step;
 use vector::slice::write;
@@ -163,10 +163,7 @@ fn stage(run: Run) -> u64 {
 fn is_small(step: Step) -> bool {
     let run = step.run;
     let mode = run.mode;
-    match mode {
-        Mode::Small => true,
-        Mode::Full => false,
-    }
+    cases::is_small(mode)
 }
 
 // A whole pass for what is next.

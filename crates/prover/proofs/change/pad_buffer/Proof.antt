@@ -2,7 +2,7 @@ use mathlib.Core.Path.{_≡_, sym, ap, ap₂, _∙_}
 use Prim.Native.Nat.{_-_}
 use native.Mathlib.Omega.{arith}
 use Rattle.prover.specs.Change.{cleared, paddingPlaces}
-use Rattle.prover.specs.Order.{foldSize}
+use Rattle.prover.specs.Level.{foldSize}
 use borrow.Author.Needs.{needs}
 use Rattle.prover.proofs.change.pad_buffer.Statement.{statement}
 use Rattle.prover.proofs.change.pad_buffer.Tie as tie

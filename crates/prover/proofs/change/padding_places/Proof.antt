@@ -1,8 +1,8 @@
 use mathlib.Core.Path.{_≡_, ap₂}
 use Prim.Native.Nat.{_/_, _^_}
 use native.Mathlib.Omega.{arith}
-use Rattle.prover.specs.declared.Kind.the-variants.{Change}
-use Rattle.prover.proofs.Facts.{level-at-most}
+use Rattle.phase.specs.declared.Kind.the-variants.{Change}
+use Rattle.phase.proofs.Facts.{level-at-most}
 use borrow.Author.Needs.{needs}
 use Rattle.prover.proofs.change.padding_places.Statement.{statement}
 use Rattle.prover.proofs.change.padding_places.Tie as tie

@@ -1,6 +1,6 @@
 use borrow.Author.Tests.{le-ltb, lt-ltb}
-use Rattle.prover.proofs.close.round_or_ends.Statement.{statement}
-use Rattle.prover.proofs.close.round_or_ends.Tie as tie
+use Rattle.phase.proofs.order.round_or_ends.Statement.{statement}
+use Rattle.phase.proofs.order.round_or_ends.Tie as tie
 
 returns : tie.Need-returns
 returns c = simp (lt-ltb _ _ (c .if1 .taken))

@@ -1,6 +1,6 @@
 use borrow.Author.Needs.{needs}
-use Rattle.prover.proofs.close.all_taken.Statement.{statement}
-use Rattle.prover.proofs.close.all_taken.Tie as tie
+use Rattle.phase.proofs.order.item_wanted.Statement.{statement}
+use Rattle.phase.proofs.order.item_wanted.Tie as tie
 
 pass-if-requires : tie.Need-pass-if-requires
 pass-if-requires c κs = search needs
@@ -8,8 +8,8 @@ pass-if-requires c κs = search needs
 returns : tie.Need-returns
 returns c = c .pass-if .ensures
 
-pub all-taken-spec : {M : Type 1} → statement M
-all-taken-spec =
+pub item-wanted-spec : {M : Type 1} → statement M
+item-wanted-spec =
     tie.close
     (tie.spec
     pass-if-requires

@@ -1,6 +1,6 @@
 use borrow.Author.Needs.{needs}
-use Rattle.prover.proofs.levels.level_of.Statement.{statement}
-use Rattle.prover.proofs.levels.level_of.Tie as tie
+use Rattle.phase.proofs.levels.level_of.Statement.{statement}
+use Rattle.phase.proofs.levels.level_of.Tie as tie
 
 enum-told : tie.Need-enum-told
 enum-told c = search needs

@@ -1,6 +1,6 @@
 use borrow.Author.Needs.{needs}
-use Rattle.prover.proofs.levels.fold_size.Statement.{statement}
-use Rattle.prover.proofs.levels.fold_size.Tie as tie
+use Rattle.phase.proofs.levels.fold_size.Statement.{statement}
+use Rattle.phase.proofs.levels.fold_size.Tie as tie
 
 level-of-requires : tie.Need-level-of-requires
 level-of-requires c κs = search needs

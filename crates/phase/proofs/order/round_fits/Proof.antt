@@ -1,6 +1,6 @@
 use borrow.Author.Needs.{needs}
-use Rattle.prover.proofs.change.change_at.Statement.{statement}
-use Rattle.prover.proofs.change.change_at.Tie as tie
+use Rattle.phase.proofs.order.round_fits.Statement.{statement}
+use Rattle.phase.proofs.order.round_fits.Tie as tie
 
 enum-told : tie.Need-enum-told
 enum-told c = search needs
@@ -18,22 +18,22 @@ enum-told-5 : tie.Need-enum-told-5
 enum-told-5 c = search needs
 
 returns : tie.Need-returns
-returns c = search needs
+returns c = simp (c .enum-told .given .1)
 
 returns-2 : tie.Need-returns-2
-returns-2 c = search needs
+returns-2 c = simp (c .enum-told2 .given .1)
 
 returns-3 : tie.Need-returns-3
-returns-3 c = search needs
+returns-3 c = simp (c .enum-told3 .given .1)
 
 returns-4 : tie.Need-returns-4
-returns-4 c = search needs
+returns-4 c = simp (c .enum-told4 .given .1)
 
 returns-5 : tie.Need-returns-5
 returns-5 c = simp (c .enum-told5 .given .1)
 
-pub change-at-spec : {M : Type 1} → statement M
-change-at-spec =
+pub round-fits-spec : {M : Type 1} → statement M
+round-fits-spec =
     tie.close
     (tie.spec
     enum-told

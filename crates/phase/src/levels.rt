@@ -1,7 +1,6 @@
 // The fold that a pass or a full-mode call works on.
 ghost use mathlib.Core.Path.{_≡_};
-ghost use Rattle.prover.specs.Records.{isChange};
-ghost use Rattle.prover.specs.Order.{isTotal, levelAt, foldAt, paddingOf};
+ghost use Rattle.phase.specs.Level.{levelAt, foldAt, paddingOf};
 use super::Kind;
 use super::Next;
 
@@ -27,28 +26,6 @@ pub fn fold_size(rounds: u32, round: u32, next: Next) -> u32
     ensures { λ r. ⌜ r ≡ foldAt rounds round next ⌝ }
 {
     vector::sizes::size_of(rounds, level_of(rounds, round, next, Kind::Shut))
-}
-
-pub fn is_total(next: Next) -> bool
-    ensures { λ r. ⌜ r ≡ isTotal next ⌝ }
-{
-    match next {
-        Next::Total => true,
-        Next::Message => false,
-        Next::Challenge => false,
-        Next::Ends => false,
-        Next::Openings => false,
-    }
-}
-
-pub fn is_change(kind: Kind) -> bool
-    ensures { λ r. ⌜ r ≡ isChange kind ⌝ }
-{
-    match kind {
-        Kind::Shut => false,
-        Kind::Asked => false,
-        Kind::Change => true,
-    }
 }
 
 // The padding, which a pass takes by itself.
