@@ -96,16 +96,16 @@ module _ (p : ℕ) (large : maxWeight < p) (through : Bool) (its : List Given) (
     abbrev S : Kind → Pass
     S k = passAfter p R k (a .pass .point) (a .pass .items)
 
-    total-meant : (plain : Bool) → a .turn .next ≡ next.Total
+    total-meant : (plain : Bool) → a .start .plain ≡ plain → a .turn .next ≡ next.Total
         → replied (cond plain (answeredStep (withTotal R (S Asked .total)) shutPass (answer.Total (S Asked .total)))
         (answeredStep (goneTo R (roundOrEnds 0 (R .start .rounds))) shutPass (answer.FieldTotal (S Asked .dot))))
         ≡ record { answer = answered (cond plain (reply.total (totalOf T)) (reply.fieldTotal (dot p (2 ^ n) (vectorF p T) (vectorG p T)))); values = noValues }
-    total-meant true e =
+    total-meant true k e =
         ap (λ z. record { answer = answered (reply.total z); values = noValues })
         (after-sum p R Asked (a .pass .point) (a .pass .items) (run-formed p a h) (ap isTotal e) (h .pass .within) all T refl gives whole)
-    total-meant false e =
+    total-meant false k e =
         ap (λ z. record { answer = answered (reply.fieldTotal z); values = noValues })
-        (after-dot p R Asked (a .pass .point) (a .pass .items) (run-formed p a h) (ap isTotal e) all T refl gives)
+        (after-dot p R Asked (a .pass .point) (a .pass .items) (run-formed p a h) (ap isTotal e) k all T refl gives)
 
     taken-whole : a .pass .kind ≡ Asked → isTotal (a .turn .next) ≡ false
         → Taken p n cs (levelOf R (S Asked .kind)) (S Asked .points) (vectorF p T) (vectorG p T) (2 ^ n) (kernelOf (S Asked))
@@ -120,7 +120,7 @@ module _ (p : ℕ) (large : maxWeight < p) (through : Bool) (its : List Given) (
     pub close-meant : (t : Next) (k : Kind) → a .turn .next ≡ t → a .pass .kind ≡ k → isOpen k ≡ true → kindFits k (a .turn .mode) t ≡ true
         → replied (closeStep R (S k) t k) ≡ meant p T (a .turn .challenges) (closeAsks a t k)
     close-meant t Shut et ek op fit = absurd (true≢false (sym op))
-    close-meant next.Total Asked et ek op fit = total-meant (a .start .plain) et
+    close-meant next.Total Asked et ek op fit = total-meant (a .start .plain) refl et
     close-meant next.Message Asked et ek op fit =
         ap replied (same-step (closed-message p cs (vectorF p T) (vectorG p T) R (S Asked) (run-formed p a h) (taken-whole ek (ap isTotal et)) et))
     close-meant next.Challenge Asked et ek op fit = refl

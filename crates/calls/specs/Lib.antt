@@ -14,6 +14,7 @@ pub mod WholeList
 pub mod Verdict
 pub mod Starts
 pub mod Proper
+pub mod Blocks
 pub mod Demand3
 pub mod QueryExample
 pub mod VerdictExample

@@ -38,7 +38,7 @@ use Rattle.prover.proofs.OpeningValues.{taken-opening, taken-opened}
 -- the kernel that ran over the first places of the buffers
 abbrev pub firstPlaces : ℕ → List ℕ → ℕ → Points → List ℕ → List ℕ → Kernel
 firstPlaces p cs n at fs gs =
-    streamed p cs n at (take (2 ^ n) fs) (take (2 ^ n) gs) (pairsIn (take (2 ^ n) fs) (take (2 ^ n) gs)) emptyKernel
+    streamed p cs n at (items (take (2 ^ n) fs)) (items (take (2 ^ n) gs)) (pairsIn (take (2 ^ n) fs) (take (2 ^ n) gs)) emptyKernel
 
 -- the buffers' first 2^n places are f and g, and the run's challenges are c
 module _ (p n : ℕ) (c : ℕ → ℕ) (at : Points) (f g : Vector) (few : n ≤ 15) (cs : List ℕ) (agree : (j : ℕ) → j < n → items cs j ≡ c j)
@@ -49,7 +49,7 @@ module _ (p n : ℕ) (c : ℕ → ℕ) (at : Points) (f g : Vector) (few : n ≤
       let flength : length (take (2 ^ n) fs) ≡ 2 ^ n = length-take-le (2 ^ n) fs flong in
       let glength : length (take (2 ^ n) gs) ≡ 2 ^ n = length-take-le (2 ^ n) gs glong in
       let pairs : 2 ^ n ≡ pairsIn (take (2 ^ n) fs) (take (2 ^ n) gs) = omega arith in
-      subst (λ m. Taken p n c n at f g (2 ^ n) (streamed p cs n at (take (2 ^ n) fs) (take (2 ^ n) gs) m emptyKernel)) pairs
+      subst (λ m. Taken p n c n at f g (2 ^ n) (streamed p cs n at (items (take (2 ^ n) fs)) (items (take (2 ^ n) gs)) m emptyKernel)) pairs
       (whole-stream p n c n at f g few (le-refl n) cs agree (take (2 ^ n) fs) (take (2 ^ n) gs)
       (λ k h. getD-take (2 ^ n) fs k 0 h ∙ first k h) (λ k h. getD-take (2 ^ n) gs k 0 h ∙ second k h))
 
@@ -65,7 +65,7 @@ pub opening-same : (p n : ℕ) (c : ℕ → ℕ) (f g : Vector) (b : ℕ) (cs fs
     → ((k : ℕ) → k < 2 ^ n → items fs k ≡ f k) → ((k : ℕ) → k < 2 ^ n → items gs k ≡ g k)
     → opening p n (items cs) (items fs) (items gs) b ≡ opening p n c f g b
 opening-same p n c f g b cs fs gs few agree first second =
-    let k : Kernel = streamed p cs n (pointsOf p b) fs gs (2 ^ n) emptyKernel in
+    let k : Kernel = streamed p cs n (pointsOf p b) (items fs) (items gs) (2 ^ n) emptyKernel in
     sym
     (taken-opening p n (items cs) (pointsOf p b) (items fs) (items gs) k b refl refl refl refl
     (whole-stream p n (items cs) n (pointsOf p b) (items fs) (items gs) few (le-refl n) cs (λ j h. refl) fs gs (λ k h. refl) (λ k h. refl)))

@@ -28,7 +28,7 @@ use Rattle.prover.specs.Close.{totalFits, closing, closeCall, leavesStep
 
 module _ (p : ℕ) (r : Run) (s : Pass) (x : Item) (f g : List ℕ) where
   abbrev summing : Out
-  summing = out (answeredStep r (summedItem p s x (entering p r s x)) answer.Taken) f g
+  summing = out (answeredStep r (summedItem p (r .start .plain) s x (entering p r s x)) answer.Taken) f g
 
   abbrev stacking : Bool → Out
   stacking b = takenItem r s (cond b (placedItem p r s (entering p r s x) (x .g) f g) (placedOf (enteredItem p r s (entering p r s x) (x .g)) f g))

@@ -5,6 +5,7 @@ pub mod Level
 pub mod Open
 pub mod Take
 pub mod Calls
+pub mod Blocks
 pub mod Change
 pub mod Values
 pub mod Close

@@ -1,6 +1,7 @@
 -- The records of a run, what a call hands back, and that a refusal changes nothing.
 use Prim.Native.Nat.{ℕ}
 use mathlib.Core.List.{List}
+use lib.IntN.{ℤ}
 use lib.ListN.{replicate}
 use Rattle.refusal.specs.Outcome.{Outcome, answered, refused, refusedAt}
 use Rattle.kernel.specs.declared.Kernel.{Kernel}
@@ -45,6 +46,27 @@ withKernel s k =
       cross = k .cross;
       odd = k .odd;
       evals = k .evals;
+    }
+
+-- the count and the sums of a pass
+abbrev pub counted : Pass → ℕ → ℤ → ℕ → Pass
+counted s taken total dot =
+    record {
+      kind = s .kind;
+      taken = taken;
+      total = total;
+      dot = dot;
+      points = s .points;
+      flevels = s .flevels;
+      fvalues = s .fvalues;
+      fcount = s .fcount;
+      glevels = s .glevels;
+      gvalues = s .gvalues;
+      gcount = s .gcount;
+      even = s .even;
+      cross = s .cross;
+      odd = s .odd;
+      evals = s .evals;
     }
 
 -- no values beside the answer

@@ -1,6 +1,6 @@
 -- What an answered item does: to the total, to the stacks, and, in a change pass, to the buffers.
 use Prim.Native.Nat.{ℕ, _+_, _-_}
-use mathlib.Core.Bool.{cond}
+use mathlib.Core.Bool.{Bool, cond}
 use mathlib.Core.List.{List}
 use Rattle.algebra.specs.Mod.{addMod, mulMod}
 use Rattle.field.specs.Total.{plus}
@@ -13,7 +13,7 @@ use Rattle.phase.specs.Cases.{isChange, isTotal}
 use Rattle.prover.specs.declared.Run.{Run}
 use Rattle.prover.specs.declared.Pass.{Pass}
 use Rattle.prover.specs.declared.Answer.the-variants as answer
-use Rattle.prover.specs.Records.{kernelOf, withKernel, Out, out, answeredStep}
+use Rattle.prover.specs.Records.{kernelOf, withKernel, counted, Out, out, answeredStep}
 use Rattle.prover.specs.Level.{levelOf, foldSize, padding}
 
 -- the index of the next item: "from index L-1 down"
@@ -25,45 +25,15 @@ entering p r s x = entersAs p (r .start) (nextIndex r s) (x .f)
 
 -- one more item taken
 abbrev pub oneMore : Pass → Pass
-oneMore s =
-    record {
-      kind = s .kind;
-      taken = s .taken + 1;
-      total = s .total;
-      dot = s .dot;
-      points = s .points;
-      flevels = s .flevels;
-      fvalues = s .fvalues;
-      fcount = s .fcount;
-      glevels = s .glevels;
-      gvalues = s .gvalues;
-      gcount = s .gcount;
-      even = s .even;
-      cross = s .cross;
-      odd = s .odd;
-      evals = s .evals;
-    }
+oneMore s = counted s (s .taken + 1) (s .total) (s .dot)
+
+-- the running product of a twisted run's total; a plain total needs none
+abbrev pub running : ℕ → Bool → ℕ → ℕ → ℕ → ℕ
+running p plain dot f g = cond plain dot (addMod p dot (mulMod p f g))
 
 -- a pass for the total sums, and has no stack
-unfoldable pub summedItem : ℕ → Pass → Item → ℕ → Pass
-summedItem p s x f =
-    record {
-      kind = s .kind;
-      taken = s .taken + 1;
-      total = plus (s .total) (x .worth);
-      dot = addMod p (s .dot) (mulMod p f (x .g));
-      points = s .points;
-      flevels = s .flevels;
-      fvalues = s .fvalues;
-      fcount = s .fcount;
-      glevels = s .glevels;
-      gvalues = s .gvalues;
-      gcount = s .gcount;
-      even = s .even;
-      cross = s .cross;
-      odd = s .odd;
-      evals = s .evals;
-    }
+unfoldable pub summedItem : ℕ → Bool → Pass → Item → ℕ → Pass
+summedItem p plain s x f = counted s (s .taken + 1) (plus (s .total) (x .worth)) (running p plain (s .dot) f (x .g))
 
 -- a pair of a pass that was asked for enters the stacks
 unfoldable pub enteredItem : ℕ → Run → Pass → ℕ → ℕ → Kernel
@@ -80,5 +50,5 @@ takenItem r s k = out (answeredStep r (withKernel (oneMore s) (k .kernel)) answe
 unfoldable pub takes : ℕ → Run → Pass → Item → List ℕ → List ℕ → Out
 takes p r s x f g =
     let a : ℕ = entering p r s x in
-    cond (isTotal (r .next)) (out (answeredStep r (summedItem p s x a) answer.Taken) f g)
+    cond (isTotal (r .next)) (out (answeredStep r (summedItem p (r .start .plain) s x a) answer.Taken) f g)
     (takenItem r s (cond (isChange (s .kind)) (placedItem p r s a (x .g) f g) (placedOf (enteredItem p r s a (x .g)) f g)))

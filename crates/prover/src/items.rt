@@ -6,7 +6,7 @@ ghost use Rattle.item.specs.declared.Given.the-variants as Given;
 ghost use Rattle.prover.specs.Records.{out, leaves};
 ghost use Rattle.kernel.specs.Kernel.{entered};
 ghost use Rattle.kernel.specs.Change.{placedOf, placed};
-ghost use Rattle.prover.specs.Take.{entersAs, summedItem, oneMore, takes};
+ghost use Rattle.prover.specs.Take.{entersAs, running, summedItem, oneMore, takes};
 ghost use Rattle.prover.specs.Calls.{refusedParts, giveCall};
 use super::Answer;
 use super::Pass;
@@ -41,13 +41,23 @@ fn twisted(p: u32, start: Start, index: u32, f: u32) -> u32
     field::modular::mul(p, f, weight)
 }
 
+// The running product of a twisted run's total; a plain total needs none.
+fn running(p: u32, plain: bool, dot: u32, f: u32, g: u32) -> u32
+    ensures { λ r. ⌜ r ≡ running p plain dot f g ⌝ }
+{
+    if plain {
+        return dot;
+    }
+    field::modular::add_mul(p, dot, f, g)
+}
+
 // An item of a pass for the total.
-fn sum(p: u32, pass: Pass, x: Item, f: u32) -> Pass
+fn sum(p: u32, plain: bool, pass: Pass, x: Item, f: u32) -> Pass
     requires { ⌜ pass .taken < 32768 ⌝ }
-    ensures { λ r. ⌜ r ≡ summedItem p pass x f ⌝ }
+    ensures { λ r. ⌜ r ≡ summedItem p plain pass x f ⌝ }
 {
     let total = field::total::plus(pass.total, x.worth);
-    let dot = field::modular::add_mul(p, pass.dot, f, x.g);
+    let dot = running(p, plain, pass.dot, f, x.g);
     Pass {
         taken: pass.taken + 1,
         total,
@@ -112,7 +122,7 @@ fn take(p: u32, run: Run, pass: Pass, x: Item, f: &mut [u32], g: &mut [u32]) -> 
     let a = twisted(p, start, start.items - 1 - pass.taken, x.f);
     let next = run.next;
     if cases::is_total(next) {
-        return answered(run, sum(p, pass, x, a), Answer::Taken);
+        return answered(run, sum(p, start.plain, pass, x, a), Answer::Taken);
     }
     let challenges = run.challenges;
     let kind = pass.kind;

@@ -24,7 +24,7 @@ use Rattle.prover.specs.Reply as reply
 use Rattle.prover.specs.Records.{kernelOf, withKernel, Out, out, answeredStep, noValues}
 use Rattle.prover.specs.Level.{levelOf, foldSize, padding}
 use Rattle.prover.specs.Open.{newPass, noPoints, pointsOf, paddedKernel, openKernel}
-use Rattle.prover.specs.Take.{entering, oneMore, summedItem, enteredItem, placedItem, takenItem, takes}
+use Rattle.prover.specs.Take.{entering, oneMore, running, summedItem, enteredItem, placedItem, takenItem, takes}
 use Rattle.prover.proofs.Outcomes.{takes-sum, takes-enter, takes-place}
 use Rattle.item.specs.declared.Given.{Given}
 use Rattle.item.specs.Item.{contributes}
@@ -37,7 +37,7 @@ module _ (p : ℕ) (r : Run) (s : Pass) (y : Item) (f g : List ℕ) where
   stacked b = cond b (placedItem p r s (entering p r s y) (y .g) f g) (placedOf (enteredItem p r s (entering p r s y) (y .g)) f g)
 
   abbrev taking : Bool → Out
-  taking b = cond b (out (answeredStep r (summedItem p s y (entering p r s y)) answer.Taken) f g) (takenItem r s (stacked (isChange (s .kind))))
+  taking b = cond b (out (answeredStep r (summedItem p (r .start .plain) s y (entering p r s y)) answer.Taken) f g) (takenItem r s (stacked (isChange (s .kind))))
 
   -- what holds in a pass for the total and in any other
   either : {A : Type 0} (part : Out → A) (a : A) → part (taking true) ≡ a → part (taking false) ≡ a → part (takes p r s y f g) ≡ a
@@ -75,9 +75,10 @@ module _ (p : ℕ) (r : Run) (s : Pass) (y : Item) (f g : List ℕ) where
     unfolding summedItem
     takes-total = ap (λ o. o .pass .total) (takes-sum p r s y f g h)
 
-    pub takes-dot : takes p r s y f g .pass .dot ≡ addMod p (s .dot) (mulMod p (entering p r s y) (y .g))
+    pub takes-dot : r .start .plain ≡ false → takes p r s y f g .pass .dot ≡ addMod p (s .dot) (mulMod p (entering p r s y) (y .g))
     unfolding summedItem
-    takes-dot = ap (λ o. o .pass .dot) (takes-sum p r s y f g h)
+    takes-dot twisted =
+        ap (λ o. o .pass .dot) (takes-sum p r s y f g h) ∙ ap (λ t. running p t (s .dot) (entering p r s y) (y .g)) twisted
 
     pub takes-still : kernelOf (takes p r s y f g .pass) ≡ kernelOf s
     unfolding summedItem

@@ -96,15 +96,15 @@ module _ (p : ℕ) (r : Run) (its : List Given) where
       (pairs-at xs l h q (omega arith) ∙ ap₂ (λ a b. (a, b)) (before itemF i in-trip) (before itemG i in-trip))
 
   -- the products of a pass for the total run from the last item down
-  summed : (k : Kind) (b : ℕ) → isTotal (r .next) ≡ true → (xs : List Given) → length xs ≤ r .start .items → Gives (tripOf r its) xs
+  summed : (k : Kind) (b : ℕ) → isTotal (r .next) ≡ true → r .start .plain ≡ false → (xs : List Given) → length xs ≤ r .start .items → Gives (tripOf r its) xs
       → passAfter p r k b xs .dot ≡ residue p (lastSum (λ i. itemF i * itemG i) (r .start .items) (length xs))
   unfolding passAfter lastSum
-  summed k b e [] l h = opened-new p r b (λ s. s .dot) 0 k (λ points q. refl) ∙ sym (residue-zero p)
-  summed k b e (x ∷ xs) l h =
+  summed k b e tw [] l h = opened-new p r b (λ s. s .dot) 0 k (λ points q. refl) ∙ sym (residue-zero p)
+  summed k b e tw (x ∷ xs) l h =
       let t : ℕ = lastSum (λ i. itemF i * itemG i) (r .start .items) (length xs) in
       let i : ℕ = r .start .items - 1 - length xs in
-      takes-dot p r (passAfter p r k b xs) (contributes p (r .start) x) [] [] e
-      ∙ ap₂ (λ d a. addMod p d (mulMod p a (contributes p (r .start) x .g))) (summed k b e xs (omega arith) (gives-rest (tripOf r its) x xs l h)) (after-entering p r k b xs x)
+      takes-dot p r (passAfter p r k b xs) (contributes p (r .start) x) [] [] e tw
+      ∙ ap₂ (λ d a. addMod p d (mulMod p a (contributes p (r .start) x .g))) (summed k b e tw xs (omega arith) (gives-rest (tripOf r its) x xs l h)) (after-entering p r k b xs x)
       ∙ running-product p t (entersAs p (r .start) i (contributes p (r .start) x .f)) (contributes p (r .start) x .g)
       ∙ ap (λ j. residue p (t + entersAs p (r .start) j (contributes p (r .start) x .f) * contributes p (r .start) x .g)) (next-place (r .start .items) (length xs))
       ∙ ap (λ y. residue p (t + entersAs p (r .start) (r .start .items - suc (length xs)) (contributes p (r .start) y .f) * contributes p (r .start) y .g)) (gives-first (tripOf r its) x xs h)
@@ -172,13 +172,13 @@ module _ (p : ℕ) (r : Run) (b : ℕ) (xs : List Given) (formed : runFormed p r
 
 module _ (p : ℕ) (r : Run) (k : Kind) (b : ℕ) (xs : List Given) (formed : runFormed p r ≡ true) where
   -- A PASS FOR THE TOTAL, all of its items taken
-  module _ (e : isTotal (r .next) ≡ true) (all : length xs ≡ r .start .items) where
+  module _ (e : isTotal (r .next) ≡ true) (tw : r .start .plain ≡ false) (all : length xs ≡ r .start .items) where
     given-dot : (its : List Given) → Gives (tripOf r its) xs
         → passAfter p r k b xs .dot ≡ dot p (2 ^ r .start .rounds) (vectorF p (tripOf r its)) (vectorG p (tripOf r its))
     given-dot its h =
         let w : Bounds r = bounds p r formed in
         let v : Vector = λ i. itemF p r its i * itemG p r its i in
-        summed p r its k b e xs (omega arith) h
+        summed p r its k b e tw xs (omega arith) h
         ∙ ap (λ m. residue p (lastSum v (r .start .items) m)) all
         ∙ ap (residue p) (last-sum v (r .start .items))
         ∙ sym (dot-padded p (r .start .items) (2 ^ r .start .rounds) (w .enough) (itemF p r its) (itemG p r its))
@@ -228,6 +228,6 @@ module _ (p : ℕ) (r : Run) (k : Kind) (b : ℕ) (xs : List Given) (formed : ru
       (2 ^ r .start .rounds - r .start .items + length xs) (kernelOf (passAfter p r Change b xs))
   own-changing within other c agree = after-changing p r b xs formed within other c agree (ownTrip r xs) refl (own-gives r xs within)
 
-  pub own-dot : isTotal (r .next) ≡ true → length xs ≡ r .start .items
+  pub own-dot : isTotal (r .next) ≡ true → r .start .plain ≡ false → length xs ≡ r .start .items
       → passAfter p r k b xs .dot ≡ dot p (2 ^ r .start .rounds) (vectorF p (ownTrip r xs)) (vectorG p (ownTrip r xs))
-  own-dot e all = after-dot p r k b xs formed e all (ownTrip r xs) refl (own-gives r xs (omega arith))
+  own-dot e tw all = after-dot p r k b xs formed e tw all (ownTrip r xs) refl (own-gives r xs (omega arith))

@@ -1,3 +1,4 @@
+pub mod BlockLaws
 pub mod Invariant
 pub mod FileFacts
 pub mod CallRows

@@ -6,6 +6,7 @@ pub mod Sums
 pub mod Claims
 pub mod Openings
 pub mod Calls
+pub mod Blocks
 pub mod ProofFile
 pub mod Trips
 pub mod Example

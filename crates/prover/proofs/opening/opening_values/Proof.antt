@@ -1,3 +1,4 @@
+use Rattle.vector.specs.Vector.{at}
 use mathlib.Core.Path.{_≡_, sym, ap, ap₂, _∙_}
 use Prim.Native.Nat.{_^_}
 use native.Mathlib.Omega.{arith}
@@ -51,8 +52,8 @@ returns c =
     c .values-of .ensures
     ∙ ap (λ k. valuesOf (k .evals) n)
     (c .before .before .evaluate-all .ensures
-    ∙ ap (λ m. streamed (s .p) (s .run .challenges) n (c .before .before .before .before .before .before .points-of .result) (take m (now (s .f))) (take m (now (s .g))) (pairsIn (take m (now (s .f))) (take m (now (s .g)))) (c .before .before .before .before .before .empty .result)) count
-    ∙ ap₂ (λ points k. streamed (s .p) (s .run .challenges) n points (take (2 ^ n) (now (s .f))) (take (2 ^ n) (now (s .g))) (pairsIn (take (2 ^ n) (now (s .f))) (take (2 ^ n) (now (s .g)))) k) (c .before .before .before .before .before .before .points-of .ensures) (c .before .before .before .before .before .empty .ensures))
+    ∙ ap (λ m. streamed (s .p) (s .run .challenges) n (c .before .before .before .before .before .before .points-of .result) (at (take m (now (s .f)))) (at (take m (now (s .g)))) (pairsIn (take m (now (s .f))) (take m (now (s .g)))) (c .before .before .before .before .before .empty .result)) count
+    ∙ ap₂ (λ points k. streamed (s .p) (s .run .challenges) n points (at (take (2 ^ n) (now (s .f)))) (at (take (2 ^ n) (now (s .g)))) (pairsIn (take (2 ^ n) (now (s .f))) (take (2 ^ n) (now (s .g)))) k) (c .before .before .before .before .before .before .points-of .ensures) (c .before .before .before .before .before .empty .ensures))
     ∙ stream-values (s .p) n (s .b) (s .run .challenges) (now (s .f)) (now (s .g)) (c .before .before .before .before .before .before .before .before .before .before .before .before .pre .0) (c .before .before .before .before .before .before .before .before .before .before .before .before .pre .1) (c .before .before .before .before .before .before .before .before .before .before .before .before .pre .2)
 
 pub opening-values-spec : {M : Type 1} → statement M
