@@ -1,6 +1,7 @@
 // The prover of a run: document 01's unit, in small mode, in full mode and changing over. A run and its pass go in by value and come
 // back by value; a refused call hands both back unchanged and writes no buffer.
 mod answers;
+mod blocks;
 mod challenge;
 mod change;
 mod checks;
