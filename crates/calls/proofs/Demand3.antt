@@ -7,6 +7,7 @@ use lib.ListN.{length}
 use Rattle.algebra.specs.Prime.{Prime}
 use Rattle.refusal.specs.Limit.{maxWeight}
 use Rattle.refusal.specs.Outcome.{answered}
+use Rattle.field.specs.Modulus.{modulus}
 use Rattle.field.proofs.ModulusLaws.{modulus-odd, modulus-prime, modulus-word, modulus-weights}
 use Rattle.item.specs.declared.Start.{Start}
 use Rattle.item.specs.Start.{modulusOf}
@@ -34,7 +35,7 @@ use Rattle.calls.proofs.CarriedWhole.{messages-list, file-list}
 use Rattle.calls.proofs.QueryLists.{every-query}
 use Rattle.calls.proofs.HeardMeaning.{BringsTrip, says-agreed}
 use Rattle.calls.proofs.HeardFollows.{Follows}
-use Rattle.calls.proofs.HeardLists.{says-trip, follows-next, fresh-follows, modulus-31}
+use Rattle.calls.proofs.HeardLists.{says-trip, follows-next, fresh-follows}
 use Rattle.calls.proofs.VerdictLists.{every-verdict}
 use Rattle.calls.proofs.StartRows.{all-starts}
 
@@ -120,7 +121,8 @@ module _ (p : ℕ) (large : maxWeight < p) (prime : Prime p) (odd : p % 2 ≡ 1)
 
 -- of the customer's modulus
 pub demand3-31 : Demand3 2147483647
-demand3-31 = let m = modulus-31 in demand3 2147483647 (m .0) (m .1) (m .2) (m .3)
+unfolding modulus
+demand3-31 = demand3 _ modulus-weights modulus-prime modulus-odd modulus-word
 
 -- at the modulus of a start's runs: what `make` and `ask` compute, whatever record they are handed
 pub demand3-of : (s : Start) → Demand3 (modulusOf s)
