@@ -14,8 +14,7 @@ use Rattle.item.specs.Item.{partsOf}
 use Rattle.prover.specs.declared.Run.{Run}
 use Rattle.prover.specs.declared.Pass.{Pass}
 use Rattle.prover.specs.declared.Step.{Step}
-use Rattle.prover.specs.declared.Answer.the-variants as answer
-use Rattle.prover.specs.Records.{Out, answeredStep, refusedStep, refusedAtStep, isOpen, isChange}
+use Rattle.prover.specs.Records.{Out, refusedStep, refusedAtStep, isOpen, isChange}
 use Rattle.prover.specs.Order.{foldSize}
 use Rattle.prover.specs.WellFormed.{wellFormed}
 use Rattle.prover.specs.Take.{nextIndex, takes}
@@ -32,7 +31,7 @@ withItem (refusedAt k i) rest = refusedAt k i
 
 -- the step of an item that its own checks refuse; an item that they take is not handed to it
 abbrev pub refusedParts : Run → Pass → Parts → Step
-refusedParts r s (parts.Item x) = answeredStep r s answer.Taken
+refusedParts r s (parts.Item x) = refusedStep r s number.order
 refusedParts r s (parts.Refused k) = refusedStep r s k
 refusedParts r s (parts.RefusedAt k i) = refusedAtStep r s k i
 
