@@ -11,6 +11,7 @@ use lib.Dec.{ltb}
 use lib.ListN.{length, take}
 use Rattle.algebra.specs.Prime.{Prime}
 use Rattle.refusal.specs.Limit.{maxWeight}
+use Rattle.wire.specs.Proof.{proofSize}
 use Rattle.vector.specs.Slice.{isNonzero}
 use Rattle.prover.specs.declared.Next.the-variants as next
 use Rattle.verifier.specs.declared.Verifier.{Verifier}
@@ -21,7 +22,7 @@ use Rattle.calls.specs.Lists.{after, along, always, somewhere, gathered}
 use Rattle.calls.specs.Step.{Lent, Result, isAnswered}
 use Rattle.calls.specs.State.{State, goesOn}
 use Rattle.calls.specs.World.{Made, World, freshWorld, came, onward}
-use Rattle.calls.specs.Table.{waits, fileSize}
+use Rattle.calls.specs.Table.{waits}
 use Rattle.calls.specs.Meaning.{Question, total, roundMessage, ends, openingAt, proof, done, question, Answer, meant, proofOfTrip, Kept}
 use Rattle.calls.specs.Statement.{Sized}
 use Rattle.calls.specs.QueryState.{VerifierState, freshVerifierState, Posed, Hearing, freshHearing}
@@ -220,7 +221,7 @@ module _ (p : ℕ) (large : maxWeight < p) (prime : Prime p) (odd : p % 2 ≡ 1)
         (record { pointed = refl; whole = whole; place = ap (λ c. cond c (suc (b .round)) 0) unclosed }))
 
     module _ (plain : T .start .plain ≡ true) (turn-so : waits next.Openings (after (onward p) fresh ms .state .turn .next) ≡ true)
-        (l : Lent) (room : fileSize n ≤ length (l .file)) where
+        (l : Lent) (room : proofSize n ≤ length (l .file)) where
       abbrev w : World
       w = after (onward p) fresh ms
 
@@ -239,15 +240,15 @@ module _ (p : ℕ) (large : maxWeight < p) (prime : Prime p) (odd : p % 2 ≡ 1)
           free-answered p large (w .state) (w .run) (w .pass) (g .faithful) call.WriteProof (other-sized call.WriteProof refl) l
           (write-free p (w .state) l (ap (λ s. s .plain) (g .start) ∙ plain) turn-so (omega (arith, room, ap (λ s. s .rounds) (g .start))))
 
-      pub written : take (fileSize n) (wrote .lent .file) ≡ proofOfTrip p T cs
+      pub written : take (proofSize n) (wrote .lent .file) ≡ proofOfTrip p T cs
       unfolding hit-here
       written =
           let g = last .1 in
           let h = hit-here p large through T (valid .whole .items) cs w g (last .2) (writesProof l) (other-sized call.WriteProof refl)
           (λ y. by-kept p T through (w .state) call.WriteProof l tt) proof (write-answered, refl) in
-          file-of p large through T (valid .whole .items) cs (take (fileSize n) (wrote .lent .file)) h (ap (λ s. take (fileSize (s .rounds)) (wrote .lent .file)) (g .start)) .0
+          file-of p large through T (valid .whole .items) cs (take (proofSize n) (wrote .lent .file)) h (ap (λ s. take (proofSize (s .rounds)) (wrote .lent .file)) (g .start)) .0
 
-      pub file-agreed : Wrote p w₀ ms₀ (take (fileSize n) (wrote .lent .file)) → Told (byFile p T fresh ms (take (fileSize n) (wrote .lent .file)))
+      pub file-agreed : Wrote p w₀ ms₀ (take (proofSize n) (wrote .lent .file)) → Told (byFile p T fresh ms (take (proofSize n) (wrote .lent .file)))
       file-agreed given =
           items-first _
           (λ b v s unclosed whole. proof-agreed p large prime odd word T valid cs listed w₀ ms₀ b v s plain unclosed whole _ written given _
@@ -276,7 +277,7 @@ module _ (p : ℕ) (large : maxWeight < p) (prime : Prime p) (odd : p % 2 ≡ 1)
       messages-agreed p large prime odd word true T valid cs (brings .count) begin ms (l .f) (l .g) ms (proper-run .1) (proper-run .2 true) (proper-run .3)
       (λ q x gave. gave)
 
-  module _ (plain : T .start .plain ≡ true) (m : Lent) (room : fileSize (T .start .rounds) ≤ length (m .file)) where
+  module _ (plain : T .start .plain ≡ true) (m : Lent) (room : proofSize (T .start .rounds) ≤ length (m .file)) where
     abbrev ending : World
     ending = after (onward p) begin ms
 
@@ -284,7 +285,7 @@ module _ (p : ℕ) (large : maxWeight < p) (prime : Prime p) (odd : p % 2 ≡ 1)
     filed = came p ending (writesProof m)
 
     abbrev file : List ℕ
-    file = take (fileSize (T .start .rounds)) (filed .lent .file)
+    file = take (proofSize (T .start .rounds)) (filed .lent .file)
 
     -- the run's list with the call that wrote the file
     abbrev longer : List Made
@@ -318,6 +319,6 @@ module _ (p : ℕ) (large : maxWeight < p) (prime : Prime p) (odd : p % 2 ≡ 1)
         file-agreed p large prime odd word true T valid cs (brings .count) begin longer (l .f) (l .g) ms (proper-run .1) (proper-run .2 true) (proper-run .3) within plain ended m room
         (somewhere-last (onward p) _ begin ms (writesProof m) (
           (filed-answered, refl),
-          ap (λ s. take (fileSize (s .rounds)) (filed .lent .file))
+          ap (λ s. take (proofSize (s .rounds)) (filed .lent .file))
               (start-kept p large prime odd word true T valid cs (brings .count) begin longer (l .f) (l .g) ms (proper-run .1) (proper-run .2 true) (proper-run .3) within plain ended m room),
         ))

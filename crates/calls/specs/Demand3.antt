@@ -8,13 +8,14 @@ use mathlib.Core.List.{List, [], _∷_, _++_}
 use mathlib.Core.Option.{none}
 use lib.ListN.{length, take}
 use Rattle.refusal.specs.Outcome.{answered}
+use Rattle.wire.specs.Proof.{proofSize}
 use Rattle.vector.specs.Vector.{at}
 use Rattle.item.specs.declared.Start.{Start}
 use Rattle.runs.specs.Trip.{Trip}
 use Rattle.calls.specs.Lists.{after, along, always}
 use Rattle.calls.specs.Step.{Lent, isAnswered}
 use Rattle.calls.specs.World.{Made, World, freshWorld, came, onward}
-use Rattle.calls.specs.Table.{table, fileSize}
+use Rattle.calls.specs.Table.{table}
 use Rattle.calls.specs.Meaning.{question, Kept}
 use Rattle.calls.specs.Statement.{Sized, Decides, CountsHold, Holds, Right}
 use Rattle.calls.specs.QueryState.{verifierTable, Posed, Hearing, freshHearing, heard, hearsOn, DecidesHeard}
@@ -128,9 +129,9 @@ pub record Demand3 (p : ℕ) : Type 0 where
       (byMessages p T w ms ≡ wholeByMessages p T cs bs)
       × AllAgreed p h (byMessages p T w ms)
       × AllBringRun p T w ms h (byMessages p T w ms)
-      × (T .start .plain ≡ true → (m : Lent) → fileSize (T .start .rounds) ≤ length (m .file)
+      × (T .start .plain ≡ true → (m : Lent) → proofSize (T .start .rounds) ≤ length (m .file)
       → (let longer : List Made = ms ++ writesProof m ∷ [] in
-      let file : List ℕ = take (fileSize (T .start .rounds)) (came p (after (onward p) w ms) (writesProof m) .lent .file) in
+      let file : List ℕ = take (proofSize (T .start .rounds)) (came p (after (onward p) w ms) (writesProof m) .lent .file) in
       AllProper p cs T w longer
       × (byFile p T w ms file ≡ wholeByFile p T cs bs)
       × AllAgreed p h (byFile p T w ms file)
