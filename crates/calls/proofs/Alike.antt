@@ -7,7 +7,7 @@ use Prim.Native.Nat.{ℕ}
 use Rattle.prover.specs.declared.Run.{Run}
 use Rattle.prover.specs.declared.Pass.{Pass}
 use Rattle.runs.specs.Trip.{Trip}
-use Rattle.calls.specs.Lists.{after, along}
+use Rattle.calls.specs.Lists.{after}
 use Rattle.calls.specs.Step.{Lent, Result, isAnswered}
 use Rattle.calls.specs.World.{Made, World, came, onward}
 use Rattle.calls.specs.Table.{Refusal, table}
@@ -16,12 +16,7 @@ use Rattle.calls.specs.Statement.{Decides, Right}
 use Rattle.calls.specs.Given.{replyOf}
 use Rattle.calls.specs.Demand3.{AllDecided, AllRight}
 use Rattle.calls.proofs.Refusals.{refused-with}
-
--- what holds along a list holds at its last call
-last-along : {W M : Type 0} (next : W → M → W) (P : W → M → Type 0) (w : W) (ms : List M) (m : M) → along next P w (ms ++ m ∷ []) → P (after next w ms) m
-unfolding along after
-last-along next P w [] m h = h .0
-last-along next P w (x ∷ ms) m h = last-along next P (next w x) ms m (h .1)
+use Rattle.calls.proofs.Longer.{last-along}
 
 -- an answered call is one that the table has nothing against
 pub answered-none : (r : Run) (s : Pass) (l : Lent) (t : Option Refusal) (o : Result) → Decides r s l t o → isAnswered (o .answer) ≡ true → t ≡ none

@@ -6,7 +6,7 @@ use native.Mathlib.Omega.{arith}
 use lib.ListN.{length, length-append, set, take, replicate, List·getD-append}
 use lib.Seq.{set-append-seam, take-append-seam}
 use Rattle.vector.specs.Vector.{at}
-use Rattle.prover.specs.Close.{keptMessage}
+use Rattle.prover.specs.Close.{messagesWith}
 use Rattle.calls.proofs.Records.{inArray}
 
 -- one number more
@@ -22,7 +22,7 @@ array-next size xs x h =
 
 -- the three numbers of message i
 pub message-next : (xs : List ℕ) (i even cross odd : ℕ) → length xs ≡ 3 * i → i < 15
-    → keptMessage (inArray 45 xs) i even cross odd ≡ inArray 45 (xs ++ even ∷ cross ∷ odd ∷ [])
+    → messagesWith (inArray 45 xs) i even cross odd ≡ inArray 45 (xs ++ even ∷ cross ∷ odd ∷ [])
 message-next xs i even cross odd e h =
     let ys : List ℕ = xs ++ even ∷ [] in
     let zs : List ℕ = ys ++ cross ∷ [] in

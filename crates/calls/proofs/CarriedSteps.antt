@@ -1,4 +1,5 @@
--- One call of the verifier that brings the trip's, where it is next: the table has nothing against it, and the verifier agrees.
+-- One call of the verifier that brings the trip's, as a run gave it, where it is next: the table has nothing against it, and the verifier
+-- agrees.
 use mathlib.Core.Path.{_≡_, refl, sym, ap, ap₂, subst, _∙_}
 use mathlib.Core.Bool.{Bool, true, false, cond, not, _&&_, _||_}
 use mathlib.Core.List.{List, [], _∷_, _++_}
@@ -34,14 +35,15 @@ use Rattle.runs.proofs.CloseLaws.{residue-below}
 use Rattle.calls.specs.declared.query.Query.{Query}
 use Rattle.calls.specs.declared.query.Query.the-variants as query
 use Rattle.calls.specs.Table.{Refusal, givenRows}
-use Rattle.calls.specs.Meaning.{messageAt, proofOfTrip}
+use Rattle.calls.specs.World.{Made, World}
+use Rattle.calls.specs.Meaning.{total, roundMessage, says, messageAt, proofOfTrip}
 use Rattle.calls.specs.QueryStep.{Shown, Said, Spoken, ask}
 use Rattle.calls.specs.Lists.{along}
-use Rattle.calls.specs.QueryState.{VerifierState, hears, closeRows, isWhole, fileRows, verifierTable, Posed, plainly, Hearing, hearsOn}
-use Rattle.calls.specs.Given.{agreed}
+use Rattle.calls.specs.QueryState.{VerifierState, hears, followHeard, closeRows, isWhole, fileRows, verifierTable, Posed, plainly, Hearing, heard, hearsOn}
+use Rattle.calls.specs.Given.{Gave, Wrote, BringsRun, agreed}
 use Rattle.calls.specs.Proper.{ItemFits, Valid}
 use Rattle.calls.specs.Carried.{itemsOf, claims}
-use Rattle.calls.specs.Demand3.{AllAgreed}
+use Rattle.calls.specs.Demand3.{AllBringRun, AllAgreed}
 use Rattle.calls.proofs.HeardMeaning.{BringsTrip, SaysTrip}
 use Rattle.calls.proofs.QuerySteps.{goesTo, saysSo, answers, settledHeard, asks}
 use Rattle.calls.proofs.HeardFollows.{Follows, no-message}
@@ -50,14 +52,16 @@ use Rattle.calls.proofs.HeardAnswers.{answers-right}
 use Rattle.calls.proofs.OpeningChecks.{opening-free}
 use Rattle.calls.proofs.LiveTable.{row-free, row-at-free}
 
--- the verifier agrees throughout, whatever its state
-abbrev pub VerifierAgrees : ℕ → Verifier → List Posed → Type 0
-VerifierAgrees p = along (λ v q. ask p v (q .query) (q .shown) .verifier) (λ v q. ask p v (q .query) (q .shown) .told ≡ answered (agreed (q .query)))
+-- the verifier agrees throughout, and every call brings what the run's list from w on gave
+module _ (p : ℕ) (T : Trip) (w : World) (ms : List Made) where
+  abbrev pub VerifierAgrees : VerifierState → Verifier → List Posed → Type 0
+  VerifierAgrees b v =
+      along (hearsOn p) (λ h q. (heard p h q .told ≡ answered (agreed (q .query))) × BringsRun p T w ms (h .state) (q .query) (q .shown)) (record { state = b; verifier = v })
 
-pub agrees-along : (p : ℕ) (h : Hearing) (qs : List Posed) → VerifierAgrees p (h .verifier) qs → AllAgreed p h qs
-unfolding along
-agrees-along p h [] a = tt
-agrees-along p h (q ∷ qs) a = (a .0, agrees-along p (hearsOn p h q) qs (a .1))
+  pub agrees-along : (h : Hearing) (qs : List Posed) → VerifierAgrees (h .state) (h .verifier) qs → AllAgreed p h qs × AllBringRun p T w ms h qs
+  unfolding along
+  agrees-along h [] a = (tt, tt)
+  agrees-along h (q ∷ qs) a = let later = agrees-along (hearsOn p h q) qs (a .1) in ((a .0 .0, later .0), ((λ y. a .0 .1), later .1))
 
 -- 0 before the close, then one more than the messages that passed
 abbrev pub place : VerifierState → ℕ
@@ -121,7 +125,10 @@ good-rows p n t file g fits =
     (row-free _ 11 none (all-below p (proofNumber file) (3 * n + 2) (λ k h. g .below k (omega (arith, g .rounds)))) refl)))))
 
 module _ (p : ℕ) (large : maxWeight < p) (prime : Prime p) (odd : p % 2 ≡ 1) (word : p ≤ 2 ^ 32) (T : Trip) (valid : Valid p T) (cs : List ℕ)
-    (listed : length cs ≡ T .start .rounds) where
+    (listed : length cs ≡ T .start .rounds) (w : World) (ms : List Made) where
+  abbrev Agrees : VerifierState → Verifier → List Posed → Type 0
+  Agrees = VerifierAgrees p T w ms
+
   abbrev n : ℕ
   n = T .start .rounds
 
@@ -132,18 +139,20 @@ module _ (p : ℕ) (large : maxWeight < p) (prime : Prime p) (odd : p % 2 ≡ 1)
   F b v = Follows p T cs b v
 
   -- an answered call
-  one-agreed : (b : VerifierState) (v : Verifier) → F b v → (q : Query) (l : Shown) → verifierTable p b q l ≡ none → BringsTrip p T b q l
-      → ((t : Said) → SaysTrip p T b q l t → t ≡ agreed q) → (qs : List Posed) → ((v : Verifier) → F (hears b q (agreed q)) v → VerifierAgrees p v qs)
-      → VerifierAgrees p v (record { query = q; shown = l } ∷ qs)
+  one-agreed : (b : VerifierState) (v : Verifier) → F b v → (q : Query) (l : Shown) → verifierTable p b q l ≡ none → BringsTrip p T b q l → BringsRun p T w ms b q l
+      → ((t : Said) → SaysTrip p T b q l t → t ≡ agreed q) → (qs : List Posed) → ((v : Verifier) → F (hears b q (agreed q)) v → Agrees (hears b q (agreed q)) v qs)
+      → Agrees b v (record { query = q; shown = l } ∷ qs)
   unfolding along
-  one-agreed b v f q l free brought so qs on =
+  one-agreed b v f q l free brought given so qs on =
       let same : ask p v q l ≡ answers p v q l = asks p b v (f .stands) q l ∙ ap (λ t. settledHeard v t (answers p v q l)) free in
       let right = answers-right p large prime odd word T (valid .whole .start .most) (valid .whole .start .rounds) (valid .whole .items) cs listed b v f q l free brought in
-      let said : saysSo p v q l ≡ agreed q = so _ (right .0) in (
-        ap (λ (o : Spoken). o .told) same ∙ ap (λ t. answered t) said,
-        on _
+      let said : saysSo p v q l ≡ agreed q = so _ (right .0) in
+      let told : ask p v q l .told ≡ answered (agreed q) = ap (λ (o : Spoken). o .told) same ∙ ap (λ t. answered t) said in (
+        (told, given),
+        subst (λ t. Agrees (followHeard b q t) (ask p v q l .verifier) qs) (sym told)
+            (on _
             (subst (λ (o : Spoken). F (hears b q (agreed q)) (o .verifier)) (sym same)
-            (subst (λ t. F (hears b q t) (goesTo p v q l)) said (right .1))),
+            (subst (λ t. F (hears b q t) (goesTo p v q l)) said (right .1)))),
       )
 
   module _ (b : VerifierState) (v : Verifier) (f : F b v) where
@@ -158,75 +167,77 @@ module _ (p : ℕ) (large : maxWeight < p) (prime : Prime p) (odd : p % 2 ≡ 1)
 
     -- AN ITEM
     item-agreed : (x : Given) → x ≡ itemOf T (length (b .items)) → ItemFits p (T .start .plain) x → b .closed ≡ false → length (b .items) < L → (qs : List Posed)
-        → ((b′ : VerifierState) (v : Verifier) → F b′ v → b′ .closed ≡ false → length (b′ .items) ≡ suc (length (b .items)) → VerifierAgrees p v qs)
-        → VerifierAgrees p v (plainly (query.Give x) ∷ qs)
+        → ((b′ : VerifierState) (v : Verifier) → F b′ v → b′ .closed ≡ false → length (b′ .items) ≡ suc (length (b .items)) → Agrees b′ v qs)
+        → Agrees b v (plainly (query.Give x) ∷ qs)
     item-agreed x e fits unclosed more qs on =
         one-agreed b v f (query.Give x) _
-        (item-free p b _ x unclosed (omega (arith, ap (λ s. s .items) (f .start))) (subst (λ s. ItemFits p (s .plain) x) (sym (f .start)) fits)) e (λ t h. h) qs
+        (item-free p b _ x unclosed (omega (arith, ap (λ s. s .items) (f .start))) (subst (λ s. ItemFits p (s .plain) x) (sym (f .start)) fits)) e e (λ t h. h) qs
         (λ v f. on _ v f unclosed refl)
 
     -- THE TOTAL
-    pub total-agreed : (plain : Bool) → T .start .plain ≡ plain → length (b .items) ≡ L → place b ≡ 0 → (qs : List Posed)
-        → ((b′ : VerifierState) (v : Verifier) → F b′ v → length (b′ .items) ≡ L → place b′ ≡ 1 → VerifierAgrees p v qs)
-        → VerifierAgrees p v ((claims (cond plain (reply.total (totalOf T)) (reply.fieldTotal (dot p (2 ^ n) (vectorF p T) (vectorG p T)))) ++ []) ++ qs)
-    total-agreed true e whole at-start qs on =
+    pub total-agreed : (plain : Bool) → T .start .plain ≡ plain
+        → Gave p w ms total (says (cond plain (reply.total (totalOf T)) (reply.fieldTotal (dot p (2 ^ n) (vectorF p T) (vectorG p T))))) → length (b .items) ≡ L → place b ≡ 0 → (qs : List Posed)
+        → ((b′ : VerifierState) (v : Verifier) → F b′ v → length (b′ .items) ≡ L → place b′ ≡ 1 → Agrees b′ v qs)
+        → Agrees b v ((claims (cond plain (reply.total (totalOf T)) (reply.fieldTotal (dot p (2 ^ n) (vectorF p T) (vectorG p T)))) ++ []) ++ qs)
+    total-agreed true e gave whole at-start qs on =
         let unclosed = place-open (b .closed) (b .round) at-start in
-        one-agreed b v f (query.Close (totalOf T)) _ (close-free p b _ (totalOf T) unclosed (whole-so whole) (kind e) (valid .total e)) refl (λ t h. h) qs
-        (λ w g. on _ w g whole (ap suc (no-message p T cs b v f unclosed)))
-    total-agreed false e whole at-start qs on =
+        one-agreed b v f (query.Close (totalOf T)) _ (close-free p b _ (totalOf T) unclosed (whole-so whole) (kind e) (valid .total e)) refl gave (λ t h. h) qs
+        (λ v′ g. on _ v′ g whole (ap suc (no-message p T cs b v f unclosed)))
+    total-agreed false e gave whole at-start qs on =
         let unclosed = place-open (b .closed) (b .round) at-start in
-        one-agreed b v f (query.CloseClaim _) _ (claim-free p b _ _ unclosed (whole-so whole) (kind e) (residue-below p (omega arith) _)) refl (λ t h. h) qs
-        (λ w g. on _ w g whole (ap suc (no-message p T cs b v f unclosed)))
+        one-agreed b v f (query.CloseClaim _) _ (claim-free p b _ _ unclosed (whole-so whole) (kind e) (residue-below p (omega arith) _)) refl gave (λ t h. h) qs
+        (λ v′ g. on _ v′ g whole (ap suc (no-message p T cs b v f unclosed)))
 
     -- A MESSAGE
-    pub message-agreed : (i even cross odd : ℕ) → _≡_ {A = Message} (record { even = even; cross = cross; odd = odd }) (messageAt p T cs i) → i < n
-        → length (b .items) ≡ L → place b ≡ suc i → (qs : List Posed)
-        → ((b′ : VerifierState) (v : Verifier) → F b′ v → length (b′ .items) ≡ L → place b′ ≡ suc (suc i) → VerifierAgrees p v qs)
-        → VerifierAgrees p v (plainly (query.Message even cross odd) ∷ qs)
-    message-agreed i even cross odd e less whole now qs on =
+    pub message-agreed : (i even cross odd : ℕ) → _≡_ {A = Message} (record { even = even; cross = cross; odd = odd }) (messageAt p T cs i)
+        → Gave p w ms (roundMessage i) (says (reply.message even cross odd)) → i < n → length (b .items) ≡ L → place b ≡ suc i → (qs : List Posed)
+        → ((b′ : VerifierState) (v : Verifier) → F b′ v → length (b′ .items) ≡ L → place b′ ≡ suc (suc i) → Agrees b′ v qs)
+        → Agrees b v (plainly (query.Message even cross odd) ∷ qs)
+    message-agreed i even cross odd e gave less whole now qs on =
         let at-i = place-closed (b .closed) (b .round) i now in
         one-agreed b v f (query.Message even cross odd) _
         (message-free p b _ even cross odd (at-i .0) (f .going) (omega (arith, at-i .1, rounds-so))
         (below p (ap (λ (m : Message). m .even) e) (residue-below p (omega arith) _))
         (below p (ap (λ (m : Message). m .cross) e) (residue-below p (omega arith) _))
         (below p (ap (λ (m : Message). m .odd) e) (residue-below p (omega arith) _)))
-        (e ∙ ap₂ (messageAt p T) (sym (f .challenges)) (sym (at-i .1))) (λ t h. h) qs
-        (λ w g. on _ w g whole (ap (λ i. suc (suc i)) (at-i .1)))
+        (e ∙ ap₂ (messageAt p T) (sym (f .challenges)) (sym (at-i .1)))
+        (subst (λ i. Gave p w ms (roundMessage i) (says (reply.message even cross odd))) (sym (at-i .1)) gave) (λ t h. h) qs
+        (λ v g. on _ v g whole (ap (λ i. suc (suc i)) (at-i .1)))
 
     -- THE VERDICT
     pub verdict-agreed : length (b .items) ≡ L → place b ≡ suc n → (qs : List Posed)
-        → ((b′ : VerifierState) (v : Verifier) → F b′ v → length (b′ .items) ≡ L → place b′ ≡ suc n → VerifierAgrees p v qs) → VerifierAgrees p v (plainly query.Verdict ∷ qs)
+        → ((b′ : VerifierState) (v : Verifier) → F b′ v → length (b′ .items) ≡ L → place b′ ≡ suc n → Agrees b′ v qs) → Agrees b v (plainly query.Verdict ∷ qs)
     verdict-agreed whole now qs on =
         let last = place-closed (b .closed) (b .round) n now in
-        one-agreed b v f query.Verdict _ (verdict-free p b _ (last .0) (f .going) (last .1 ∙ sym rounds-so)) tt (λ t h. h) qs
-        (λ w g. on _ w g whole (ap suc rounds-so))
+        one-agreed b v f query.Verdict _ (verdict-free p b _ (last .0) (f .going) (last .1 ∙ sym rounds-so)) tt tt (λ t h. h) qs
+        (λ v g. on _ v g whole (ap suc rounds-so))
 
     -- AN OPENING
     pub check-agreed : (x : ℕ) (l : Shown) → isNonzero p x ≡ true → ltb 0 n ≡ true → l .values ≡ opening p n (at cs) (vectorF p T) (vectorG p T) x → (qs : List Posed)
-        → ((v : Verifier) → F b v → VerifierAgrees p v qs) → VerifierAgrees p v (record { query = query.CheckOpening x; shown = l } ∷ qs)
+        → ((v : Verifier) → F b v → Agrees b v qs) → Agrees b v (record { query = query.CheckOpening x; shown = l } ∷ qs)
     check-agreed x l ok more so qs on =
-        one-agreed b v f (query.CheckOpening x) l (opening-free p large T cs b (f .start) x ok more l so) tt
+        one-agreed b v f (query.CheckOpening x) l (opening-free p large T cs b (f .start) x ok more l so) tt tt
         (λ t h. h (so ∙ ap (λ ds. opening p n (at ds) (vectorF p T) (vectorG p T) x) (sym (f .challenges)))) qs on
 
     -- THE PROOF FILE
-    pub proof-agreed : T .start .plain ≡ true → b .closed ≡ false → length (b .items) ≡ L → (l : Shown) → l .file ≡ proofOfTrip p T cs → (qs : List Posed)
-        → ((b′ : VerifierState) (v : Verifier) → F b′ v → VerifierAgrees p v qs) → VerifierAgrees p v (record { query = query.Proof; shown = l } ∷ qs)
-    proof-agreed plain unclosed whole l so qs on =
+    pub proof-agreed : T .start .plain ≡ true → b .closed ≡ false → length (b .items) ≡ L → (l : Shown) → l .file ≡ proofOfTrip p T cs → Wrote p w ms (l .file) → (qs : List Posed)
+        → ((b′ : VerifierState) (v : Verifier) → F b′ v → Agrees b′ v qs) → Agrees b v (record { query = query.Proof; shown = l } ∷ qs)
+    proof-agreed plain unclosed whole l so wrote qs on =
         let few : n ≤ 15 = omega (arith, valid .whole .start .rounds, rounds-at-most L (valid .whole .start .most)) in
         let enough : L ≤ 2 ^ n = rw (valid .whole .start .rounds) (rounds-enough L (valid .whole .start .most)) in
         let fits = valid .total plain in
         let good = file-good p T cs large word few enough listed (λ i h. f .fine i (omega (arith, whole))) fits in
         let rows : fileRows p (b .start .rounds) (l .file) ≡ none = ap₂ (fileRows p) rounds-so so ∙ good-rows p n (totalOf T) (proofOfTrip p T cs) good fits in
-        one-agreed b v f query.Proof l (proof-free p b l unclosed (whole-so whole) (kind plain) rows) (so ∙ ap (proofOfTrip p T) (sym (f .challenges)), fits) (λ t h. h) qs
-        (λ w g. on _ w g)
+        one-agreed b v f query.Proof l (proof-free p b l unclosed (whole-so whole) (kind plain) rows) (so ∙ ap (proofOfTrip p T) (sym (f .challenges)), fits) wrote (λ t h. h) qs
+        (λ v g. on _ v g)
 
   -- THE ITEMS, first to last
   pub items-agreed : (xs : List Given) (k : ℕ) → k + length xs ≡ L → ((j : ℕ) → getD xs j (Numbers 0 0) ≡ itemOf T (k + j)) → (b : VerifierState) (v : Verifier) → F b v
-      → b .closed ≡ false → length (b .items) ≡ k → (qs : List Posed) → ((b : VerifierState) (v : Verifier) → F b v → b .closed ≡ false → length (b .items) ≡ L → VerifierAgrees p v qs)
-      → VerifierAgrees p v (itemsOf xs ++ qs)
+      → b .closed ≡ false → length (b .items) ≡ k → (qs : List Posed) → ((b : VerifierState) (v : Verifier) → F b v → b .closed ≡ false → length (b .items) ≡ L → Agrees b v qs)
+      → Agrees b v (itemsOf xs ++ qs)
   items-agreed [] k all same b v f unclosed count qs on = on b v f unclosed (omega (arith, count, all))
   items-agreed (x ∷ xs) k all same b v f unclosed count qs on =
       let less : k < L = omega arith in
       let here : x ≡ itemOf T k = same 0 ∙ ap (itemOf T) (add-zero k) in
       item-agreed b v f x (here ∙ ap (itemOf T) (sym count)) (subst (ItemFits p (T .start .plain)) (sym here) (valid .items k less)) unclosed (omega (arith, count)) (itemsOf xs ++ qs)
-      (λ c w g still count′. items-agreed xs (suc k) (omega arith) (λ j. same (suc j) ∙ ap (itemOf T) (add-suc k j ∙ sym (suc-add k j))) c w g still (count′ ∙ ap suc count) qs on)
+      (λ c v g still count′. items-agreed xs (suc k) (omega arith) (λ j. same (suc j) ∙ ap (itemOf T) (add-suc k j ∙ sym (suc-add k j))) c v g still (count′ ∙ ap suc count) qs on)

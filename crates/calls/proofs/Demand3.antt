@@ -7,6 +7,7 @@ use lib.ListN.{length}
 use Rattle.algebra.specs.Prime.{Prime}
 use Rattle.refusal.specs.Limit.{maxWeight}
 use Rattle.refusal.specs.Outcome.{answered}
+use Rattle.field.specs.Modulus.{modulus}
 use Rattle.field.proofs.ModulusLaws.{modulus-odd, modulus-prime, modulus-word, modulus-weights}
 use Rattle.item.specs.declared.Start.{Start}
 use Rattle.item.specs.Start.{modulusOf}
@@ -25,17 +26,16 @@ use Rattle.calls.specs.Demand3.{AllSized, AllKept, AllTake, AllBringRun,
 use Rattle.calls.proofs.Records.{Notes}
 use Rattle.calls.proofs.Refusals.{all-decided, fresh-faithful}
 use Rattle.calls.proofs.Answers.{Going, all-right, fresh-going}
-use Rattle.calls.proofs.Live.{proper-answered, proper-sized, proper-kept}
 use Rattle.calls.proofs.Alike.{last-replies}
 use Rattle.calls.proofs.Hits.{hit-replies, hit-somewhere}
 use Rattle.calls.proofs.Links.{total-of, claim-of, message-of, file-of}
 use Rattle.calls.proofs.OpeningChecks.{openings-checked}
-use Rattle.calls.proofs.Carried.{proper-messages, proper-file, proper-written}
+use Rattle.calls.proofs.Carried.{proper-run, proper-messages, proper-longer, proper-written, proper-file}
 use Rattle.calls.proofs.CarriedWhole.{messages-list, file-list}
 use Rattle.calls.proofs.QueryLists.{every-query}
 use Rattle.calls.proofs.HeardMeaning.{BringsTrip, says-agreed}
 use Rattle.calls.proofs.HeardFollows.{Follows}
-use Rattle.calls.proofs.HeardLists.{says-trip, follows-next, fresh-follows, modulus-31}
+use Rattle.calls.proofs.HeardLists.{says-trip, follows-next, fresh-follows}
 use Rattle.calls.proofs.VerdictLists.{every-verdict}
 use Rattle.calls.proofs.StartRows.{all-starts}
 
@@ -94,8 +94,7 @@ module _ (p : ℕ) (large : maxWeight < p) (prime : Prime p) (odd : p % 2 ≡ 1)
         refusals = λ s h f g ms z. all-decided p large (freshWorld s f g) (fresh-faithful p large s h f g) ms z;
         answers = λ through T whole f g ms z kept.
             all-right p large through T (whole .items) (freshWorld (T .start) f g) (fresh-going p large through T (whole .items) (whole .start) f g) ms z kept;
-        proper = λ T valid k cs bs l brought.
-            (proper-answered p large T valid k cs bs l brought, proper-sized p large T valid k cs bs l brought, proper-kept p large T valid k cs bs l brought);
+        proper = proper-run p large prime odd word;
         alike = λ T whole th th′ f g f′ g′ ms ns m n z z′ kept kept′ challenges asked e e′.
             replies th T whole f g ms m z kept e ∙ ap₂ (meant p T) challenges asked ∙ sym (replies th′ T whole f′ g′ ns n z′ kept′ e′);
         verifierRefusals = every-query p;
@@ -104,19 +103,26 @@ module _ (p : ℕ) (large : maxWeight < p) (prime : Prime p) (odd : p % 2 ≡ 1)
             (freshHearing (T .start) cs) (fresh-follows p large prime odd word T whole cs listed) qs brought;
         openingsChecked = λ through T whole f g ms z kept cs listed takes.
             openings-checked p large prime odd word T whole cs listed through f g ms z kept takes;
-        verifierProper = λ T valid k cs bs l brought. (
-          messages-list p large T valid k cs bs l brought,
-          proper-messages p large prime odd word T valid k cs bs l brought,
-          λ plain m room.
-              let file = proper-file p large prime odd word T valid k cs bs l brought plain m room in
-              (file .0, file-list p large T valid k cs bs l brought _ (proper-written p large prime odd word T valid k cs bs l brought plain m room), file .1),
-        );
+        verifierProper = λ T valid k cs bs l brought.
+            let told = proper-messages p large prime odd word T valid k cs bs l brought in (
+              messages-list p large T valid k cs bs l brought,
+              told .0,
+              told .1,
+              λ plain m room.
+                  let file = proper-file p large prime odd word T valid k cs bs l brought plain m room in (
+                    proper-longer p large prime odd word T valid k cs bs l brought plain m room,
+                    file-list p large T valid k cs bs l brought _ (proper-written p large prime odd word T valid k cs bs l brought plain m room),
+                    file .0,
+                    file .1,
+                  ),
+            );
         verdicts = λ s h cs listed. every-verdict p s cs large h listed;
       }
 
 -- of the customer's modulus
 pub demand3-31 : Demand3 2147483647
-demand3-31 = let m = modulus-31 in demand3 2147483647 (m .0) (m .1) (m .2) (m .3)
+unfolding modulus
+demand3-31 = demand3 _ modulus-weights modulus-prime modulus-odd modulus-word
 
 -- at the modulus of a start's runs: what `make` and `ask` compute, whatever record they are handed
 pub demand3-of : (s : Start) → Demand3 (modulusOf s)

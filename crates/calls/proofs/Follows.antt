@@ -37,7 +37,7 @@ use Rattle.prover.specs.Reply as reply
 use Rattle.prover.specs.Reply.{answerIn}
 use Rattle.prover.specs.Records.{answeredStep}
 use Rattle.prover.specs.Level.{foldSize}
-use Rattle.prover.specs.Close.{goneTo, withTotal, keptMessage, withMessage, shutPass}
+use Rattle.prover.specs.Close.{goneTo, withTotal, messagesWith, withMessage, shutPass}
 use Rattle.prover.specs.declared.Step.{Step}
 use Rattle.prover.specs.Take.{takes}
 use Rattle.prover.specs.Full.{messageGiven}
@@ -255,7 +255,7 @@ module _ (p : ℕ) (large : maxWeight < p) where
       }
 
   -- A PASS IS CLOSED
-  given-message : (r : Run) (even cross odd : ℕ) (messages : List ℕ) → keptMessage (r .messages) (r .round) even cross odd ≡ messages
+  given-message : (r : Run) (even cross odd : ℕ) (messages : List ℕ) → messagesWith (r .messages) (r .round) even cross odd ≡ messages
       → withMessage r even cross odd ≡ record {
         start = r .start;
         mode = r .mode;

@@ -9,7 +9,6 @@ use native.Mathlib.Omega.{arith}
 use lib.ListN.{length}
 use Rattle.algebra.specs.Prime.{Prime}
 use Rattle.algebra.proofs.Congruence.{residue-zero}
-use Rattle.algebra.proofs.Primes.{prime-31}
 use Rattle.refusal.specs.Limit.{maxWeight}
 use Rattle.refusal.specs.Outcome.{answered}
 use Rattle.vector.specs.Vector.{sum}
@@ -72,7 +71,3 @@ module _ (p : ℕ) (large : maxWeight < p) (prime : Prime p) (odd : p % 2 ≡ 1)
         going = refl;
         claim = λ closed. absurd (true≢false (sym closed));
       }
-
--- the header's modulus, met by 2^31 - 1
-pub modulus-31 : (maxWeight < 2147483647) × Prime 2147483647 × (2147483647 % 2 ≡ 1) × (2147483647 ≤ 2 ^ 32)
-modulus-31 = (omega arith, prime-31, refl, omega arith)

@@ -1,7 +1,7 @@
 -- A run of one item, at the customer's modulus: no messages and no openings; its answers, its verifier's two lists, and demand 3 at it.
-use mathlib.Core.Path.{_≡_, refl}
-use mathlib.Core.Bool.{Bool, true}
-use mathlib.Core.List.{List, [], _∷_}
+use mathlib.Core.Path.{_≡_, refl, subst, _∙_}
+use mathlib.Core.Bool.{true}
+use mathlib.Core.List.{List, [], _∷_, _++_}
 use Prim.Native.Nat.{ℕ, zero, suc, _<_}
 use native.Mathlib.Omega.{arith}
 use lib.IntN.{negsuc}
@@ -42,17 +42,18 @@ use Rattle.item.specs.Item.{partsOf}
 use Rattle.runs.specs.Trip.{Trip, itemOf, sumOf}
 use Rattle.calls.specs.declared.query.Query.the-variants as query
 use Rattle.calls.specs.Lists.{after, each}
-use Rattle.calls.specs.Step.{Lent, Result, isAnswered, step}
+use Rattle.calls.specs.Step.{Lent, step}
 use Rattle.calls.specs.Meaning.{says, messagesTo}
 use Rattle.calls.specs.World.{Made, World, freshWorld, came, onward}
 use Rattle.calls.specs.QueryStep.{ask}
 use Rattle.calls.specs.QueryStep as said
-use Rattle.calls.specs.QueryState.{Posed, plainly, freshHearing}
+use Rattle.calls.specs.QueryState.{Posed, plainly, Hearing, freshHearing, hearsOn}
+use Rattle.calls.specs.Given.{OpeningsChecked}
 use Rattle.calls.specs.Starts.{Whole}
 use Rattle.calls.specs.Proper.{ItemFits, Valid, AllNonzero, itemsBelow, roundsFrom, openingsAt, Brings, properRun}
 use Rattle.calls.specs.Carried.{byMessages, byFile, writesProof}
 use Rattle.calls.specs.WholeList.{messagesFrom, wholeByMessages, wholeByFile}
-use Rattle.calls.specs.Demand3.{AllSized, AllAnswered, AllKept, AllRight, AllAgreed}
+use Rattle.calls.specs.Demand3.{AllRight, AllProper, AllBringRun, AllSay, AllAgreed}
 use Rattle.calls.specs.Example.{repliesFrom}
 use Rattle.calls.specs.QueryExample.{toldAll}
 use Rattle.calls.proofs.Demand3.{demand3-31}
@@ -158,28 +159,56 @@ unfolding each ask give passOpen verifierFormed turnOf partsOf oneMore verifierE
 single-file-told = refl
 
 -- what demand 3 says of them, whatever the mode
+abbrev singleHearing : Hearing
+singleHearing = freshHearing (single .start) []
+
 module _ (k : ℕ) where
-  pub single-proper : AllAnswered P singleWorld (singleRun k)
-      × AllSized P singleWorld (singleRun k)
-      × ((through : Bool) → AllKept P through single singleWorld (singleRun k))
+  pub single-proper : AllProper P [] single singleWorld (singleRun k)
   single-proper = demand3-31 .proper single single-valid k [] (2 ∷ []) singleLent (single-brings k)
 
   pub single-right : AllRight P true single singleWorld (singleRun k)
   single-right =
       demand3-31 .answers true single single-whole (singleLent .f) (singleLent .g) (singleRun k) (single-proper .1) (single-proper .2 true)
 
+  -- its verifier's own list is that one, agrees with all of it, and brings what the run gave; so the verdict is yes
+  pub single-verifier : (byMessages P single singleWorld (singleRun k) ≡ singleList)
+      × AllAgreed P singleHearing singleList
+      × AllBringRun P single singleWorld (singleRun k) singleHearing singleList
+  single-verifier =
+      let v = demand3-31 .verifierProper single single-valid k [] (2 ∷ []) singleLent (single-brings k) in
+      let same = v .0 ∙ single-list in
+      (same, subst (AllAgreed P singleHearing) same (v .1), subst (AllBringRun P single singleWorld (singleRun k) singleHearing) same (v .2))
+
+  pub single-says : AllSay P single singleHearing singleList
+  single-says =
+      demand3-31 .verifierAnswers true single single-whole (singleLent .f) (singleLent .g) (singleRun k) (single-proper .1) (single-proper .2 true) [] refl (single-proper .3) singleList
+      (single-verifier .2)
+
+  pub single-checked : (qs : List Posed) → OpeningsChecked P single singleWorld (singleRun k) (after (hearsOn P) singleHearing qs)
+  single-checked =
+      demand3-31 .openingsChecked true single single-whole (singleLent .f) (singleLent .g) (singleRun k) (single-proper .1) (single-proper .2 true) [] refl (single-proper .3)
+
   -- a file with room
   abbrev into : Lent
   into = record { f = []; g = []; file = replicate 18 0 }
 
-  abbrev wrote : Result
-  wrote = came P (after (onward P) singleWorld (singleRun k)) (writesProof into)
+  -- the run goes on to write it
+  abbrev longer : List Made
+  longer = singleRun k ++ writesProof into ∷ []
 
-  pub single-verifier : (byMessages P single singleWorld (singleRun k) ≡ wholeByMessages P single [] (2 ∷ []))
-      × AllAgreed P (freshHearing (single .start) []) (byMessages P single singleWorld (singleRun k))
-      × (isAnswered (wrote .answer) ≡ true)
-      × (byFile P single singleWorld (singleRun k) (take 18 (wrote .lent .file)) ≡ wholeByFile P single [] (2 ∷ []))
-      × AllAgreed P (freshHearing (single .start) []) (byFile P single singleWorld (singleRun k) (take 18 (wrote .lent .file)))
-  single-verifier =
-      let v = demand3-31 .verifierProper single single-valid k [] (2 ∷ []) singleLent (single-brings k) in
-      let w = v .2 refl into (omega arith) in (v .0, v .1, w .0, w .1, w .2)
+  abbrev wrote : List ℕ
+  wrote = take 18 (came P (after (onward P) singleWorld (singleRun k)) (writesProof into) .lent .file)
+
+  pub single-filed : AllProper P [] single singleWorld longer
+      × (byFile P single singleWorld (singleRun k) wrote ≡ singleByFile)
+      × AllAgreed P singleHearing singleByFile
+      × AllBringRun P single singleWorld longer singleHearing singleByFile
+  single-filed =
+      let v = demand3-31 .verifierProper single single-valid k [] (2 ∷ []) singleLent (single-brings k) .3 refl into (omega arith) in
+      let same = v .1 ∙ single-file-list in
+      (v .0, same, subst (AllAgreed P singleHearing) same (v .2), subst (AllBringRun P single singleWorld longer singleHearing) same (v .3))
+
+  pub single-file-says : AllSay P single singleHearing singleByFile
+  single-file-says =
+      demand3-31 .verifierAnswers true single single-whole (singleLent .f) (singleLent .g) longer (single-filed .0 .1) (single-filed .0 .2 true) [] refl (single-filed .0 .3) singleByFile
+      (single-filed .3)

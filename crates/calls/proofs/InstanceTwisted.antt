@@ -1,6 +1,6 @@
 -- A twisted run that changes its mode in the middle, at the customer's modulus: its calls, its answers, its verifier's list, and demand 3 at it.
-use mathlib.Core.Path.{_≡_, refl, sym}
-use mathlib.Core.Bool.{Bool, true, false, true≢false}
+use mathlib.Core.Path.{_≡_, refl, sym, subst, _∙_}
+use mathlib.Core.Bool.{true, false, true≢false}
 use mathlib.Core.List.{List, [], _∷_, _++_}
 use Prim.Native.Nat.{ℕ, zero, suc, _<_}
 use native.Mathlib.Omega.{arith}
@@ -41,18 +41,19 @@ use Rattle.item.specs.declared.Given.the-variants.{Numbers}
 use Rattle.item.specs.Item.{partsOf}
 use Rattle.runs.specs.Trip.{Trip, itemOf}
 use Rattle.calls.specs.declared.query.Query.the-variants as query
-use Rattle.calls.specs.Lists.{each}
+use Rattle.calls.specs.Lists.{after, each}
 use Rattle.calls.specs.Step.{Lent, step}
 use Rattle.calls.specs.Meaning.{Answer, says}
 use Rattle.calls.specs.World.{Made, World, freshWorld}
 use Rattle.calls.specs.QueryStep.{ask}
 use Rattle.calls.specs.QueryStep as said
-use Rattle.calls.specs.QueryState.{Posed, plainly, freshHearing}
+use Rattle.calls.specs.QueryState.{Posed, plainly, Hearing, freshHearing, hearsOn}
+use Rattle.calls.specs.Given.{OpeningsChecked}
 use Rattle.calls.specs.Starts.{Whole}
 use Rattle.calls.specs.Proper.{ItemFits, Valid, AllNonzero, itemsBelow, roundsFrom, openingsAt, Brings, properRun}
 use Rattle.calls.specs.Carried.{byMessages}
 use Rattle.calls.specs.WholeList.{messagesFrom, wholeByMessages}
-use Rattle.calls.specs.Demand3.{AllSized, AllAnswered, AllKept, AllRight, AllAgreed}
+use Rattle.calls.specs.Demand3.{AllRight, AllProper, AllBringRun, AllSay, AllAgreed}
 use Rattle.calls.specs.Example.{repliesFrom}
 use Rattle.calls.specs.QueryExample.{toldAll}
 use Rattle.calls.proofs.Demand3.{demand3-31}
@@ -164,15 +165,31 @@ unfolding each ask give passOpen verifierFormed turnOf partsOf oneMore verifierE
 twisted-told = refl
 
 -- what demand 3 says of them
-pub twisted-proper : AllAnswered P twistedWorld twistedRun
-    × AllSized P twistedWorld twistedRun
-    × ((through : Bool) → AllKept P through twisted twistedWorld twistedRun)
+pub twisted-proper : AllProper P (2 ∷ 3 ∷ []) twisted twistedWorld twistedRun
 twisted-proper = demand3-31 .proper twisted twisted-valid 1 (2 ∷ 3 ∷ []) (3 ∷ []) twistedLent twisted-brings
 
 pub twisted-right : AllRight P true twisted twistedWorld twistedRun
 twisted-right =
     demand3-31 .answers true twisted twisted-whole (twistedLent .f) (twistedLent .g) twistedRun (twisted-proper .1) (twisted-proper .2 true)
 
-pub twisted-verifier : (byMessages P twisted twistedWorld twistedRun ≡ wholeByMessages P twisted (2 ∷ 3 ∷ []) (3 ∷ []))
-    × AllAgreed P (freshHearing (twisted .start) (2 ∷ 3 ∷ [])) (byMessages P twisted twistedWorld twistedRun)
-twisted-verifier = let v = demand3-31 .verifierProper twisted twisted-valid 1 (2 ∷ 3 ∷ []) (3 ∷ []) twistedLent twisted-brings in (v .0, v .1)
+abbrev twistedHearing : Hearing
+twistedHearing = freshHearing (twisted .start) (2 ∷ 3 ∷ [])
+
+-- its verifier's own list is that one, agrees with all of it, and brings what the run gave
+pub twisted-verifier : (byMessages P twisted twistedWorld twistedRun ≡ twistedList)
+    × AllAgreed P twistedHearing twistedList
+    × AllBringRun P twisted twistedWorld twistedRun twistedHearing twistedList
+twisted-verifier =
+    let v = demand3-31 .verifierProper twisted twisted-valid 1 (2 ∷ 3 ∷ []) (3 ∷ []) twistedLent twisted-brings in
+    let same = v .0 ∙ twisted-list in (same, subst (AllAgreed P twistedHearing) same (v .1), subst (AllBringRun P twisted twistedWorld twistedRun twistedHearing) same (v .2))
+
+-- so every message passes and the verdict is yes
+pub twisted-says : AllSay P twisted twistedHearing twistedList
+twisted-says =
+    demand3-31 .verifierAnswers true twisted twisted-whole (twistedLent .f) (twistedLent .g) twistedRun (twisted-proper .1) (twisted-proper .2 true) (2 ∷ 3 ∷ []) refl (twisted-proper .3) twistedList
+    (twisted-verifier .2)
+
+-- and every check of the run's openings is yes, before the list, after it or after any other
+pub twisted-checked : (qs : List Posed) → OpeningsChecked P twisted twistedWorld twistedRun (after (hearsOn P) twistedHearing qs)
+twisted-checked =
+    demand3-31 .openingsChecked true twisted twisted-whole (twistedLent .f) (twistedLent .g) twistedRun (twisted-proper .1) (twisted-proper .2 true) (2 ∷ 3 ∷ []) refl (twisted-proper .3)

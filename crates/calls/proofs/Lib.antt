@@ -37,6 +37,7 @@ pub mod VerdictFollows
 pub mod VerdictLists
 pub mod StartRows
 pub mod QueryArms
+pub mod Longer
 pub mod Alike
 pub mod Hits
 pub mod Links
@@ -55,9 +56,9 @@ pub mod CarriedSteps
 pub mod Carried
 pub mod CarriedWalk
 pub mod CarriedWhole
-pub mod LiveExample
 pub mod Dispatch
 pub mod Demand3
+pub mod LiveExample
 pub mod InstanceTwisted
 pub mod InstanceSingle
 pub mod RuleTrips

@@ -10,7 +10,7 @@ use lib.Seq.{take-append-seam}
 use Rattle.refusal.specs.Limit.{maxWeight}
 use Rattle.field.specs.Total.{inLimits}
 use Rattle.algebra.specs.Mod.{negMod, mulMod}
-use Rattle.wire.specs.Proof.{proofFile}
+use Rattle.wire.specs.Proof.{proofFile, proofSize}
 use Rattle.wire.proofs.Writes.{length-file}
 use Rattle.vector.specs.Vector.{Vector, at, dot}
 use Rattle.vector.specs.Rounds.{size}
@@ -31,7 +31,7 @@ use Rattle.runs.specs.Trip.{Trip, vectorF, vectorG, totalOf}
 use Rattle.calls.specs.declared.Call.{Call}
 use Rattle.calls.specs.declared.Call.the-variants as call
 use Rattle.calls.specs.State.{State}
-use Rattle.calls.specs.Table.{waits, fileSize, table}
+use Rattle.calls.specs.Table.{waits, table}
 use Rattle.calls.specs.Meaning.{Question, total, roundMessage, ends, openingAt, proof, done, closeAsks, question, Answer, meant, says, messageAt, messagesTo, proofOfTrip}
 use Rattle.calls.specs.World.{came}
 use Rattle.calls.proofs.Steps.{row-passed}
@@ -109,7 +109,7 @@ is-write a call.Ends e = absurd (true≢false (sym e))
 is-write a (call.Opening b) e = absurd (true≢false (sym e))
 is-write a call.WriteProof e = refl
 
-length-proof : (p : ℕ) (T : Trip) (cs : List ℕ) → length (proofOfTrip p T cs) ≡ fileSize (T .start .rounds)
+length-proof : (p : ℕ) (T : Trip) (cs : List ℕ) → length (proofOfTrip p T cs) ≡ proofSize (T .start .rounds)
 length-proof p T cs =
     let n : ℕ = T .start .rounds in
     let xs : List ℕ = endValue p (at cs) n (vectorF p T) ∷ endValue p (at cs) n (vectorG p T) ∷ [] in
@@ -157,7 +157,7 @@ module _ (p : ℕ) (large : maxWeight < p) (through : Bool) (T : Trip) (whole : 
       ∙ take-append-seam v _
       ∙ opening-same p T cs ds (late-prefix (openingAt b) h (ap isLate (h .asked))) b
 
-  pub file-of : (file : List ℕ) (h : H proof) → take (fileSize (h .world .state .start .rounds)) (came p (h .world) (h .made) .lent .file) ≡ file
+  pub file-of : (file : List ℕ) (h : H proof) → take (proofSize (h .world .state .start .rounds)) (came p (h .world) (h .made) .lent .file) ≡ file
       → (file ≡ proofOfTrip p T cs) × (inLimits p (totalOf T) ≡ true)
   unfolding table
   file-of file h e =
@@ -170,8 +170,8 @@ module _ (p : ℕ) (large : maxWeight < p) (through : Bool) (T : Trip) (whole : 
       let plain = both (b .start .plain) (waits next.Openings (b .turn .next)) q in
       let same-total : h .past .total ≡ totalOf T = h .going .agrees .total (plain .0) (not-first (b .turn .next) (plain .1)) in (
         sym e
-            ∙ ap₂ (λ k f. take (fileSize k) f) rounds left
-            ∙ ap (λ k. take k (proofOfTrip p T ds ++ drop (fileSize (T .start .rounds)) (h .made .lent .file))) (sym (length-proof p T ds))
+            ∙ ap₂ (λ k f. take (proofSize k) f) rounds left
+            ∙ ap (λ k. take k (proofOfTrip p T ds ++ drop (proofSize (T .start .rounds)) (h .made .lent .file))) (sym (length-proof p T ds))
             ∙ take-append-seam (proofOfTrip p T ds) _
             ∙ file-same p T cs ds (late-prefix proof h (ap isLate (h .asked))),
         ap (inLimits p) (sym same-total) ∙ h .going .faithful .fits .run .total,

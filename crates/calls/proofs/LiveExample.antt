@@ -2,7 +2,7 @@
 -- by messages and by the 42 bytes of its proof file.
 use mathlib.Core.Path.{refl}
 use mathlib.Core.Bool.{true}
-use mathlib.Core.List.{List, [], _∷_}
+use mathlib.Core.List.{List, [], _∷_, _++_}
 use Prim.Native.Nat.{ℕ, zero, suc, _<_}
 use native.Mathlib.Omega.{arith}
 use lib.IntN.{pos, negsuc}
@@ -14,13 +14,11 @@ use Rattle.runs.specs.Trip.{Trip, itemOf, sumOf}
 use Rattle.calls.specs.Step.{Lent}
 use Rattle.calls.specs.Lists.{after}
 use Rattle.calls.specs.World.{Made, World, freshWorld, came, onward}
-use Rattle.calls.specs.QueryState.{freshHearing}
+use Rattle.calls.specs.QueryState.{Hearing, freshHearing}
 use Rattle.calls.specs.Proper.{ItemFits, Valid, AllNonzero, Brings, properRun}
 use Rattle.calls.specs.Carried.{byMessages, byFile, writesProof}
-use Rattle.calls.specs.Demand3.{AllAnswered, AllAgreed}
-use Rattle.calls.proofs.HeardLists.{modulus-31}
-use Rattle.calls.proofs.Live.{proper-answered}
-use Rattle.calls.proofs.Carried.{proper-messages, proper-file}
+use Rattle.calls.specs.Demand3.{AllProper, AllBringRun, AllAgreed}
+use Rattle.calls.proofs.Demand3.{demand3-31}
 
 abbrev P : ℕ
 P = 2147483647
@@ -58,9 +56,6 @@ brings k x = record { count = refl; challenges = two; points = one; room = λ h.
     one zero h = refl
     one (suc j) h = absurd (omega arith)
 
-pub trip-answered : (k x : ℕ) → AllAnswered P (freshWorld (trip .start) (lent x .f) (lent x .g)) (properRun P trip k (2 ∷ 3 ∷ []) (2 ∷ []) (lent x))
-trip-answered k x = proper-answered P (omega arith) trip valid k (2 ∷ 3 ∷ []) (2 ∷ []) (lent x) (brings k x)
-
 module _ (k x : ℕ) where
   abbrev begin : World
   begin = freshWorld (trip .start) (lent x .f) (lent x .g)
@@ -68,13 +63,21 @@ module _ (k x : ℕ) where
   abbrev run : List Made
   run = properRun P trip k (2 ∷ 3 ∷ []) (2 ∷ []) (lent x)
 
-  pub trip-agreed : AllAgreed P (freshHearing (trip .start) (2 ∷ 3 ∷ [])) (byMessages P trip begin run)
-  trip-agreed = let m = modulus-31 in proper-messages P (m .0) (m .1) (m .2) (m .3) trip valid k (2 ∷ 3 ∷ []) (2 ∷ []) (lent x) (brings k x)
+  abbrev listens : Hearing
+  listens = freshHearing (trip .start) (2 ∷ 3 ∷ [])
 
-  abbrev file : Lent
-  file = record { f = []; g = []; file = replicate 42 0 }
+  pub trip-proper : AllProper P (2 ∷ 3 ∷ []) trip begin run
+  trip-proper = demand3-31 .proper trip valid k (2 ∷ 3 ∷ []) (2 ∷ []) (lent x) (brings k x)
 
-  pub trip-file-agreed : AllAgreed P (freshHearing (trip .start) (2 ∷ 3 ∷ [])) (byFile P trip begin run (take 42 (came P (after (onward P) begin run) (writesProof file) .lent .file)))
+  pub trip-agreed : AllAgreed P listens (byMessages P trip begin run) × AllBringRun P trip begin run listens (byMessages P trip begin run)
+  trip-agreed = let v = demand3-31 .verifierProper trip valid k (2 ∷ 3 ∷ []) (2 ∷ []) (lent x) (brings k x) in (v .1, v .2)
+
+  abbrev into : Lent
+  into = record { f = []; g = []; file = replicate 42 0 }
+
+  abbrev file : List ℕ
+  file = take 42 (came P (after (onward P) begin run) (writesProof into) .lent .file)
+
+  pub trip-file-agreed : AllAgreed P listens (byFile P trip begin run file) × AllBringRun P trip begin (run ++ writesProof into ∷ []) listens (byFile P trip begin run file)
   trip-file-agreed =
-      let m = modulus-31 in
-      proper-file P (m .0) (m .1) (m .2) (m .3) trip valid k (2 ∷ 3 ∷ []) (2 ∷ []) (lent x) (brings k x) refl file (omega arith) .1
+      let v = demand3-31 .verifierProper trip valid k (2 ∷ 3 ∷ []) (2 ∷ []) (lent x) (brings k x) .3 refl into (omega arith) in (v .2, v .3)

@@ -6,6 +6,7 @@ use Prim.Native.Nat.{ℕ, _-_, _<_, _≤_}
 use lib.ListN.{length}
 use borrow.Author.Tests.{le-leb, lt-ltb, eq-eqb}
 use Rattle.refusal.specs.Limit.{maxWeight}
+use Rattle.wire.specs.Proof.{proofSize}
 use Rattle.vector.specs.Vector.{at}
 use Rattle.vector.specs.Slice.{isNonzero}
 use Rattle.vector.proofs.Every.{reduced-all}
@@ -19,7 +20,7 @@ use Rattle.calls.specs.State.{isChange, isFull, isOpen, isSmall, State}
 use Rattle.item.specs.declared.Given.{Given}
 use Rattle.item.specs.declared.Given.the-variants.{Reading, Numbers}
 use Rattle.calls.specs.Proper.{ItemFits}
-use Rattle.calls.specs.Table.{Refusal, row, rowAt, waits, passNext, openingsNext, changeNext, long, bothLong, readRows, givenRows, placeRow, totalFits, fileSize, table}
+use Rattle.calls.specs.Table.{Refusal, row, rowAt, waits, passNext, openingsNext, changeNext, long, bothLong, readRows, givenRows, placeRow, totalFits, table}
 use Rattle.calls.specs.Statement.{Sized, Decides}
 use Rattle.calls.proofs.Records.{Notes}
 use Rattle.calls.proofs.Refusals.{Inv, decide-step}
@@ -96,7 +97,7 @@ module _ (p : ℕ) (a : State) (l : Lent) where
   unfolding table
   opening-free b full turn ok reads = row-free _ 10 _ (ap₂ _&&_ full turn) (row-free _ 6 _ ok reads)
 
-  pub write-free : a .start .plain ≡ true → waits next.Openings (a .turn .next) ≡ true → fileSize (a .start .rounds) ≤ length (l .file) → table p a call.WriteProof l ≡ none
+  pub write-free : a .start .plain ≡ true → waits next.Openings (a .turn .next) ≡ true → proofSize (a .start .rounds) ≤ length (l .file) → table p a call.WriteProof l ≡ none
   unfolding table
   write-free plain turn long = row-free _ 10 _ (ap₂ _&&_ plain turn) (row-free _ 9 none (le-leb _ _ long) refl)
 

@@ -14,7 +14,7 @@ use Rattle.refusal.specs.Outcome.{Outcome, answered, require, requireAt}
 use Rattle.field.specs.Integer.{image}
 use Rattle.field.specs.Total.{inLimits}
 use Rattle.wire.specs.Header.{marked, versionOf}
-use Rattle.wire.specs.Proof.{Head, proofRounds, proofTotal, proofNumber, allBelow, readProof, readProofOf}
+use Rattle.wire.specs.Proof.{Head, proofRounds, proofTotal, proofNumber, allBelow, readProof, readProofOf, proofSize}
 use Rattle.vector.specs.Slice.{isNonzero, allReduced}
 use Rattle.verifier.specs.declared.Verifier.{Verifier}
 use Rattle.verifier.specs.WellFormed.{wellFormed}
@@ -31,7 +31,7 @@ use Rattle.item.specs.Item.{contributes, partsOf}
 use Rattle.calls.specs.declared.query.Query.the-variants as query
 use Rattle.calls.specs.QueryStep.{Shown}
 use Rattle.calls.specs.QueryState.{VerifierState, closeRows, isWanted, isWhole, fileRows, verifierTable}
-use Rattle.calls.specs.Table.{Refusal, decided, row, rowAt, givenRows, fileSize}
+use Rattle.calls.specs.Table.{Refusal, decided, row, rowAt, givenRows}
 use Rattle.calls.proofs.Guards.{same-row, like-row}
 use Rattle.calls.proofs.QueryStands.{Stands, message-turn, verdict-turn}
 
@@ -49,7 +49,7 @@ module _ (p n : ℕ) (few : n ≤ 15) (file : List ℕ) where
   -- 4, 7 and 11 for a file of r rounds
   abbrev rest : ℕ → Outcome Head
   rest r =
-      require (eqb (length file) (fileSize r)) 4
+      require (eqb (length file) (proofSize r)) 4
       (require (inLimits p (proofTotal file)) 7 (require (allBelow p (proofNumber file) (3 * r + 2)) 11 (answered (head r))))
 
   pub read-rows : readProofOf p n file ≡ decided (fileRows p n file) (answered (head n))
@@ -66,7 +66,7 @@ module _ (p n : ℕ) (few : n ≤ 15) (file : List ℕ) where
       ∙ ap (λ b. require b 2 (require (leb (proofRounds file) 15) 3 (rest (proofRounds file)))) v
       ∙ ap (λ b. require b 3 (rest (proofRounds file))) (le-leb (proofRounds file) 15 (omega arith))
       ∙ ap rest e
-      ∙ same-row (eqb (length file) (fileSize n)) 4 _ _ _
+      ∙ same-row (eqb (length file) (proofSize n)) 4 _ _ _
       (same-row (inLimits p (proofTotal file)) 7 _ _ _ (same-row (allBelow p (proofNumber file) (3 * n + 2)) 11 _ none _ refl)))))
 
 with-total : (t : Option Refusal) (h : Head) (rest : ℤ → Judgement) → withTotal (decided t (answered h)) rest ≡ decided t (answered (rest (h .total)))

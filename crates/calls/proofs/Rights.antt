@@ -11,6 +11,7 @@ use native.Mathlib.Numerals.{add-one}
 use borrow.Author.Tests.{leb-true, ltb-true, ltb-false, eqb-true}
 use Rattle.refusal.specs.Limit.{maxWeight}
 use Rattle.refusal.specs.Outcome.{answered}
+use Rattle.wire.specs.Proof.{proofSize}
 use Rattle.vector.specs.Vector.{Vector, at}
 use Rattle.vector.specs.Rounds.{size}
 use Rattle.vector.specs.Fold.{fold, foldWith}
@@ -44,7 +45,7 @@ use Rattle.calls.specs.declared.Call.{Call}
 use Rattle.calls.specs.declared.Call.the-variants as call
 use Rattle.calls.specs.Step.{Lent, Result, leaving}
 use Rattle.calls.specs.State.{isChange, isFull, isOpen, State, inPass, withItem, takesChallenge, buffersIn, goesOn}
-use Rattle.calls.specs.Table.{waits, openingsNext, changeNext, levelNow, level, long, taken, completed, bothLong, readRows, fileSize, table}
+use Rattle.calls.specs.Table.{waits, openingsNext, changeNext, levelNow, level, long, taken, completed, bothLong, readRows, table}
 use Rattle.calls.specs.Meaning.{meaning, foldF, foldG, AsLeft, itemWrites, challengeWrites}
 use Rattle.calls.specs.Statement.{known, Right}
 use Rattle.calls.proofs.Records.{Notes, runOf, passOf}
@@ -321,7 +322,7 @@ module _ (p : ℕ) (large : maxWeight < p) (through : Bool) (its : List Given) (
         values = refl;
         f = nothing-written (foldF p T a) (l .f);
         g = nothing-written (foldG p T a) (l .g);
-        proof = λ here. ap (λ f. f ++ drop (fileSize (a .start .rounds)) (l .file)) (file-meant p large through its a h g (q .0) (waits-for next.Openings (a .turn .next) (q .1)));
+        proof = λ here. ap (λ f. f ++ drop (proofSize (a .start .rounds)) (l .file)) (file-meant p large through its a h g (q .0) (waits-for next.Openings (a .turn .next) (q .1)));
         file = λ other. absurd (other refl);
       }
 

@@ -38,7 +38,7 @@ use Rattle.calls.specs.declared.Call.{Call}
 use Rattle.calls.specs.declared.Call.the-variants as call
 use Rattle.calls.specs.Step.{Lent, Result, keeping, leaving, step}
 use Rattle.calls.specs.State.{isOpen, State}
-use Rattle.calls.specs.Table.{Refusal, refusedWith, decided, row, waits, fileSize, table}
+use Rattle.calls.specs.Table.{Refusal, refusedWith, decided, row, waits, table}
 use Rattle.calls.proofs.Records.{Notes, runOf}
 use Rattle.calls.proofs.Guards.{challengeDoes, same-row, like-row, proof-next, open-decided, open-at-decided, to-full-decided, message-decided, ends-decided, opening-decided, challenge-decided, item-decided, close-decided}
 
@@ -138,11 +138,11 @@ module _ (p : ℕ) (a : State) (past : Notes) (few : a .start .rounds ≤ 15) (s
   module _ (total : inLimits p (past .total) ≡ true) (messages : allBelow p (λ k. getD (R .messages) k 0) (3 * a .start .rounds) ≡ true)
       (fend : past .fend < p) (gend : past .gend < p) where
     file-rows : (file : List ℕ) → writeProof p (a .start .rounds) (past .total) (R .messages) (past .fend) (past .gend) file
-        ≡ decided (row (leb (fileSize (a .start .rounds)) (length file)) 9 none) (answered (proofSize (a .start .rounds)))
+        ≡ decided (row (leb (proofSize (a .start .rounds)) (length file)) 9 none) (answered (proofSize (a .start .rounds)))
     unfolding writeProof
     file-rows file =
         rw (le-leb (a .start .rounds) maxRounds few, total, messages, lt-ltb (past .fend) p fend, lt-ltb (past .gend) p gend)
-        (same-row (leb (fileSize (a .start .rounds)) (length file)) 9 _ none _ refl)
+        (same-row (leb (proofSize (a .start .rounds)) (length file)) 9 _ none _ refl)
 
     write-turn : mayWrite p R s ≡ (a .start .plain && waits next.Openings (a .turn .next))
     write-turn = ap (λ b. cond b (cond (a .start .plain) (isOpenings (a .turn .next)) false) false) wf ∙ proof-next (a .start .plain) (a .turn .next)

@@ -8,13 +8,14 @@ use mathlib.Core.List.{List, [], _∷_, _++_}
 use mathlib.Core.Option.{none}
 use lib.ListN.{length, take}
 use Rattle.refusal.specs.Outcome.{answered}
+use Rattle.wire.specs.Proof.{proofSize}
 use Rattle.vector.specs.Vector.{at}
 use Rattle.item.specs.declared.Start.{Start}
 use Rattle.runs.specs.Trip.{Trip}
 use Rattle.calls.specs.Lists.{after, along, always}
-use Rattle.calls.specs.Step.{Lent, Result, isAnswered}
+use Rattle.calls.specs.Step.{Lent, isAnswered}
 use Rattle.calls.specs.World.{Made, World, freshWorld, came, onward}
-use Rattle.calls.specs.Table.{table, fileSize}
+use Rattle.calls.specs.Table.{table}
 use Rattle.calls.specs.Meaning.{question, Kept}
 use Rattle.calls.specs.Statement.{Sized, Decides, CountsHold, Holds, Right}
 use Rattle.calls.specs.QueryState.{verifierTable, Posed, Hearing, freshHearing, heard, hearsOn, DecidesHeard}
@@ -54,6 +55,10 @@ module _ (p : ℕ) where
   abbrev pub AllTake : List ℕ → World → List Made → Type 0
   AllTake cs = always (onward p) (λ w. (j : ℕ) → j < length (w .state .turn .challenges) → at (w .state .turn .challenges) j ≡ at cs j)
 
+  -- answered throughout, and what is asked below
+  abbrev pub AllProper : List ℕ → Trip → World → List Made → Type 0
+  AllProper cs T w ms = AllAnswered w ms × AllSized w ms × ((through : Bool) → AllKept through T w ms) × AllTake cs w ms
+
   -- ALONG A VERIFIER'S LIST, and one beside a run's
   abbrev pub AllDecidedHeard : Hearing → List Posed → Type 0
   AllDecidedHeard = along (hearsOn p) (λ h q. DecidesHeard (h .verifier) (verifierTable p (h .state) (q .query) (q .shown)) (heard p h q))
@@ -87,10 +92,10 @@ pub record Demand3 (p : ℕ) : Type 0 where
   -- every buffer and every proof file is as document 01 says, after every call
   pub answers : (through : Bool) (T : Trip) → Whole T → (f g : List ℕ) (ms : List Made)
       → (let w : World = freshWorld (T .start) f g in AllSized p w ms → AllKept p through T w ms → AllRight p through T w ms)
-  -- A PROPER RUN IS ANSWERED THROUGHOUT, in small mode, in full mode and with a change at every place; and it meets what is asked above
+  -- A PROPER RUN IS ANSWERED THROUGHOUT, in small mode, in full mode and with a change at every place; it meets what is asked above, and
+  -- takes the challenges that it is brought
   pub proper : (T : Trip) → Valid p T → (k : ℕ) (cs bs : List ℕ) (l : Lent) → Brings p T k cs bs l
-      → (let w : World = freshWorld (T .start) (l .f) (l .g) in
-      let ms : List Made = properRun p T k cs bs l in AllAnswered p w ms × AllSized p w ms × ((through : Bool) → AllKept p through T w ms))
+      → AllProper p cs T (freshWorld (T .start) (l .f) (l .g)) (properRun p T k cs bs l)
   -- ALIKE: two lists for the same trip, each in any mode and with any change; where the same challenges were taken and the same is asked,
   -- the same is answered
   pub alike : (T : Trip) → Whole T → (th th′ : Bool) (f g f′ g′ : List ℕ) (ms ns : List Made) (m n : Made)
@@ -114,19 +119,23 @@ pub record Demand3 (p : ℕ) : Type 0 where
       → (let w : World = freshWorld (T .start) f g in
       AllSized p w ms → AllKept p through T w ms → (cs : List ℕ) → length cs ≡ T .start .rounds → AllTake p cs w ms
       → (qs : List Posed) → OpeningsChecked p T w ms (after (hearsOn p) (freshHearing (T .start) cs) qs))
-  -- A PROPER RUN'S VERIFIER has for its own list the L items, the close, n messages, the verdict and a check of each opening, answers it
-  -- throughout and agrees: every message passes, the verdict and every check are yes; and so with the proof file of a plain run, which the run
-  -- writes into any file that has room for it: the L items, the file, the checks
+  -- A PROPER RUN'S VERIFIER has for its own list the L items, the close, n messages, the verdict and a check of each opening, which bring
+  -- what the run gave; it answers them throughout and agrees: every message passes, the verdict and every check are yes; and so with the proof
+  -- file of a plain run, which the run goes on to write into any file that has room for it: the L items, the file, the checks
   pub verifierProper : (T : Trip) → Valid p T → (k : ℕ) (cs bs : List ℕ) (l : Lent) → Brings p T k cs bs l
       → (let w : World = freshWorld (T .start) (l .f) (l .g) in
       let ms : List Made = properRun p T k cs bs l in
       let h : Hearing = freshHearing (T .start) cs in
       (byMessages p T w ms ≡ wholeByMessages p T cs bs)
       × AllAgreed p h (byMessages p T w ms)
-      × (T .start .plain ≡ true → (m : Lent) → fileSize (T .start .rounds) ≤ length (m .file)
-      → (let o : Result = came p (after (onward p) w ms) (writesProof m) in
-      let file : List ℕ = take (fileSize (T .start .rounds)) (o .lent .file) in
-      (isAnswered (o .answer) ≡ true) × (byFile p T w ms file ≡ wholeByFile p T cs bs) × AllAgreed p h (byFile p T w ms file))))
+      × AllBringRun p T w ms h (byMessages p T w ms)
+      × (T .start .plain ≡ true → (m : Lent) → proofSize (T .start .rounds) ≤ length (m .file)
+      → (let longer : List Made = ms ++ writesProof m ∷ [] in
+      let file : List ℕ = take (proofSize (T .start .rounds)) (came p (after (onward p) w ms) (writesProof m) .lent .file) in
+      AllProper p cs T w longer
+      × (byFile p T w ms file ≡ wholeByFile p T cs bs)
+      × AllAgreed p h (byFile p T w ms file)
+      × AllBringRun p T w longer h (byFile p T w ms file))))
   -- A VERIFIER'S VERDICTS, whatever its list: yes for exactly the messages that meet its equations, else no with the first round that
   -- failed, or n
   pub verdicts : (s : Start) → Startable s → (cs : List ℕ) → length cs ≡ s .rounds → (qs : List Posed) → AllJudged p s cs (freshAccount s cs) qs

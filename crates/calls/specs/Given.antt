@@ -6,6 +6,7 @@ use mathlib.Core.Bool.{true}
 use mathlib.Core.List.{List}
 use lib.ListN.{length, take}
 use Rattle.refusal.specs.Outcome.{answered}
+use Rattle.wire.specs.Proof.{proofSize}
 use Rattle.vector.specs.Vector.{at}
 use Rattle.vector.specs.Opening.{opening}
 use Rattle.prover.specs.Reply as reply
@@ -18,7 +19,6 @@ use Rattle.calls.specs.Lists.{somewhere}
 use Rattle.calls.specs.Step.{Result, isAnswered}
 use Rattle.calls.specs.World.{Made, World, came, onward}
 use Rattle.calls.specs.Meaning.{Question, total, roundMessage, openingAt, proof, question, Answer, says}
-use Rattle.calls.specs.Table.{fileSize}
 use Rattle.calls.specs.QueryStep.{Shown, Said, replies, finds, opens}
 use Rattle.calls.specs.QueryState.{VerifierState, Posed, Hearing, heard}
 
@@ -37,7 +37,7 @@ module _ (p : ℕ) where
   -- one wrote a proof, and these are its bytes
   abbrev pub Wrote : World → List Made → List ℕ → Type 0
   Wrote w ms file =
-      somewhere (onward p) (λ w m. Answered proof w m × (take (fileSize (w .state .start .rounds)) (came p w m .lent .file) ≡ file)) w ms
+      somewhere (onward p) (λ w m. Answered proof w m × (take (proofSize (w .state .start .rounds)) (came p w m .lent .file) ≡ file)) w ms
 
   -- A VERIFIER'S CALL beside a run's list
   module _ (T : Trip) (w : World) (ms : List Made) where

@@ -5,7 +5,7 @@ use mathlib.Core.Bool.{Bool, true, cond, not, _&&_, _||_}
 use mathlib.Core.List.{List, [], _∷_, _++_}
 use lib.ListN.{length}
 use Rattle.refusal.specs.Outcome.{Outcome, answered}
-use Rattle.wire.specs.Proof.{proofFile}
+use Rattle.wire.specs.Proof.{proofFile, proofSize}
 use Rattle.vector.specs.Rounds.{size}
 use Rattle.vector.specs.Vector.{Vector, at, dot}
 use Rattle.vector.specs.Fold.{fold, endValue}
@@ -26,7 +26,7 @@ use Rattle.calls.specs.declared.Call.{Call}
 use Rattle.calls.specs.declared.Call.the-variants as call
 use Rattle.calls.specs.Step.{Lent}
 use Rattle.calls.specs.State.{isFull, isChange, State}
-use Rattle.calls.specs.Table.{waits, level, long, taken, completed, fileSize}
+use Rattle.calls.specs.Table.{waits, level, long, taken, completed}
 
 -- an answer or a refusal, with the values beside it
 pub record Answer : Type 0 where
@@ -122,7 +122,7 @@ module _ (p : ℕ) (T : Trip) where
   -- "Fold n is one number, the end value"
   meant cs ends = says (reply.ends (endValue p (at cs) n f) (endValue p (at cs) n g))
   meant cs (openingAt b) = record { answer = answered reply.opening; values = inNinety n (opening p n (at cs) f g b) }
-  meant cs proof = says (reply.written (fileSize n))
+  meant cs proof = says (reply.written (proofSize n))
   meant cs (done a) = says a
 
   abbrev pub meaning : State → Call → Answer

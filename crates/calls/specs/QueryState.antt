@@ -9,7 +9,7 @@ use lib.ListN.{length}
 use Rattle.refusal.specs.Outcome.{Outcome, answered, refused, refusedAt}
 use Rattle.field.specs.Total.{inLimits}
 use Rattle.wire.specs.Header.{marked, versionOf}
-use Rattle.wire.specs.Proof.{proofRounds, proofTotal, proofNumber, allBelow}
+use Rattle.wire.specs.Proof.{proofRounds, proofTotal, proofNumber, allBelow, proofSize}
 use Rattle.vector.specs.Slice.{isNonzero, allReduced}
 use Rattle.verifier.specs.declared.Verifier.{Verifier}
 use Rattle.verifier.specs.Reply as reply
@@ -21,7 +21,7 @@ use Rattle.calls.specs.declared.query.Query.{Query}
 use Rattle.calls.specs.declared.query.Query.the-variants as query
 use Rattle.calls.specs.Step.{isAnswered}
 use Rattle.calls.specs.QueryStep.{Shown, Said, replies, finds, opens, Spoken, ask}
-use Rattle.calls.specs.Table.{Refusal, refusedWith, row, givenRows, fileSize}
+use Rattle.calls.specs.Table.{Refusal, refusedWith, row, givenRows}
 
 pub record VerifierState : Type 0 where
   pub start : Start
@@ -88,7 +88,7 @@ fileRows p n file =
     row (marked 80 10 file) 1
     (row (eqb (versionOf file) 1) 2
     (row (eqb (proofRounds file) n) 3
-    (row (eqb (length file) (fileSize n)) 4
+    (row (eqb (length file) (proofSize n)) 4
     (row (inLimits p (proofTotal file)) 7 (row (allBelow p (proofNumber file) (3 * n + 2)) 11 none)))))
 
 unfoldable pub verifierTable : ℕ → VerifierState → Query → Shown → Option Refusal

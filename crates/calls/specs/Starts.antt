@@ -6,6 +6,7 @@ use mathlib.Core.List.{List}
 use mathlib.Core.Option.{Option, none}
 use lib.Dec.{eqb, leb}
 use lib.ListN.{length}
+use Rattle.refusal.specs.Limit.{maxItems, maxRounds}
 use Rattle.refusal.specs.Outcome.{Outcome, answered}
 use Rattle.vector.specs.Rounds.{roundsOf}
 use Rattle.vector.specs.Slice.{isNonzero, allNonzero}
@@ -21,7 +22,7 @@ use Rattle.calls.specs.Table.{Refusal, row, decided}
 -- L from 1 to 32,768, and n of it
 pub record Startable (s : Start) : Type 0 where
   pub least : 1 ≤ s .items
-  pub most : s .items ≤ 32768
+  pub most : s .items ≤ maxItems
   pub rounds : s .rounds ≡ roundsOf (s .items)
 
 -- a trip of L items
@@ -31,13 +32,13 @@ pub record Whole (T : Trip) : Type 0 where
 
 -- "L outside 1..32,768 .. at a run's start; n above 15"; "challenge, twist, v .. outside 1..P-1; a list .. not as long as n asks"
 abbrev pub countRow : ℕ → Option Refusal → Option Refusal
-countRow items rest = row (leb 1 items && leb items 32768) 3 rest
+countRow items rest = row (leb 1 items && leb items maxItems) 3 rest
 
 abbrev pub listRow : ℕ → ℕ → List ℕ → Option Refusal → Option Refusal
 listRow p n xs rest = row (eqb (length xs) n && allNonzero p n xs) 6 rest
 
 abbrev pub ruleRows : ℕ → ℕ → ℕ → Option Refusal → Option Refusal
-ruleRows p n v rest = row (leb n 15) 3 (row (isNonzero p v) 6 rest)
+ruleRows p n v rest = row (leb n maxRounds) 3 (row (isNonzero p v) 6 rest)
 
 -- refused by these rows, and otherwise the run's fresh record, or the verifier's
 abbrev pub StartsRun : Option Refusal → Start → Outcome Out → Type 0

@@ -6,6 +6,7 @@ use mathlib.Core.List.{_++_}
 use mathlib.Core.Option.{Option, none, some}
 use lib.IntN.{ℤ, natAbs}
 use lib.ListN.{drop}
+use Rattle.wire.specs.Proof.{proofSize}
 use Rattle.vector.specs.Vector.{at}
 use Rattle.vector.specs.Fold.{combine}
 use Rattle.vector.specs.Stack.{entries, ones, onesFrom, levels}
@@ -23,7 +24,7 @@ use Rattle.calls.specs.declared.Call.{Call}
 use Rattle.calls.specs.declared.Call.the-variants as call
 use Rattle.calls.specs.Step.{Lent, Result, isAnswered}
 use Rattle.calls.specs.State.{isFull, State, goesOn}
-use Rattle.calls.specs.Table.{Refusal, refusedWith, waits, passLevel, long, taken, completed, fileSize}
+use Rattle.calls.specs.Table.{Refusal, refusedWith, waits, passLevel, long, taken, completed}
 use Rattle.calls.specs.Meaning.{meaning, proofOfTrip, foldF, foldG, bindsItem, writes}
 
 -- "reading (signed 16-bit two's complement)": what the machine's type lets in
@@ -75,5 +76,5 @@ pub record Right (p : ℕ) (T : Trip) (a : State) (c : Call) (l : Lent) (o : Res
   pub values : o .values ≡ meaning p T a c .values
   pub f : Written (foldF p T (goesOn a c (o .lent))) (writes a c .0) (writes a c .1) (l .f) (o .lent .f)
   pub g : Written (foldG p T (goesOn a c (o .lent))) (writes a c .0) (writes a c .1) (l .g) (o .lent .g)
-  pub proof : c ≡ call.WriteProof → o .lent .file ≡ proofOfTrip p T (a .turn .challenges) ++ drop (fileSize (T .start .rounds)) (l .file)
+  pub proof : c ≡ call.WriteProof → o .lent .file ≡ proofOfTrip p T (a .turn .challenges) ++ drop (proofSize (T .start .rounds)) (l .file)
   pub file : (c ≡ call.WriteProof → ⊥) → o .lent .file ≡ l .file

@@ -1,5 +1,5 @@
 -- Document 01, "Refused, by place", for the calls of a run: over the state and what the call itself is given. No record is read.
-use Prim.Native.Nat.{ℕ, _+_, _*_, _-_, _/_, _^_}
+use Prim.Native.Nat.{ℕ, _+_, _-_, _/_, _^_}
 use mathlib.Core.Bool.{Bool, cond, not, _&&_, _||_}
 use mathlib.Core.Option.{Option, none, some}
 use lib.Dec.{eqb, leb, ltb}
@@ -7,6 +7,7 @@ use lib.ListN.{length}
 use Rattle.refusal.specs.Limit.{maxWeight}
 use Rattle.refusal.specs.Outcome.{Outcome, refused, refusedAt}
 use Rattle.field.specs.Total.{inLimits}
+use Rattle.wire.specs.Proof.{proofSize}
 use Rattle.vector.specs.Rounds.{size}
 use Rattle.vector.specs.Slice.{allReduced, isNonzero}
 use Rattle.item.specs.declared.Start.{Start}
@@ -113,10 +114,6 @@ placeRow a l = row (not (isChange (a .pass .kind)) || bothLong a l) 9 none
 abbrev pub totalFits : ℕ → State → Bool
 totalFits p a = not (waits next.Total (a .turn .next) && a .start .plain) || inLimits p (sumOf (a .pass .items))
 
--- the proof file of n rounds, in bytes
-abbrev pub fileSize : ℕ → ℕ
-fileSize n = 18 + 12 * n
-
 -- THE TABLE: none where the call is answered
 unfoldable pub table : ℕ → State → Call → Lent → Option Refusal
 table p a call.OpenPass l = row (passNext (a .turn .mode) (a .turn .next)) 10 none
@@ -137,4 +134,4 @@ table p a call.Ends l = row (isFull (a .turn .mode) && waits next.Ends (a .turn 
 table p a (call.Opening b) l =
     row (isFull (a .turn .mode) && openingsNext (a .turn .next) (a .start .rounds)) 10 (row (isNonzero p b) 6 (readRows p a l))
 table p a call.WriteProof l =
-    row (a .start .plain && waits next.Openings (a .turn .next)) 10 (row (leb (fileSize (a .start .rounds)) (length (l .file))) 9 none)
+    row (a .start .plain && waits next.Openings (a .turn .next)) 10 (row (leb (proofSize (a .start .rounds)) (length (l .file))) 9 none)

@@ -11,7 +11,7 @@ use lib.ListN.{length}
 use borrow.Author.Tests.{le-leb, leb-true}
 use Rattle.algebra.specs.Mod.{base, residue, addMod, negMod, mulMod}
 use Rattle.algebra.proofs.Congruence.{residue-small, residue-zero}
-use Rattle.refusal.specs.Limit.{maxItems, maxWeight}
+use Rattle.refusal.specs.Limit.{maxItems, maxWeight, maxWorth}
 use Rattle.field.specs.Integer.{image}
 use Rattle.field.specs.Total.{Item, product, plainTotal, plus, limit, inLimits}
 use Rattle.field.proofs.Integers.{image-step, neg-small}
@@ -26,10 +26,10 @@ pub data AllGood : List Item → Type 0 where
   none : AllGood []
   more : {i : Item} {is : List Item} → Good i → AllGood is → AllGood (i ∷ is)
 
-product-bound : (i : Item) → Good i → natAbs (product i) ≤ 47185920
+product-bound : (i : Item) → Good i → natAbs (product i) ≤ maxWorth
 product-bound i g = rw (natAbs-mul (i .reading) (pos (i .weight))) (mul-le-mul (g .reading) (g .weight))
 
-pub total-bound : {is : List Item} → AllGood is → natAbs (plainTotal is) ≤ length is * 47185920
+pub total-bound : {is : List Item} → AllGood is → natAbs (plainTotal is) ≤ length is * maxWorth
 unfolding plainTotal
 total-bound none = omega arith
 total-bound (more {i = i} {is = is} g gs) =

@@ -12,7 +12,7 @@ use Rattle.kernel.specs.declared.Points.{Points}
 use Rattle.kernel.specs.declared.Evals.{Evals}
 use Rattle.kernel.specs.declared.Kernel.{Kernel}
 use Rattle.kernel.specs.declared.Climber.{Climber}
-use Rattle.kernel.specs.Kernel.{Stacks, arrived, topAt, meetsAt, raised, mayRise, climbFrom, climbed, climber₀, evaluatedFrom, pushed, settled, stacksFit, pushedZero, paddingFrom}
+use Rattle.kernel.specs.Kernel.{StackArrays, arrived, topAt, meetsAt, raised, mayRise, climbFrom, climbed, climber₀, evaluatedFrom, pushed, settled, stacksFit, pushedZero, paddingFrom}
 use Rattle.kernel.specs.Change.{left}
 
 -- a guard that must be false for the answer true
@@ -101,7 +101,7 @@ pub climbed-down : (p : ℕ) (cs : List ℕ) (last : ℕ) (ls fv gv : List ℕ) 
 unfolding climbed
 climbed-down p cs last ls fv gv count f g = climbs-down p cs last ls fv gv count (climber₀ count f g)
 
-pick : (b : Bool) (x y : Stacks) → (b ≡ true → x .count ≤ 16) → (b ≡ false → y .count ≤ 16) → cond b x y .count ≤ 16
+pick : (b : Bool) (x y : StackArrays) → (b ≡ true → x .count ≤ 16) → (b ≡ false → y .count ≤ 16) → cond b x y .count ≤ 16
 pick true x y f g = f refl
 pick false x y f g = g refl
 

@@ -14,7 +14,7 @@ use Rattle.kernel.specs.declared.Evals.{Evals}
 use Rattle.kernel.specs.declared.Kernel.{Kernel}
 use Rattle.kernel.specs.declared.Sums.{Sums}
 use Rattle.kernel.specs.declared.Climber.{Climber}
-use Rattle.kernel.specs.Kernel.{Stacks, stacksIn, sumsIn, kernelWith, evalsOf, stepped, arrived, noPoints, raised, mayRise, climbFrom, evaluatedFrom, climber₀, climbed, evaluated, settled, sumsAfter, fits, climberIn, settledIn, sumsWith, evalsIn, entered, streamed}
+use Rattle.kernel.specs.Kernel.{StackArrays, stacksIn, sumsIn, kernelWith, evalsOf, stepped, arrived, noPoints, raised, mayRise, climbFrom, evaluatedFrom, climber₀, climbed, evaluated, settled, sumsAfter, fits, climberIn, settledIn, sumsWith, evalsIn, entered, streamed}
 use Rattle.kernel.specs.Change.{left, placeAfter, putIn, Placed, placedOf, placedAt, placed, placedAll}
 use Rattle.kernel.proofs.KernelSteps.{stays, rises, evaluation-stays, evaluation-rises, fits-so}
 
@@ -183,7 +183,7 @@ module _ (p : ℕ) (cs : List ℕ) (last : ℕ) where
 
   module _ (low : last ≤ 15) (fl fv gl gv : List ℕ) (count : ℕ) (room : count ≤ 16) (m : ℕ) (some : 0 < m) where
     -- the next pair of two slices
-    pub next-pair : (at : Points) (f g : Vector) (sums : Sums) (evals : Evals) (c : Climber) (s : Stacks) (sums′ : Sums) (evals′ : Evals)
+    pub next-pair : (at : Points) (f g : Vector) (sums : Sums) (evals : Evals) (c : Climber) (s : StackArrays) (sums′ : Sums) (evals′ : Evals)
         → c ≡ climbed p cs last fl fv gv count (f (m - 1)) (g (m - 1))
         → s ≡ settled fl fv gl gv last c
         → sums′ ≡ sumsAfter p last fl fv gv sums c
@@ -202,7 +202,7 @@ module _ (p : ℕ) (cs : List ℕ) (last : ℕ) where
         k = kernelWith (stacksIn fl fv gl gv count) sums evals
 
     -- the next pair of a change pass
-    pub next-place : (size t : ℕ) (a b : Vector) (sums : Sums) (evals : Evals) (f g f′ g′ : List ℕ) (c : Climber) (s : Stacks)
+    pub next-place : (size t : ℕ) (a b : Vector) (sums : Sums) (evals : Evals) (f g f′ g′ : List ℕ) (c : Climber) (s : StackArrays)
         → c ≡ climbed p cs last fl fv gv count (a (m - 1)) (b (m - 1))
         → s ≡ left last fl fv gl gv c
         → f′ ≡ putIn size last t (c .level) (c .f) f

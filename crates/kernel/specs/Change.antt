@@ -7,15 +7,15 @@ use lib.ListN.{set}
 use Rattle.vector.specs.Vector.{Vector}
 use Rattle.kernel.specs.declared.Kernel.{Kernel}
 use Rattle.kernel.specs.declared.Climber.{Climber}
-use Rattle.kernel.specs.Kernel.{Stacks, stacksIn, kernelWith, sumsIn, pushed, fits, climberIn}
+use Rattle.kernel.specs.Kernel.{StackArrays, stacksIn, kernelWith, sumsIn, pushed, fits, climberIn}
 
 -- a pair that comes to the last level is an item of the current fold, and goes; any other is pushed:
 -- "the change-over pass lies outside this count"
-unfoldable pub left : ℕ → List ℕ → List ℕ → List ℕ → List ℕ → Climber → Stacks
+unfoldable pub left : ℕ → List ℕ → List ℕ → List ℕ → List ℕ → Climber → StackArrays
 left last flevels fvalues glevels gvalues c =
     cond (eqb (c .level) last) (stacksIn flevels fvalues glevels gvalues (c .count)) (pushed flevels fvalues glevels gvalues c)
 
-abbrev pub leftIn : ℕ → Kernel → Climber → Stacks
+abbrev pub leftIn : ℕ → Kernel → Climber → StackArrays
 leftIn last k c = left last (k .flevels) (k .fvalues) (k .glevels) (k .gvalues) c
 
 -- the place of a fold of this size that a pair completes, where t pairs came before it

@@ -13,22 +13,22 @@ use Rattle.kernel.specs.declared.Kernel.{Kernel}
 use Rattle.kernel.specs.declared.Sums.{Sums}
 use Rattle.kernel.specs.declared.Climber.{Climber}
 
--- The two stacks.
-pub record Stacks : Type 0 where
+-- The two stacks, in arrays.
+pub record StackArrays : Type 0 where
   pub flevels : List ℕ
   pub fvalues : List ℕ
   pub glevels : List ℕ
   pub gvalues : List ℕ
   pub count : ℕ
 
-abbrev pub stacksIn : List ℕ → List ℕ → List ℕ → List ℕ → ℕ → Stacks
+abbrev pub stacksIn : List ℕ → List ℕ → List ℕ → List ℕ → ℕ → StackArrays
 stacksIn flevels fvalues glevels gvalues count =
     record { flevels = flevels; fvalues = fvalues; glevels = glevels; gvalues = gvalues; count = count }
 
 abbrev pub sumsIn : Kernel → Sums
 sumsIn k = record { even = k .even; cross = k .cross; odd = k .odd }
 
-abbrev pub kernelWith : Stacks → Sums → Evals → Kernel
+abbrev pub kernelWith : StackArrays → Sums → Evals → Kernel
 kernelWith s sums evals =
     record {
       flevels = s .flevels;
@@ -126,7 +126,7 @@ summed p s c f g =
 
 module _ (flevels fvalues glevels gvalues : List ℕ) where
   -- no pass meets a full stack
-  abbrev pub pushed : Climber → Stacks
+  abbrev pub pushed : Climber → StackArrays
   pushed c =
       cond (ltb 15 (c .count)) (stacksIn flevels fvalues glevels gvalues (c .count))
       (record {
@@ -138,7 +138,7 @@ module _ (flevels fvalues glevels gvalues : List ℕ) where
       })
 
   -- pairs that meet at the last level go; any other is pushed
-  unfoldable pub settled : ℕ → Climber → Stacks
+  unfoldable pub settled : ℕ → Climber → StackArrays
   settled last c = cond (meetsAt last flevels c) (stacksIn flevels fvalues glevels gvalues (c .count - 1)) (pushed c)
 
 -- with their products
@@ -157,7 +157,7 @@ fits last k = stacksFit last (k .fcount) (k .gcount)
 abbrev pub climberIn : ℕ → List ℕ → ℕ → Kernel → ℕ → ℕ → Climber
 climberIn p challenges last k f g = climbed p challenges last (k .flevels) (k .fvalues) (k .gvalues) (k .fcount) f g
 
-abbrev pub settledIn : ℕ → Kernel → Climber → Stacks
+abbrev pub settledIn : ℕ → Kernel → Climber → StackArrays
 settledIn last k c = settled (k .flevels) (k .fvalues) (k .glevels) (k .gvalues) last c
 
 abbrev pub sumsWith : ℕ → ℕ → Kernel → Climber → Sums

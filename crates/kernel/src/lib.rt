@@ -133,7 +133,7 @@ pub fn enter_all(
     }
 }
 
-// The pairs of an opening pass.
+// The pairs of any pass that was asked for; an opening's are evaluated as well.
 pub fn evaluate_all(
     p: u32,
     challenges: [u32; 15],

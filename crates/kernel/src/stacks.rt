@@ -10,7 +10,7 @@ use field::modular;
 pub(crate) fn stacks_fit(last: u32, fcount: usize, gcount: usize) -> bool
     ensures { λ r. ⌜ r ≡ stacksFit last fcount gcount ⌝ }
 {
-    if last > 15 {
+    if last > refusal::MAX_ROUNDS {
         return false;
     }
     if fcount > 16 {

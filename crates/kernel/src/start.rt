@@ -69,7 +69,7 @@ pub fn padding_below(taken: u32, height: u32) -> Kernel
 pub fn padding(taken: u32, last: u32) -> Kernel
     ensures { λ r. ⌜ r ≡ paddingKernel taken last ⌝ }
 {
-    if last > 15 {
+    if last > refusal::MAX_ROUNDS {
         return empty();
     }
     padding_below(taken, last + 1)

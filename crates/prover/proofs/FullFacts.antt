@@ -8,6 +8,7 @@ use lib.Dec.{eqb, leb, ltb}
 use lib.IntN.{natAbs}
 use lib.ListN.{length}
 use borrow.Author.Tests.{eqb-true, leb-true, ltb-true}
+use Rattle.refusal.specs.Limit.{maxWorth}
 use Rattle.field.specs.Total.{inLimits}
 use Rattle.vector.specs.Rounds.{roundsOf, size}
 use Rattle.vector.proofs.Rounds.{size-halves, size-last}
@@ -34,7 +35,7 @@ pub record Tests (p : ℕ) (r : Run) (s : Pass) : Type 0 where
   pub fits : roundFits (r .next) (r .round) (r .start .rounds) ≡ true
   pub total : inLimits p (r .total) ≡ true
   pub kind : kindFits (s .kind) (r .mode) (r .next) ≡ true
-  pub rest : cond (ltb (r .start .items) (s .taken)) false (cond (eqb (s .fcount) (s .gcount)) (cond (ltb 15 (s .fcount)) false (leb (natAbs (s .total)) (s .taken * 47185920))) false) ≡ true
+  pub rest : cond (ltb (r .start .items) (s .taken)) false (cond (eqb (s .fcount) (s .gcount)) (cond (ltb 15 (s .fcount)) false (leb (natAbs (s .total)) (s .taken * maxWorth))) false) ≡ true
 
 pub tests : (p : ℕ) (r : Run) (s : Pass) → wellFormed p r s ≡ true → Tests p r s
 unfolding wellFormed runFormed passFormed

@@ -15,8 +15,7 @@ use Rattle.phase.specs.Cases.{isOpen, isChange}
 use Rattle.prover.specs.declared.Run.{Run}
 use Rattle.prover.specs.declared.Pass.{Pass}
 use Rattle.prover.specs.declared.Step.{Step}
-use Rattle.prover.specs.declared.Answer.the-variants as answer
-use Rattle.prover.specs.Records.{Out, answeredStep, refusedStep, refusedAtStep}
+use Rattle.prover.specs.Records.{Out, refusedStep, refusedAtStep}
 use Rattle.prover.specs.Level.{foldSize}
 use Rattle.prover.specs.WellFormed.{wellFormed}
 use Rattle.prover.specs.Take.{nextIndex, takes}
@@ -33,7 +32,7 @@ withItem (refusedAt k i) rest = refusedAt k i
 
 -- the step of an item that its own checks refuse; an item that they take is not handed to it
 abbrev pub refusedParts : Run → Pass → Parts → Step
-refusedParts r s (parts.Item x) = answeredStep r s answer.Taken
+refusedParts r s (parts.Item x) = refusedStep r s number.order
 refusedParts r s (parts.Refused k) = refusedStep r s k
 refusedParts r s (parts.RefusedAt k i) = refusedAtStep r s k i
 

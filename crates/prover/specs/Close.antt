@@ -106,8 +106,8 @@ abbrev pub totalFits : ℕ → Run → Pass → Bool
 totalFits p r s = cond (isTotal (r .next)) (cond (r .start .plain) (inLimits p (s .total)) true) true
 
 -- the three numbers of message i, from place 3i on
-abbrev pub keptMessage : List ℕ → ℕ → ℕ → ℕ → ℕ → List ℕ
-keptMessage messages i even cross odd = set (set (set messages (3 * i) even) (3 * i + 1) cross) (3 * i + 2) odd
+abbrev pub messagesWith : List ℕ → ℕ → ℕ → ℕ → ℕ → List ℕ
+messagesWith messages i even cross odd = set (set (set messages (3 * i) even) (3 * i + 1) cross) (3 * i + 2) odd
 
 abbrev pub withMessage : Run → ℕ → ℕ → ℕ → Run
 withMessage r even cross odd =
@@ -117,7 +117,7 @@ withMessage r even cross odd =
       next = Challenge;
       round = r .round;
       challenges = r .challenges;
-      messages = keptMessage (r .messages) (r .round) even cross odd;
+      messages = messagesWith (r .messages) (r .round) even cross odd;
       total = r .total;
       fend = r .fend;
       gend = r .gend;

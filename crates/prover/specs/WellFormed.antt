@@ -3,7 +3,7 @@ use Prim.Native.Nat.{ℕ, _*_}
 use mathlib.Core.Bool.{Bool, false, cond}
 use lib.Dec.{eqb, leb, ltb}
 use lib.IntN.{natAbs}
-use Rattle.refusal.specs.Limit.{maxItems, maxRounds}
+use Rattle.refusal.specs.Limit.{maxItems, maxRounds, maxWorth}
 use Rattle.field.specs.Total.{inLimits}
 use Rattle.vector.specs.Rounds.{roundsOf}
 use Rattle.phase.specs.Order.{roundFits, kindFits}
@@ -18,12 +18,12 @@ runFormed p r =
     (cond (roundFits (r .next) (r .round) (r .start .rounds)) (inLimits p (r .total)) false)
     false))
 
--- 47,185,920 is the largest product of a reading and a weight
+-- the total is one that so many items can have
 unfoldable pub passFormed : Run → Pass → Bool
 passFormed r s =
     cond (kindFits (s .kind) (r .mode) (r .next))
     (cond (ltb (r .start .items) (s .taken)) false
-    (cond (eqb (s .fcount) (s .gcount)) (cond (ltb maxRounds (s .fcount)) false (leb (natAbs (s .total)) (s .taken * 47185920))) false))
+    (cond (eqb (s .fcount) (s .gcount)) (cond (ltb maxRounds (s .fcount)) false (leb (natAbs (s .total)) (s .taken * maxWorth))) false))
     false
 
 unfoldable pub wellFormed : ℕ → Run → Pass → Bool

@@ -152,7 +152,8 @@ fn refuse_parts(run: Run, pass: Pass, parts: Parts) -> Step
     ensures { λ r. ⌜ r ≡ refusedParts run pass parts ⌝ }
 {
     match parts {
-        Parts::Item(_) => answered(run, pass, Answer::Taken),
+        // Not reached: the caller has the item.
+        Parts::Item(_) => refuse(run, pass, refusal::ORDER),
         Parts::Refused(number) => refuse(run, pass, number),
         Parts::RefusedAt(number, index) => refuse_at(run, pass, number, index),
     }

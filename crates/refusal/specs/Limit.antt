@@ -14,6 +14,10 @@ maxRounds = 15
 abbrev pub maxWeight : ℕ
 maxWeight = 1440
 
+-- the largest product of a reading and a weight: 32,768 times 1,440
+abbrev pub maxWorth : ℕ
+maxWorth = 47185920
+
 -- "A plain total is a signed whole number from -1,073,741,823 to 1,073,741,823"
 abbrev pub maxTotal : ℕ
 maxTotal = 1073741823

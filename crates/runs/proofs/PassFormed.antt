@@ -7,6 +7,7 @@ use native.Mathlib.Omega.{arith}
 use lib.IntN.{natAbs}
 use lib.ListN.{length}
 use borrow.Author.Tests.{le-leb, le-ltb, eq-eqb}
+use Rattle.refusal.specs.Limit.{maxWorth}
 use Rattle.kernel.specs.Kernel.{emptyKernel}
 use Rattle.phase.specs.declared.Mode.{Mode}
 use Rattle.phase.specs.declared.Mode.the-variants.{Small, Full}
@@ -54,11 +55,11 @@ change-later Small Openings h = refl
 change-later Full n h = absurd (true≢false (sym h))
 
 formed-by : (p : ℕ) (r : Run) (s : Pass) → runFormed p r ≡ true → kindFits (s .kind) (r .mode) (r .next) ≡ true → s .taken ≤ r .start .items
-    → s .fcount ≡ s .gcount → s .fcount ≤ 15 → natAbs (s .total) ≤ s .taken * 47185920 → wellFormed p r s ≡ true
+    → s .fcount ≡ s .gcount → s .fcount ≤ 15 → natAbs (s .total) ≤ s .taken * maxWorth → wellFormed p r s ≡ true
 unfolding wellFormed passFormed
 formed-by p r s h fits within counts room bound =
     rw
-    (h, fits, le-ltb (r .start .items) (s .taken) within, eq-eqb (s .fcount) (s .gcount) counts, le-ltb 15 (s .fcount) room, le-leb (natAbs (s .total)) (s .taken * 47185920) bound)
+    (h, fits, le-ltb (r .start .items) (s .taken) within, eq-eqb (s .fcount) (s .gcount) counts, le-ltb 15 (s .fcount) room, le-leb (natAbs (s .total)) (s .taken * maxWorth) bound)
 
 module _ (p : ℕ) (r : Run) (b : ℕ) (formed : runFormed p r ≡ true) where
   counts : (k : Kind) → kindFits k (r .mode) (r .next) ≡ true → (xs : List Given) → length xs ≤ r .start .items → (k ≡ Shut → xs ≡ [])

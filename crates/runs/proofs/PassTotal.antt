@@ -7,6 +7,7 @@ use native.Mathlib.Nat.{mul-le-mul}
 use native.Mathlib.Omega.{arith}
 use lib.IntN.{pos, natAbs}
 use lib.ListN.{length}
+use Rattle.refusal.specs.Limit.{maxWorth}
 use Rattle.field.specs.Total.{plus}
 use Rattle.field.proofs.Signed.{natAbs-add, natAbs-mul}
 use Rattle.field.proofs.Totals.{plus-exact}
@@ -22,11 +23,11 @@ use Rattle.runs.specs.Passes.{passAfter}
 use Rattle.runs.specs.Items.{Within, AllWithin}
 use Rattle.runs.proofs.PassRecord.{takes-total, takes-none, opened-new}
 
-worth-bound : (x : Given) → Within x → natAbs (worth x) ≤ 47185920
+worth-bound : (x : Given) → Within x → natAbs (worth x) ≤ maxWorth
 worth-bound (Reading z w) h = rw (natAbs-mul z (pos w)) (mul-le-mul (h .0) (h .1))
 worth-bound (Numbers a b) h = omega arith
 
-pub sum-bound : (xs : List Given) → AllWithin xs → natAbs (sumOf xs) ≤ length xs * 47185920
+pub sum-bound : (xs : List Given) → AllWithin xs → natAbs (sumOf xs) ≤ length xs * maxWorth
 unfolding sumOf AllWithin
 sum-bound [] h = omega arith
 sum-bound (x ∷ xs) h = omega (arith, sum-bound xs (h .1), worth-bound x (h .0), natAbs-add (sumOf xs) (worth x))
@@ -55,9 +56,9 @@ module _ (p : ℕ) (r : Run) (k : Kind) (b : ℕ) where
   after-none e [] = opened-total
   after-none e (x ∷ xs) = takes-none p r (passAfter p r k b xs) (contributes p (r .start) x) [] [] e ∙ after-none e xs
 
-  pub after-bound : (xs : List Given) → AllWithin xs → length xs ≤ 32768 → natAbs (passAfter p r k b xs .total) ≤ length xs * 47185920
+  pub after-bound : (xs : List Given) → AllWithin xs → length xs ≤ 32768 → natAbs (passAfter p r k b xs .total) ≤ length xs * maxWorth
   after-bound xs h few = by (isTotal (r .next)) refl
     where
-      by : (t : Bool) → isTotal (r .next) ≡ t → natAbs (passAfter p r k b xs .total) ≤ length xs * 47185920
+      by : (t : Bool) → isTotal (r .next) ≡ t → natAbs (passAfter p r k b xs .total) ≤ length xs * maxWorth
       by true e = rw (after-total e xs h few) (sum-bound xs h)
       by false e = rw (after-none e xs) (omega arith)

@@ -2,6 +2,7 @@
 ghost use mathlib.Core.Path.{_≡_};
 ghost use Prim.Native.Nat.{min, _%_};
 ghost use Rattle.algebra.specs.Mod.{mulMod};
+ghost use Rattle.refusal.specs.Limit.{maxRounds};
 ghost use Rattle.vector.specs.Vector.{at, weight};
 ghost use Rattle.vector.specs.Twist.{lowWeights, weightsFrom, twistsOf};
 ghost use mathlib.Core.Bool.{cond};
@@ -9,13 +10,13 @@ ghost use lib.Dec.{eqb};
 
 // Bit k of the index, the lowest first, with place k.
 fn weight_in(p: u32, cs: &[u32; 15], n: u32, index: u32) -> u32
-    ensures { λ r. ⌜ r ≡ weight p (at (now (cs .entry))) (min n 15) index ⌝ }
+    ensures { λ r. ⌜ r ≡ weight p (at (now (cs .entry))) (min n maxRounds) index ⌝ }
 {
     let mut product = field::modular::reduce(p, 1);
     let mut rest = index;
     let mut k: u32 = 0;
     while k < n {
-        if 15 <= k {
+        if refusal::MAX_ROUNDS <= k {
             break;
         }
         if rest % 2 == 1 {
@@ -92,7 +93,7 @@ pub fn powers(p: u32, v: u32, n: u32) -> [u32; 15]
     let mut square = field::modular::reduce(p, v as u64);
     let mut j: u32 = 0;
     while j < n {
-        if 15 <= j {
+        if refusal::MAX_ROUNDS <= j {
             break;
         }
         out[j as usize] = square;

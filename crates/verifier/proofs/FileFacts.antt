@@ -14,7 +14,7 @@ use Rattle.refusal.specs.Outcome.{Outcome, answered, refused}
 use Rattle.field.specs.Integer.{image}
 use Rattle.vector.specs.Message.{Message, passes}
 use Rattle.wire.specs.Found.{found, nothing}
-use Rattle.wire.specs.Proof.{Head, Ends, proofRounds, proofNumber, proofSize, proofMessage, proofEnds, readProofOf}
+use Rattle.wire.specs.Proof.{Head, Ends, proofRounds, proofNumber, proofSize, messageEnd, proofMessage, proofEnds, readProofOf}
 use Rattle.wire.specs.Proof as wire
 use Rattle.wire.proofs.ProofOf.{own-good}
 use Rattle.wire.proofs.RoundTrip.{found-same}
@@ -76,18 +76,18 @@ pub not-nothing : {A : Type 0} {x : A} → nothing ≡ found x → ⊥
 not-nothing e = let z : _≡_ {A = ℕ} 0 1 = cc in omega arith
 
 -- the message of a round that the file has
-pub message-there : (file : List ℕ) (k : ℕ) → 22 + 12 * k ≤ length file
+pub message-there : (file : List ℕ) (k : ℕ) → messageEnd k ≤ length file
     → proofMessage file k ≡ found (record { even = fileMessage file k .even; cross = fileMessage file k .cross; odd = fileMessage file k .odd })
 unfolding proofMessage
-message-there file k h = rw (le-leb (22 + 12 * k) (length file) h)
+message-there file k h = rw (le-leb (messageEnd k) (length file) h)
 
-pub message-read : (file : List ℕ) (k : ℕ) {even cross odd : ℕ} → 22 + 12 * k ≤ length file
+pub message-read : (file : List ℕ) (k : ℕ) {even cross odd : ℕ} → messageEnd k ≤ length file
     → found (record { even = even; cross = cross; odd = odd }) ≡ proofMessage file k → messageOf3 even cross odd ≡ fileMessage file k
 message-read file k h e =
     ap (λ (m : wire.Message). messageOf3 (m .even) (m .cross) (m .odd)) (found-same (e ∙ message-there file k h))
 
 -- the end values of a file for this verifier
-module _ (v : Verifier) (file : List ℕ) (own : proofRounds file ≡ v .start .rounds) (long : 18 + 12 * v .start .rounds ≤ length file) where
+module _ (v : Verifier) (file : List ℕ) (own : proofRounds file ≡ v .start .rounds) (long : proofSize (v .start .rounds) ≤ length file) where
   pub ends-there : proofEnds file ≡ found (record { f = proofNumber file (3 * v .start .rounds); g = proofNumber file (3 * v .start .rounds + 1) })
   unfolding proofEnds
   ends-there =
@@ -155,7 +155,7 @@ module _ (p : ℕ) (v : Verifier) (file : List ℕ) where
     pub first : v .round ≡ 0
     pub few : v .start .rounds ≤ 15
     pub own : proofRounds file ≡ v .start .rounds
-    pub long : 18 + 12 * v .start .rounds ≤ length file
+    pub long : proofSize (v .start .rounds) ≤ length file
 
   pub file-ready : passOpen v ≡ true → {head : Head} → answered head ≡ readProofOf p (v .start .rounds) file → Ready
   file-ready o {head} e =

@@ -1,9 +1,9 @@
 // The proof file: a close with its total, every message, the end values and the verdict in one call.
 ghost use mathlib.Core.Path.{_≡_};
-ghost use Prim.Native.Nat.{_+_, _*_, _≤_, _<_};
+ghost use Prim.Native.Nat.{_≤_, _<_};
 ghost use lib.ListN.{length};
 ghost use Rattle.refusal.specs.Outcome.{answered, refused};
-ghost use Rattle.wire.specs.Proof.{proofRounds, proofOf};
+ghost use Rattle.wire.specs.Proof.{proofRounds, proofSize, messageEnd, proofOf};
 ghost use Rattle.verifier.specs.Records.{refusalOf};
 ghost use Rattle.verifier.specs.Claims.{failedNow};
 ghost use Rattle.verifier.specs.ProofFile.{fileMessage, hearsNext, hearsFirst, compares, judges, judgedIn, leavesJudged};
@@ -38,7 +38,7 @@ pub(crate) fn refuse_read(v: Verifier, read: ProofRead) -> Judged
 
 // One message of the file more; after a no, none is heard.
 fn hear_next(p: u32, v: Verifier, file: &[u8], round: u32) -> Verifier
-    requires { ⌜ (v .round < 15) × (22 + 12 * round ≤ length (now file)) ⌝ }
+    requires { ⌜ (v .round < 15) × (messageEnd round ≤ length (now file)) ⌝ }
     ensures { λ r. ⌜ r ≡ hearsNext p v (fileMessage (now (file .entry)) round) ⌝ }
 {
     if v.failed {
@@ -53,7 +53,7 @@ fn hear_next(p: u32, v: Verifier, file: &[u8], round: u32) -> Verifier
 }
 
 fn hear_all(p: u32, v: Verifier, file: &[u8]) -> Verifier
-    requires { ⌜ (v .round ≡ 0) × (v .start .rounds ≤ 15) × (18 + 12 * v .start .rounds ≤ length (now file)) ⌝ }
+    requires { ⌜ (v .round ≡ 0) × (v .start .rounds ≤ 15) × (proofSize (v .start .rounds) ≤ length (now file)) ⌝ }
     ensures { λ r. ⌜ r ≡ hearsFirst p v (fileMessage (now (file .entry))) (v .start .rounds) ⌝ }
 {
     let start = v.start;
@@ -75,7 +75,7 @@ fn fail(v: Verifier) -> Verifier
 
 // The end values of the file must be the verifier's own.
 fn compare(v: Verifier, file: &[u8]) -> Verifier
-    requires { ⌜ (proofRounds (now file) ≡ v .start .rounds) × (18 + 12 * v .start .rounds ≤ length (now file)) ⌝ }
+    requires { ⌜ (proofRounds (now file) ≡ v .start .rounds) × (proofSize (v .start .rounds) ≤ length (now file)) ⌝ }
     ensures { λ r. ⌜ r ≡ compares v (now (file .entry)) ⌝ }
 {
     let EndsRead::Ends(f, g) = wire::proof::proof_ends(file) else {
@@ -92,7 +92,7 @@ fn compare(v: Verifier, file: &[u8]) -> Verifier
 }
 
 pub(crate) fn judge(p: u32, v: Verifier, total: i64, file: &[u8]) -> Judged
-    requires { ⌜ (v .round ≡ 0) × (v .start .rounds ≤ 15) × (proofRounds (now file) ≡ v .start .rounds) × (18 + 12 * v .start .rounds ≤ length (now file)) ⌝ }
+    requires { ⌜ (v .round ≡ 0) × (v .start .rounds ≤ 15) × (proofRounds (now file) ≡ v .start .rounds) × (proofSize (v .start .rounds) ≤ length (now file)) ⌝ }
     ensures { λ r. ⌜ judgedIn r ≡ leavesJudged v (answered (judges p v total (now (file .entry)))) ⌝ }
 {
     let claim = field::integer::image(p, total);

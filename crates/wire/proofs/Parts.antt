@@ -9,7 +9,7 @@ use lib.Seq.{take-nil, take-take, drop-drop, length-take-le}
 use borrow.Author.Tests.{lt-ltb, le-leb}
 use Rattle.wire.specs.Number.{num, numAt}
 use Rattle.wire.specs.Found.{found}
-use Rattle.wire.specs.Proof.{Head, proofRounds, proofNumber, proofSize, partIn, proofRound, partMessage, proofEnds}
+use Rattle.wire.specs.Proof.{Head, proofRounds, proofNumber, proofSize, messageEnd, partIn, proofRound, partMessage, proofEnds}
 use Rattle.wire.proofs.ProofSays.{GoodProof, proof-said}
 use Rattle.refusal.specs.Outcome.{answered}
 
@@ -23,7 +23,7 @@ in-part : (file : List ℕ) (a j m : ℕ) → 4 ≤ m → numAt 4 (take (j + m) 
 unfolding numAt
 in-part file a j m h = ap num (rw (drop-take j m (drop a file), take-take 4 m, drop-drop j a file))
 
-message : (file : List ℕ) (r : ℕ) → 22 + 12 * r ≤ length file
+message : (file : List ℕ) (r : ℕ) → messageEnd r ≤ length file
     → partMessage (take 12 (drop (10 + 12 * r) file))
     ≡ found (record { even = proofNumber file (3 * r); cross = proofNumber file (3 * r + 1); odd = proofNumber file (3 * r + 2) })
 unfolding partMessage

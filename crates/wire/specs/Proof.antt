@@ -51,6 +51,10 @@ proofNumber file k = numAt 4 file (10 + 4 * k)
 abbrev pub proofSize : ℕ → ℕ
 proofSize n = 18 + 12 * n
 
+-- the byte after the message of a round
+abbrev pub messageEnd : ℕ → ℕ
+messageEnd round = 22 + 12 * round
+
 -- the first m of some numbers are field numbers
 unfoldable pub allBelow : ℕ → (ℕ → ℕ) → ℕ → Bool
 allBelow p numbers zero = true
@@ -89,7 +93,7 @@ partMessage part =
 -- the message of a round, where the file has it
 unfoldable pub proofMessage : List ℕ → ℕ → Found Message
 proofMessage file round =
-    foundIf (leb (22 + 12 * round) (length file))
+    foundIf (leb (messageEnd round) (length file))
     (record {
       even = proofNumber file (3 * round);
       cross = proofNumber file (3 * round + 1);

@@ -6,7 +6,7 @@ use Rattle.vector.specs.Vector.{at as item}
 use borrow.Author.Needs.{needs}
 use Rattle.kernel.specs.declared.Climber.{Climber}
 use mathlib.Core.Bool.{true}
-use Rattle.kernel.specs.Kernel.{Stacks, stacksIn, kernelWith, evalsOf, streamed}
+use Rattle.kernel.specs.Kernel.{StackArrays, stacksIn, kernelWith, evalsOf, streamed}
 use Rattle.kernel.proofs.KernelSteps.{fits-facts, climbed-down, settles-in}
 use Rattle.kernel.proofs.KernelTurns.{kernel-parts, streamed-off, streamed-refused, stream-end, next-pair}
 use Rattle.kernel.proofs.evaluate_all.Statement.{statement}
@@ -103,7 +103,7 @@ loop-again c =
     let x = c .before .before .before .before .before .before .climb-evaluating .result in
     let low : x .count ≤ 16 = omega (arith, l .inv .1, ap (λ (x : Climber). x .count) (c .before .before .before .before .before .before .climb-evaluating .ensures .0), climbed-down (s .p) (s .t2) (s .last) (l .flevels) (l .fvalues) (l .gvalues) (l .count) (getD (s .f .now) (l .i - 1) 0) (getD (s .g .now) (l .i - 1) 0)) in (
       l .inv .0,
-      omega (arith, ap (λ (x : Stacks). x .count) (c .before .settle .ensures .0), settles-in (s .last) (l .flevels) (l .fvalues) (l .glevels) (l .gvalues) x low),
+      omega (arith, ap (λ (x : StackArrays). x .count) (c .before .settle .ensures .0), settles-in (s .last) (l .flevels) (l .fvalues) (l .glevels) (l .gvalues) x low),
       omega (arith, l .inv .2),
       omega (arith, l .inv .3),
       l .inv .4,

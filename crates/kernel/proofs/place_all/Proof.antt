@@ -5,7 +5,7 @@ use lib.ListN.{length, getD}
 use Rattle.vector.specs.Vector.{at as item}
 use borrow.Author.Needs.{needs}
 use Rattle.kernel.specs.declared.Climber.{Climber}
-use Rattle.kernel.specs.Kernel.{Stacks, stacksIn, sumsIn, kernelWith}
+use Rattle.kernel.specs.Kernel.{StackArrays, stacksIn, sumsIn, kernelWith}
 use Rattle.kernel.specs.Change.{placedOf, placedAll}
 use Rattle.kernel.proofs.KernelSteps.{fits-facts, climbed-down, leaves-in}
 use Rattle.kernel.proofs.KernelTurns.{kernel-parts, placed-refused, place-end, next-place, put-length}
@@ -101,7 +101,7 @@ loop-again c =
     let x = c .before .before .before .before .before .before .before .before .before .before .before .before .climb .result in
     let low : x .count ≤ 16 = omega (arith, l .inv .1, ap (λ (x : Climber). x .count) (c .before .before .before .before .before .before .before .before .before .before .before .before .climb .ensures), climbed-down (s .p) (s .t2) (s .last) (l .flevels) (l .fvalues) (l .gvalues) (l .count) (getD (s .a .now) (l .i - 1) 0) (getD (s .b .now) (l .i - 1) 0)) in (
       l .inv .0,
-      omega (arith, ap (λ (x : Stacks). x .count) (c .leave .ensures), leaves-in (s .last) (l .flevels) (l .fvalues) (l .glevels) (l .gvalues) x low),
+      omega (arith, ap (λ (x : StackArrays). x .count) (c .leave .ensures), leaves-in (s .last) (l .flevels) (l .fvalues) (l .glevels) (l .gvalues) x low),
       omega (arith, l .inv .2),
       omega (arith, l .inv .3),
       next-place (s .p) (s .t2) (s .last) (l .inv .0) (l .flevels) (l .fvalues) (l .glevels) (l .gvalues) (l .count) (l .inv .1) (l .i) (c .before .before .before .before .before .before .before .before .before .before .before .before .before .before .before .before .before .before .before .loop-test .taken)
