@@ -1,0 +1,43 @@
+// Numbers in two's complement: a cast would ask that the number is in the lower half.
+ghost use mathlib.Core.Path.{_≡_};
+ghost use Prim.Native.Nat.{_+_, _*_, _<_};
+ghost use Rattle.wire.specs.Number.{signed};
+
+// An item of a plain run.
+pub enum Plain {
+    Item(i16, u16),
+    Bad,
+}
+
+// The reading in sixteen bits, and the weight.
+pub fn item(reading: u32, weight: u32) -> Plain {
+    if reading > 65535 {
+        return Plain::Bad;
+    }
+    if weight > 65535 {
+        return Plain::Bad;
+    }
+    Plain::Item(signed16(reading), weight as u16)
+}
+
+fn signed16(v: u32) -> i16
+    requires { ⌜ v < 65536 ⌝ }
+    ensures { λ r. ⌜ r ≡ signed 2 v ⌝ }
+{
+    if v < 32768 {
+        v as i16
+    } else {
+        -1 - ((65535 - v) as i16)
+    }
+}
+
+pub fn signed64(low: u32, high: u32) -> i64
+    ensures { λ r. ⌜ r ≡ signed 8 (high * 4294967296 + low) ⌝ }
+{
+    let bits = (high as u64) * 4294967296 + (low as u64);
+    if bits < 9223372036854775808 {
+        bits as i64
+    } else {
+        -1 - ((18446744073709551615 - bits) as i64)
+    }
+}
