@@ -1,52 +1,41 @@
-// The dumps of stacks, buffers and proof.
-use super::lists::within_bytes;
+// The dump of stacks and buffers: op 5.
 use super::print;
-use super::state::Lists;
-use super::state::Prover;
+use super::state::State;
 use phase::Kind;
 use phase::Next;
 use prover::Pass;
 use prover::Run;
 
-pub(crate) fn buffers(p: Prover, a: u32, f: &[u32], g: &[u32]) {
+pub(crate) fn call(s: State, a: u32, f: &[u32; 4096], g: &[u32; 4096]) -> State {
     if a > 4096 {
         print::bad();
-        return;
+        return s;
     }
-    if p.on {
-        stacks(p.run, p.pass);
+    if s.prover.on {
+        stacks(s.prover.run, s.prover.pass);
     }
-    print::first(b"f-buffer", a as usize, f);
-    print::first(b"g-buffer", a as usize, g);
+    print::buffers(a as usize, f, g);
+    s
 }
 
 // Printed while a small pass for a round, the ends or the openings is open.
 fn stacks(run: Run, pass: Pass) {
     let kind = pass.kind;
     let next = run.next;
-    if is_asked(kind) {} else {
-        return;
-    }
-    if has_stack(next) {} else {
-        return;
-    }
-    let flevels = pass.flevels;
-    let fvalues = pass.fvalues;
-    let glevels = pass.glevels;
-    let gvalues = pass.gvalues;
-    stack(b"f-stack", flevels, fvalues, pass.fcount);
-    stack(b"g-stack", glevels, gvalues, pass.gcount);
-}
-
-fn is_asked(kind: Kind) -> bool {
-    match kind {
-        Kind::Shut => false,
-        Kind::Asked => true,
-        Kind::Change => false,
+    if has_stacks(kind, next) {
+        let flevels = pass.flevels;
+        let fvalues = pass.fvalues;
+        stack(b"f-stack", flevels, fvalues, pass.fcount);
+        let glevels = pass.glevels;
+        let gvalues = pass.gvalues;
+        stack(b"g-stack", glevels, gvalues, pass.gcount);
     }
 }
 
-fn has_stack(next: Next) -> bool {
+fn has_stacks(kind: Kind, next: Next) -> bool {
+    let Kind::Asked = kind else {
+        return false;
+    };
     match next {
         Next::Total => false,
         Next::Message => true,
@@ -68,20 +57,11 @@ fn stack(label: &[u8], levels: [u32; 16], values: [u32; 16], count: usize) {
         entry(levels[i], values[i]);
         i += 1;
     }
-    print::text(b"\n");
+    print::end();
 }
 
 fn entry(level: u32, value: u32) {
     print::number(level as u64);
     print::text(b":");
     io::print_decimal(libc::STDOUT_FILENO, value as u64);
-}
-
-pub(crate) fn proof(l: Lists, proof: &[u8]) {
-    let n = within_bytes(l.proof, proof);
-    print::text(b"proof");
-    print::number(n as u64);
-    print::text(b" ");
-    print::hex(&proof[..n]);
-    print::text(b"\n");
 }

@@ -1,12 +1,8 @@
 // The prover's calls, each made as data.
-use super::lists;
-use super::lists::held;
-use super::lists::within;
-use super::lists::within_bytes;
+use super::answers;
 use super::print;
-use super::signs::signed16;
+use super::proof::Proof;
 use super::state;
-use super::state::Lists;
 use super::state::Prover;
 use super::state::State;
 use calls::Call;
@@ -14,6 +10,13 @@ use item::Given;
 use prover::Answer;
 use prover::Run;
 use prover::Step;
+use records::Record;
+use records::lists::Lists;
+use records::lists::numbers;
+use records::parts::within;
+use records::parts::within_bytes;
+use records::signs;
+use records::signs::Plain;
 
 // The call that an op names, with its numbers.
 pub enum Named {
@@ -21,50 +24,31 @@ pub enum Named {
     Nothing,
 }
 
-pub(crate) fn call(
-    s: State,
-    op: u32,
-    a: u32,
-    b: u32,
-    f: &mut [u32],
-    g: &mut [u32],
-    proof: &mut [u8],
-    scratch: &[u32],
-) -> State {
-    if op < 13 {
-        return state::with_prover(s, start(s.prover, op, a, b, held(s.lists, scratch)));
-    }
-    if op == 24 {
-        return write_proof(s, a, proof);
-    }
-    state::with_prover(s, checked(s.prover, s.lists, op, a, b, f, g))
+pub(crate) fn start(p: Prover, r: Record, l: Lists) -> Prover {
+    let scratch = l.scratch;
+    started(p, start_of(r, numbers(l.held, &scratch)))
 }
 
-fn start(p: Prover, op: u32, a: u32, b: u32, scratch: &[u32]) -> Prover {
-    if op == 10 {
-        return started(p, Run::start_plain(a));
+fn start_of(r: Record, twists: &[u32]) -> Step {
+    let op = r.op;
+    match op {
+        10 => Run::start_plain(r.a),
+        11 => Run::start_twisted(r.a, twists),
+        _ => Run::start_rule(r.a, r.b),
     }
-    if op == 11 {
-        return started(p, Run::start_twisted(a, scratch));
-    }
-    if op == 12 {
-        return started(p, Run::start_rule(a, b));
-    }
-    print::bad();
-    p
 }
 
 // A refused start leaves the run that there is.
 fn started(p: Prover, step: Step) -> Prover {
-    print::step(step);
+    answers::step(step);
     let answer = step.answer;
     let Answer::Started = answer else {
         return p;
     };
-    after(step)
+    left_by(step)
 }
 
-fn after(step: Step) -> Prover {
+fn left_by(step: Step) -> Prover {
     let run = step.run;
     let pass = step.pass;
     Prover {
@@ -74,86 +58,104 @@ fn after(step: Step) -> Prover {
     }
 }
 
-fn call_of(op: u32, a: u32, b: u32) -> Named {
+pub(crate) fn call(s: State, r: Record, f: &mut [u32; 4096], g: &mut [u32; 4096]) -> State {
+    let Named::Call(call) = call_of(r) else {
+        print::bad();
+        return s;
+    };
+    if s.prover.on {
+        return made(s, call, r.a, f, g);
+    }
+    print::line(b"no run");
+    s
+}
+
+fn call_of(r: Record) -> Named {
+    let op = r.op;
     match op {
         13 => Named::Call(Call::OpenPass),
-        14 => Named::Call(Call::OpenAt(a)),
-        15 => reading(a, b),
-        16 => given(Given::Numbers(a, b)),
+        14 => Named::Call(Call::OpenAt(r.a)),
+        15 => reading(r.a, r.b),
+        16 => given(Given::Numbers(r.a, r.b)),
         17 => Named::Call(Call::Close),
         18 => Named::Call(Call::Message),
-        19 => Named::Call(Call::Challenge(a)),
+        19 => Named::Call(Call::Challenge(r.a)),
         20 => Named::Call(Call::Ends),
-        21 => Named::Call(Call::Opening(a)),
+        21 => Named::Call(Call::Opening(r.a)),
         22 => Named::Call(Call::ToFull),
         23 => Named::Call(Call::ToSmall),
+        24 => write_proof(r.a),
         _ => Named::Nothing,
     }
 }
 
-// A reading in two's complement of sixteen bits, and a weight.
 fn reading(a: u32, b: u32) -> Named {
-    if a > 65535 {
+    let Plain::Item(reading, weight) = signs::item(a, b) else {
         return Named::Nothing;
-    }
-    if b > 65535 {
-        return Named::Nothing;
-    }
-    given(Given::Reading(signed16(a), b as u16))
+    };
+    given(Given::Reading(reading, weight))
 }
 
 fn given(item: Given) -> Named {
     Named::Call(Call::Give(item))
 }
 
-fn checked(p: Prover, l: Lists, op: u32, a: u32, b: u32, f: &mut [u32], g: &mut [u32]) -> Prover {
-    let Named::Call(call) = call_of(op, a, b) else {
-        print::bad();
-        return p;
-    };
-    if p.on {} else {
-        print::line(b"no run");
-        return p;
+fn write_proof(size: u32) -> Named {
+    if size > 256 {
+        return Named::Nothing;
     }
+    Named::Call(Call::WriteProof)
+}
+
+fn made(s: State, call: Call, a: u32, f: &mut [u32; 4096], g: &mut [u32; 4096]) -> State {
+    let proof = s.proof;
+    let mut bytes = proof.bytes;
+    let step = make(s.prover, call, s.lists, a, f, g, &mut bytes);
+    answers::step(step);
+    let answer = step.answer;
+    let size = size_after(proof.size, answer);
+    state::with_prover(state::with_proof(s, Proof { bytes, size }), left_by(step))
+}
+
+fn make(
+    p: Prover,
+    call: Call,
+    l: Lists,
+    a: u32,
+    f: &mut [u32; 4096],
+    g: &mut [u32; 4096],
+    proof: &mut [u8; 256],
+) -> Step {
+    lent(p, call, l, a as usize, f, g, proof)
+}
+
+// With the lent places of both buffers, and the first bytes of the proof file, which one call alone uses.
+fn lent(
+    p: Prover,
+    call: Call,
+    l: Lists,
+    size: usize,
+    f: &mut [u32],
+    g: &mut [u32],
+    proof: &mut [u8],
+) -> Step {
     let n = within(l.flent, f);
     let m = within(l.glent, g);
-    let step = make(p, call, &mut f[..n], &mut g[..m]);
-    print::step(step);
-    after(step)
+    let k = within_bytes(size, proof);
+    calls::make(
+        p.run,
+        p.pass,
+        call,
+        &mut f[..n],
+        &mut g[..m],
+        &mut proof[..k],
+    )
 }
 
-// With the lent places of both buffers, and no file.
-fn make(p: Prover, call: Call, f: &mut [u32], g: &mut [u32]) -> Step {
-    let mut file = [0u8; 1];
-    let run = p.run;
-    let pass = p.pass;
-    calls::make(run, pass, call, f, g, &mut file)
-}
-
-// Into the first a bytes of the proof file; a written proof sets its length.
-fn write_proof(s: State, a: u32, proof: &mut [u8]) -> State {
-    if a > 256 {
-        print::bad();
-        return s;
-    }
-    if s.prover.on {} else {
-        print::line(b"no run");
-        return s;
-    }
-    let n = within_bytes(a as usize, proof);
-    let step = written(s.prover, &mut proof[..n]);
-    print::step(step);
-    let answer = step.answer;
-    let Answer::Written(size) = answer else {
-        return s;
+// A written proof sets the file's size.
+fn size_after(size: usize, answer: Answer) -> usize {
+    let Answer::Written(written) = answer else {
+        return size;
     };
-    state::with_lists(s, lists::with_proof(s.lists, size))
-}
-
-fn written(p: Prover, proof: &mut [u8]) -> Step {
-    let mut f = [0u32; 1];
-    let mut g = [0u32; 1];
-    let run = p.run;
-    let pass = p.pass;
-    calls::make(run, pass, Call::WriteProof, &mut f, &mut g, proof)
+    written
 }

@@ -1,28 +1,18 @@
 // The records of standard input.
 use libc::STDIN_FILENO;
-use wire::words::word_at;
+use records::Record;
 
-pub enum Record {
-    // Op, a, b and c.
-    Call(u32, u32, u32, u32),
+pub enum Read {
+    Record(Record),
     // The input ended; a part of a record is ignored.
     End,
 }
 
-pub(crate) fn next() -> Record {
+pub(crate) fn next() -> Read {
     let mut bytes = [0u8; 16];
     let size = io::read_full(STDIN_FILENO, &mut bytes);
     if size < 16 {
-        return Record::End;
+        return Read::End;
     }
-    numbers(&bytes[..size])
-}
-
-fn numbers(bytes: &[u8]) -> Record {
-    Record::Call(
-        word_at(bytes, 0),
-        word_at(bytes, 4),
-        word_at(bytes, 8),
-        word_at(bytes, 12),
-    )
+    Read::Record(records::decode(&bytes))
 }

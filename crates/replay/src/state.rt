@@ -1,16 +1,15 @@
 // What the tool holds beside the buffers.
+use super::print;
+use super::proof;
+use super::proof::Proof;
 use prover::Pass;
 use prover::Run;
+use records::Record;
+use records::lists;
+use records::lists::Lists;
+use records::slots;
+use records::slots::Slots;
 use verifier::Verifier;
-
-// How many first places of each buffer are lent, and how long the scratch list, the proof and the other file are.
-pub struct Lists {
-    pub flent: usize,
-    pub glent: usize,
-    pub held: usize,
-    pub proof: usize,
-    pub file: usize,
-}
 
 // At most one run, with its pass.
 pub struct Prover {
@@ -27,25 +26,19 @@ pub struct Judge {
 
 pub struct State {
     pub lists: Lists,
+    pub slots: Slots,
+    pub proof: Proof,
     pub prover: Prover,
     pub judge: Judge,
 }
 
 pub(crate) fn fresh() -> State {
     State {
-        lists: no_lists(),
+        lists: lists::none(),
+        slots: slots::none(),
+        proof: proof::none(),
         prover: no_prover(),
         judge: no_judge(),
-    }
-}
-
-fn no_lists() -> Lists {
-    Lists {
-        flent: 0,
-        glent: 0,
-        held: 0,
-        proof: 0,
-        file: 0,
     }
 }
 
@@ -70,8 +63,24 @@ fn no_judge() -> Judge {
     }
 }
 
-pub(crate) fn with_lists(s: State, lists: Lists) -> State {
+pub(crate) fn keep(s: State, r: Record, f: &mut [u32; 4096], g: &mut [u32; 4096]) -> State {
+    let kept = lists::keep(s.lists, r, f, g);
+    let said = kept.said;
+    print::said(said);
+    let lists = kept.lists;
     State { lists, ..s }
+}
+
+pub(crate) fn fill(s: State, r: Record) -> State {
+    let filled = slots::fill(s.slots, r);
+    let said = filled.said;
+    print::said(said);
+    let slots = filled.slots;
+    State { slots, ..s }
+}
+
+pub(crate) fn with_proof(s: State, proof: Proof) -> State {
+    State { proof, ..s }
 }
 
 pub(crate) fn with_prover(s: State, prover: Prover) -> State {

@@ -1,14 +1,17 @@
 // The verifier's calls, each made as data.
-use super::lists::held;
-use super::lists::within_bytes;
+use super::answers;
 use super::print;
-use super::signs::signed16;
-use super::signs::signed64;
-use super::state;
+use super::proof::Proof;
 use super::state::Judge;
-use super::state::State;
 use calls::query::Query;
 use item::Given;
+use records::Record;
+use records::lists::Lists;
+use records::lists::numbers;
+use records::parts::within_bytes;
+use records::signs;
+use records::signs::Plain;
+use records::signs::signed64;
 use verifier::Answer;
 use verifier::Step;
 use verifier::Verifier;
@@ -19,31 +22,20 @@ pub enum Posed {
     Nothing,
 }
 
-pub(crate) fn call(
-    s: State,
-    op: u32,
-    a: u32,
-    b: u32,
-    c: u32,
-    scratch: &[u32],
-    proof: &[u8],
-) -> State {
-    let values = held(s.lists, scratch);
-    if op < 33 {
-        return state::with_judge(s, start(s.judge, op, a, b, values));
-    }
-    let n = within_bytes(s.lists.proof, proof);
-    state::with_judge(s, checked(s.judge, op, a, b, c, &proof[..n], values))
+pub(crate) fn start(j: Judge, r: Record, l: Lists) -> Judge {
+    let scratch = l.scratch;
+    start_with(j, r, numbers(l.held, &scratch))
 }
 
-fn start(j: Judge, op: u32, a: u32, b: u32, scratch: &[u32]) -> Judge {
+fn start_with(j: Judge, r: Record, values: &[u32]) -> Judge {
+    let op = r.op;
     if op == 30 {
-        return started(j, Verifier::start_plain(a, scratch));
+        return started(j, Verifier::start_plain(r.a, values));
     }
     if op == 31 {
-        return start_twisted(j, a, b, scratch);
+        return start_twisted(j, r.a, r.b, values);
     }
-    started(j, Verifier::start_rule(a, b, scratch))
+    started(j, Verifier::start_rule(r.a, r.b, values))
 }
 
 // The first b numbers are the twists.
@@ -59,7 +51,7 @@ fn start_twisted(j: Judge, a: u32, b: u32, scratch: &[u32]) -> Judge {
 // A refused start leaves the verifier that there is.
 fn started(j: Judge, step: Step) -> Judge {
     let answer = step.answer;
-    print::judge_answer(answer);
+    answers::judge_start(answer);
     let Answer::Started = answer else {
         return j;
     };
@@ -67,47 +59,52 @@ fn started(j: Judge, step: Step) -> Judge {
     Judge { on: true, verifier }
 }
 
-fn query_of(op: u32, a: u32, b: u32, c: u32) -> Posed {
+pub(crate) fn call(j: Judge, r: Record, l: Lists, p: Proof) -> Judge {
+    let Posed::Query(query) = query_of(r) else {
+        print::bad();
+        return j;
+    };
+    if j.on {
+        return asked(j, query, l, p);
+    }
+    print::line(b"no verifier");
+    j
+}
+
+fn query_of(r: Record) -> Posed {
+    let op = r.op;
     match op {
-        33 => reading(a, b),
-        34 => given(Given::Numbers(a, b)),
-        35 => Posed::Query(Query::Close(signed64(a, b))),
-        36 => Posed::Query(Query::CloseClaim(a)),
-        37 => Posed::Query(Query::Message(a, b, c)),
+        33 => reading(r.a, r.b),
+        34 => given(Given::Numbers(r.a, r.b)),
+        35 => Posed::Query(Query::Close(signed64(r.a, r.b))),
+        36 => Posed::Query(Query::CloseClaim(r.a)),
+        37 => Posed::Query(Query::Message(r.a, r.b, r.c)),
         38 => Posed::Query(Query::Verdict),
         39 => Posed::Query(Query::Proof),
-        40 => Posed::Query(Query::CheckOpening(a)),
+        40 => Posed::Query(Query::CheckOpening(r.a)),
         _ => Posed::Nothing,
     }
 }
 
-// A reading in two's complement of sixteen bits, and a weight.
 fn reading(a: u32, b: u32) -> Posed {
-    if a > 65535 {
+    let Plain::Item(reading, weight) = signs::item(a, b) else {
         return Posed::Nothing;
-    }
-    if b > 65535 {
-        return Posed::Nothing;
-    }
-    given(Given::Reading(signed16(a), b as u16))
+    };
+    given(Given::Reading(reading, weight))
 }
 
 fn given(item: Given) -> Posed {
     Posed::Query(Query::Give(item))
 }
 
-fn checked(j: Judge, op: u32, a: u32, b: u32, c: u32, file: &[u8], values: &[u32]) -> Judge {
-    let Posed::Query(query) = query_of(op, a, b, c) else {
-        print::bad();
-        return j;
-    };
-    if j.on {} else {
-        print::line(b"no verifier");
-        return j;
-    }
-    let heard = calls::query::ask(j.verifier, query, file, values);
+// With the scratch list and the proof file.
+fn asked(j: Judge, query: Query, l: Lists, p: Proof) -> Judge {
+    let scratch = l.scratch;
+    let bytes = p.bytes;
+    let n = within_bytes(p.size, &bytes);
+    let heard = calls::query::ask(j.verifier, query, &bytes[..n], numbers(l.held, &scratch));
     let told = heard.told;
-    print::told(told);
+    answers::told(told);
     let verifier = heard.verifier;
     Judge { on: true, verifier }
 }

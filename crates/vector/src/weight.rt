@@ -29,7 +29,7 @@ fn weight_in(p: u32, cs: &[u32; 15], n: u32, index: u32) -> u32
 }
 
 pub fn weight_of(p: u32, cs: [u32; 15], n: u32, index: u32) -> u32
-    ensures { λ r. ⌜ r ≡ weight p (at cs) (min n 15) index ⌝ }
+    ensures { λ r. ⌜ r ≡ weight p (at cs) (min n maxRounds) index ⌝ }
 {
     weight_in(p, &cs, n, index)
 }
@@ -58,7 +58,7 @@ pub fn split_weight(p: u32, low: &[u32; 16], high: u32, index: u32) -> u32
 
 // The product of the upper bits, kept from the index before unless they change here.
 fn upper(p: u32, cs: &[u32; 15], n: u32, index: u32, before: u32) -> u32
-    ensures { λ r. ⌜ r ≡ cond (eqb (index % 16) 0) (weight p (at (now (cs .entry))) (min n 15) index) before ⌝ }
+    ensures { λ r. ⌜ r ≡ cond (eqb (index % 16) 0) (weight p (at (now (cs .entry))) (min n maxRounds) index) before ⌝ }
 {
     if index % 16 == 0 {
         return weight_in(p, cs, n, index);

@@ -4,10 +4,10 @@ use Rattle.replay.proofs.dump.stack.Statement.{statement}
 use Rattle.replay.proofs.dump.stack.Tie as tie
 
 abbrev Inv-loop : tie.InvT-loop
-Inv-loop label count levels values i₀ t8 i = i ≤ count
+Inv-loop label count levels values i₀ i = i ≤ count
 
 abbrev μ-loop : tie.MeasureT-loop
-μ-loop label count levels values i₀ t8 i = count - i
+μ-loop label count levels values i₀ i = count - i
 
 text-requires : tie.Need-text-requires Inv-loop μ-loop
 text-requires c κs = search needs
@@ -42,11 +42,8 @@ loop-less c = search needs
 loop-again : tie.Need-loop-again Inv-loop μ-loop
 loop-again c = search needs
 
-slice-aggregate-text : tie.Need-slice-aggregate-text Inv-loop μ-loop
-slice-aggregate-text c = search needs
-
-text-requires-2 : tie.Need-text-requires-2 Inv-loop μ-loop
-text-requires-2 c κs = search needs
+end-requires : tie.Need-end-requires Inv-loop μ-loop
+end-requires c κs = search needs
 
 returns : tie.Need-returns Inv-loop μ-loop
 returns c = search needs
@@ -68,6 +65,5 @@ stack-spec =
     add-i
     loop-less
     loop-again
-    slice-aggregate-text
-    text-requires-2
+    end-requires
     returns)

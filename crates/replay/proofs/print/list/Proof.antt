@@ -5,10 +5,10 @@ use Rattle.replay.proofs.print.list.Statement.{statement}
 use Rattle.replay.proofs.print.list.Tie as tie
 
 abbrev Inv-loop : tie.InvT-loop
-Inv-loop label values i₀ t4 i = i ≤ length values
+Inv-loop label values i₀ i = i ≤ length values
 
 abbrev μ-loop : tie.MeasureT-loop
-μ-loop label values i₀ t4 i = length values - i
+μ-loop label values i₀ i = length values - i
 
 text-requires : tie.Need-text-requires Inv-loop μ-loop
 text-requires c κs = search needs
@@ -37,11 +37,8 @@ loop-less c = search needs
 loop-again : tie.Need-loop-again Inv-loop μ-loop
 loop-again c = search needs
 
-slice-aggregate-text : tie.Need-slice-aggregate-text Inv-loop μ-loop
-slice-aggregate-text c = search needs
-
-text-requires-2 : tie.Need-text-requires-2 Inv-loop μ-loop
-text-requires-2 c κs = search needs
+end-requires : tie.Need-end-requires Inv-loop μ-loop
+end-requires c κs = search needs
 
 returns : tie.Need-returns Inv-loop μ-loop
 returns c = search needs
@@ -61,6 +58,5 @@ list-spec =
     add-i
     loop-less
     loop-again
-    slice-aggregate-text
-    text-requires-2
+    end-requires
     returns)

@@ -8,8 +8,8 @@ use mir.Val.{SFits}
 use lib.IntN.{negsuc}
 use Rattle.wire.proofs.Numbers.{minus}
 use Rattle.wire.specs.Number.{signed}
-use Rattle.replay.proofs.signs.signed16.Statement.{statement}
-use Rattle.replay.proofs.signs.signed16.Tie as tie
+use Rattle.records.proofs.signs.signed16.Statement.{statement}
+use Rattle.records.proofs.signs.signed16.Tie as tie
 
 cast-result : tie.Need-cast-result
 cast-result c = search needs

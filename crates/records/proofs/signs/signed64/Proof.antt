@@ -8,8 +8,8 @@ use mir.Val.{SFits}
 use lib.IntN.{negsuc}
 use Rattle.wire.proofs.Numbers.{minus}
 use Rattle.wire.specs.Number.{signed}
-use Rattle.replay.proofs.signs.signed64.Statement.{statement}
-use Rattle.replay.proofs.signs.signed64.Tie as tie
+use Rattle.records.proofs.signs.signed64.Statement.{statement}
+use Rattle.records.proofs.signs.signed64.Tie as tie
 
 mul-bits : tie.Need-mul-bits
 mul-bits c = search needs

@@ -1,44 +1,55 @@
-// The files' calls.
-use super::lists;
-use super::lists::within_bytes;
+// The file and its calls: ops 50 to 57.
 use super::print;
-use super::state;
-use super::state::Lists;
-use super::state::State;
+use records::Record;
+use records::parts::within_bytes;
 use wire::log::ItemRead;
 use wire::log::LogRead;
 use wire::matrix::EntryRead;
 use wire::matrix::MatrixRead;
 use wire::proof::ProofRead;
 
-pub(crate) fn call(s: State, op: u32, a: u32, file: &mut [u8]) -> State {
-    if op < 52 {
-        return state::with_lists(s, fill(s.lists, op, a, file));
-    }
-    let n = within_bytes(s.lists.file, file);
-    read(op, a, &file[..n]);
-    s
+pub struct File {
+    pub bytes: [u8; 1024],
+    pub size: usize,
 }
 
-fn fill(l: Lists, op: u32, a: u32, file: &mut [u8]) -> Lists {
+pub(crate) fn none() -> File {
+    File {
+        bytes: [0; 1024],
+        size: 0,
+    }
+}
+
+pub(crate) fn call(file: File, r: Record) -> File {
+    let op = r.op;
     if op == 50 {
-        return lists::with_file(l, 0);
+        return File { size: 0, ..file };
     }
-    append(l, a, file)
+    if op == 51 {
+        return append(file, r.a);
+    }
+    let bytes = file.bytes;
+    let n = within_bytes(file.size, &bytes);
+    read(op, r.a, &bytes[..n]);
+    file
 }
 
-fn append(l: Lists, a: u32, file: &mut [u8]) -> Lists {
-    if a > 255 {
+fn append(file: File, byte: u32) -> File {
+    if byte > 255 {
         print::bad();
-        return l;
+        return file;
     }
-    let at = l.file;
-    if at >= 1024 {
+    let size = file.size;
+    if size >= 1024 {
         print::full();
-        return l;
+        return file;
     }
-    lists::set(file, at, a as u8);
-    lists::with_file(l, at + 1)
+    let mut bytes = file.bytes;
+    bytes[size] = byte as u8;
+    File {
+        bytes,
+        size: size + 1,
+    }
 }
 
 fn read(op: u32, a: u32, file: &[u8]) {
@@ -48,8 +59,7 @@ fn read(op: u32, a: u32, file: &[u8]) {
         54 => proof(file),
         55 => proof_round(file, a),
         56 => matrix(file),
-        57 => matrix_entry(file, a),
-        _ => print::bad(),
+        _ => matrix_entry(file, a),
     }
 }
 
@@ -72,7 +82,7 @@ fn item(reading: i16, weight: u16) {
     print::text(b"item");
     print::signed(field::integer::widen(reading));
     print::number(weight as u64);
-    print::text(b"\n");
+    print::end();
 }
 
 fn proof(file: &[u8]) {
@@ -86,14 +96,14 @@ fn proof_line(rounds: u32, total: i64) {
     print::text(b"proof");
     print::number(rounds as u64);
     print::signed(total);
-    print::text(b"\n");
+    print::end();
 }
 
 fn proof_round(file: &[u8], round: u32) {
     let part = wire::proof::proof_round(file, round);
     print::text(b"part ");
     print::hex(part);
-    print::text(b"\n");
+    print::end();
 }
 
 fn matrix(file: &[u8]) {

@@ -1,8 +1,8 @@
 use mathlib.Core.Path.{sym}
 use native.Mathlib.Omega.{arith}
 use lib.Seq.{length-take-le}
-use Rattle.replay.proofs.lists.within.Statement.{statement}
-use Rattle.replay.proofs.lists.within.Tie as tie
+use Rattle.records.proofs.parts.within.Statement.{statement}
+use Rattle.records.proofs.parts.within.Tie as tie
 
 returns : tie.Need-returns
 returns c = (omega arith, sym (length-take-le _ _ (omega arith)))

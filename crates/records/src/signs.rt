@@ -1,9 +1,26 @@
-// Two's complement: a cast would ask that the number is in the lower half.
+// Numbers in two's complement: a cast would ask that the number is in the lower half.
 ghost use mathlib.Core.Path.{_≡_};
 ghost use Prim.Native.Nat.{_+_, _*_, _<_};
 ghost use Rattle.wire.specs.Number.{signed};
 
-pub(crate) fn signed16(v: u32) -> i16
+// An item of a plain run.
+pub enum Plain {
+    Item(i16, u16),
+    Bad,
+}
+
+// The reading in sixteen bits, and the weight.
+pub fn item(reading: u32, weight: u32) -> Plain {
+    if reading > 65535 {
+        return Plain::Bad;
+    }
+    if weight > 65535 {
+        return Plain::Bad;
+    }
+    Plain::Item(signed16(reading), weight as u16)
+}
+
+fn signed16(v: u32) -> i16
     requires { ⌜ v < 65536 ⌝ }
     ensures { λ r. ⌜ r ≡ signed 2 v ⌝ }
 {
@@ -14,7 +31,7 @@ pub(crate) fn signed16(v: u32) -> i16
     }
 }
 
-pub(crate) fn signed64(low: u32, high: u32) -> i64
+pub fn signed64(low: u32, high: u32) -> i64
     ensures { λ r. ⌜ r ≡ signed 8 (high * 4294967296 + low) ⌝ }
 {
     let bits = (high as u64) * 4294967296 + (low as u64);

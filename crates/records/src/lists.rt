@@ -1,0 +1,99 @@
+// The scratch list, and how much of the buffers is lent.
+use super::Record;
+use super::Said;
+use super::parts::within;
+
+// How many first places of each buffer are lent; the scratch list, and how many numbers it has.
+pub struct Lists {
+    pub flent: usize,
+    pub glent: usize,
+    pub scratch: [u32; 128],
+    pub held: usize,
+}
+
+pub struct Kept {
+    pub lists: Lists,
+    pub said: Said,
+}
+
+pub fn none() -> Lists {
+    Lists {
+        flent: 0,
+        glent: 0,
+        scratch: [0; 128],
+        held: 0,
+    }
+}
+
+// The numbers of a scratch list.
+pub fn numbers(held: usize, scratch: &[u32]) -> &[u32] {
+    let n = within(held, scratch);
+    &scratch[..n]
+}
+
+// Ops 1 to 4.
+pub fn keep(l: Lists, r: Record, f: &mut [u32; 4096], g: &mut [u32; 4096]) -> Kept {
+    let op = r.op;
+    match op {
+        1 => says(Lists { held: 0, ..l }, Said::Nothing),
+        2 => push(l, r.a),
+        3 => lend(l, r.a, r.b),
+        4 => says(l, place(r, f, g)),
+        _ => says(l, Said::Bad),
+    }
+}
+
+fn says(lists: Lists, said: Said) -> Kept {
+    Kept { lists, said }
+}
+
+fn push(l: Lists, a: u32) -> Kept {
+    let held = l.held;
+    if held >= 128 {
+        return says(l, Said::Full);
+    }
+    let mut scratch = l.scratch;
+    scratch[held] = a;
+    says(
+        Lists {
+            scratch,
+            held: held + 1,
+            ..l
+        },
+        Said::Nothing,
+    )
+}
+
+fn lend(l: Lists, a: u32, b: u32) -> Kept {
+    if a > 4096 {
+        return says(l, Said::Bad);
+    }
+    if b > 4096 {
+        return says(l, Said::Bad);
+    }
+    says(
+        Lists {
+            flent: a as usize,
+            glent: b as usize,
+            ..l
+        },
+        Said::Nothing,
+    )
+}
+
+// Place b of f or g becomes c.
+fn place(r: Record, f: &mut [u32; 4096], g: &mut [u32; 4096]) -> Said {
+    if r.a > 1 {
+        return Said::Bad;
+    }
+    if r.b >= 4096 {
+        return Said::Bad;
+    }
+    let at = r.b as usize;
+    if r.a == 0 {
+        f[at] = r.c;
+    } else {
+        g[at] = r.c;
+    }
+    Said::Nothing
+}

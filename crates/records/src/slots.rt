@@ -1,0 +1,66 @@
+// Eight slots of 256 bytes.
+ghost use Prim.Native.Nat.{_<_};
+use super::Record;
+use super::Said;
+
+// The slots one after the other, and how many bytes each has.
+pub struct Slots {
+    pub bytes: [u8; 2048],
+    pub sizes: [usize; 8],
+}
+
+pub struct Filled {
+    pub slots: Slots,
+    pub said: Said,
+}
+
+pub fn none() -> Slots {
+    Slots {
+        bytes: [0; 2048],
+        sizes: [0; 8],
+    }
+}
+
+// Ops 60 and 61.
+pub fn fill(s: Slots, r: Record) -> Filled {
+    let slot = r.a;
+    if slot > 7 {
+        return says(s, Said::Bad);
+    }
+    let op = r.op;
+    match op {
+        60 => says(empty(s, slot as usize), Said::Nothing),
+        61 => append(s, slot as usize, r.b),
+        _ => says(s, Said::Bad),
+    }
+}
+
+fn says(slots: Slots, said: Said) -> Filled {
+    Filled { slots, said }
+}
+
+fn empty(s: Slots, slot: usize) -> Slots
+    requires { ⌜ slot < 8 ⌝ }
+{
+    let mut sizes = s.sizes;
+    sizes[slot] = 0;
+    Slots { sizes, ..s }
+}
+
+fn append(s: Slots, slot: usize, byte: u32) -> Filled
+    requires { ⌜ slot < 8 ⌝ }
+{
+    if byte > 255 {
+        return says(s, Said::Bad);
+    }
+    let mut sizes = s.sizes;
+    let size = sizes[slot];
+    if size >= 256 {
+        return says(s, Said::Full);
+    }
+    let mut bytes = s.bytes;
+    let at = slot * 256 + size;
+    bytes[at] = byte as u8;
+    sizes[slot] = size + 1;
+    says(Slots { bytes, sizes }, Said::Nothing)
+}

@@ -1,0 +1,100 @@
+// What a call answers, as a line.
+use super::print::end;
+use super::print::first;
+use super::print::line;
+use super::print::number;
+use super::print::one;
+use super::print::refused;
+use super::print::refused_at;
+use super::print::signed;
+use super::print::text;
+use super::print::three;
+use super::print::two;
+use calls::query::Told;
+use prover::Answer;
+use prover::Step;
+
+// A prover's answer; an opening's values stand beside it.
+pub(crate) fn step(step: Step) {
+    let answer = step.answer;
+    if let Answer::Opening = answer {
+        opening(step);
+        return;
+    }
+    prover_answer(answer);
+}
+
+fn prover_answer(answer: Answer) {
+    match answer {
+        Answer::Started => line(b"started"),
+        Answer::Opened => line(b"opened"),
+        Answer::Taken => line(b"taken"),
+        Answer::Total(total) => total_line(total),
+        Answer::FieldTotal(total) => one(b"total", total),
+        Answer::Message(even, cross, odd) => three(b"message", even, cross, odd),
+        Answer::Challenged => line(b"challenged"),
+        Answer::Ends(f, g) => two(b"ends", f, g),
+        // `step` prints it, with its values.
+        Answer::Opening => line(b"opening"),
+        Answer::Changed => line(b"changed"),
+        Answer::Written(size) => written(size),
+        Answer::Refused(k) => refused(k),
+        Answer::RefusedAt(k, i) => refused_at(k, i),
+    }
+}
+
+fn total_line(total: i64) {
+    text(b"total");
+    signed(total);
+    end();
+}
+
+fn written(size: usize) {
+    text(b"written");
+    number(size as u64);
+    end();
+}
+
+// The first 6n of the values.
+fn opening(step: Step) {
+    let values = step.values;
+    opening_values(&values, values_of(step.run.start.rounds));
+}
+
+fn opening_values(values: &[u32; 90], n: usize) {
+    first(b"opening", n, &values[..]);
+}
+
+fn values_of(rounds: u32) -> usize {
+    if 15 < rounds {
+        return 90;
+    }
+    6 * (rounds as usize)
+}
+
+// A verifier's start.
+pub(crate) fn judge_start(answer: verifier::Answer) {
+    match answer {
+        verifier::Answer::Started => line(b"started"),
+        verifier::Answer::Refused(k) => refused(k),
+        // No other is a start's.
+        _ => {}
+    }
+}
+
+pub(crate) fn told(told: Told) {
+    match told {
+        Told::Started => line(b"started"),
+        Told::Taken => line(b"taken"),
+        Told::Closed => line(b"closed"),
+        Told::Passed => line(b"passed"),
+        Told::Failed(round) => one(b"no", round),
+        Told::Yes => line(b"yes"),
+        Told::No(round) => one(b"no", round),
+        Told::Opens => line(b"yes"),
+        Told::FailsF(j) => one(b"no f", j),
+        Told::FailsG(j) => one(b"no g", j),
+        Told::Refused(k) => refused(k),
+        Told::RefusedAt(k, i) => refused_at(k, i),
+    }
+}
