@@ -82,6 +82,17 @@ pub(crate) fn judge_start(answer: verifier::Answer) {
     }
 }
 
+// A verifier's answer to a block.
+pub(crate) fn judge_block(answer: verifier::Answer) {
+    match answer {
+        verifier::Answer::Taken => line(b"taken"),
+        verifier::Answer::Refused(k) => refused(k),
+        verifier::Answer::RefusedAt(k, i) => refused_at(k, i),
+        // No other is a block's.
+        _ => {}
+    }
+}
+
 pub(crate) fn told(told: Told) {
     match told {
         Told::Started => line(b"started"),

@@ -1,6 +1,7 @@
 // Runs a list of calls of prover and verifier, and prints what each answers. A record of standard input is one call. The buffers are
 // lent to the calls as a host would lend them.
 mod answers;
+mod blocks;
 mod dump;
 mod print;
 mod proof;
@@ -40,8 +41,10 @@ fn call(s: State, r: Record, f: &mut [u32; 4096], g: &mut [u32; 4096]) -> State 
         6..=8 => state::with_proof(s, proof::call(s.proof, r)),
         10..=12 => state::with_prover(s, proving::start(s.prover, r, s.lists)),
         13..=24 => proving::call(s, r, f, g),
+        26..=27 => blocks::call(s, r, f, g),
         30..=32 => state::with_judge(s, verifying::start(s.judge, r, s.lists)),
         33..=40 => state::with_judge(s, verifying::call(s.judge, r, s.lists, s.proof)),
+        43..=44 => blocks::call(s, r, f, g),
         60..=61 => state::fill(s, r),
         _ => bad(s),
     }

@@ -48,7 +48,7 @@ fn started(p: Prover, step: Step) -> Prover {
     left_by(step)
 }
 
-fn left_by(step: Step) -> Prover {
+pub(crate) fn left_by(step: Step) -> Prover {
     let run = step.run;
     let pass = step.pass;
     Prover {

@@ -121,3 +121,11 @@ fn wide(x: u8) -> u32
 {
     x as u32
 }
+
+// The items of a log as one block: what follows its header.
+pub(crate) fn items_of(log: &[u8]) -> &[u8] {
+    if log.len() < 7 {
+        return &log[..0];
+    }
+    &log[7..]
+}

@@ -177,23 +177,10 @@ fn close(step: Step) -> Step {
     step.run.close(pass)
 }
 
-// Last item to first.
+// Every item in one block.
 fn give_items(opened: Step, log: &[u8], f: &mut [u32], g: &mut [u32]) -> Step {
-    let mut step = opened;
-    let mut i = opened.run.start.items;
-    while i > 0 {
-        i -= 1;
-        step = give_item(step, log, i, f, g);
-    }
-    step
-}
-
-fn give_item(step: Step, log: &[u8], i: u32, f: &mut [u32], g: &mut [u32]) -> Step {
-    let ItemRead::Item(reading, weight) = wire::log::log_item(log, i) else {
-        return step;
-    };
-    let pass = step.pass;
-    step.run.item(pass, reading, weight, f, g)
+    let pass = opened.pass;
+    opened.run.items(pass, input::items_of(log), f, g)
 }
 
 // Fold 0, lent again for the openings.

@@ -6,11 +6,10 @@ use super::input;
 use prover::Run;
 use verifier::Verdict;
 use verifier::Verifier;
-use wire::log::ItemRead;
 
 pub(crate) fn verify(run: Run, log: &[u8], numbers: &[u8]) -> Verdict {
     let v = start(run.start.items, run.start.rounds, numbers);
-    let taken = take_items(v, log);
+    let taken = v.items(input::items_of(log)).verifier;
     let closed = taken.close(run.total).verifier;
     hear(closed, run).verdict()
 }
@@ -41,25 +40,6 @@ fn challenges(numbers: &[u8]) -> [u32; 15]
         k += 1;
     }
     out
-}
-
-// First item to last.
-fn take_items(fresh: Verifier, log: &[u8]) -> Verifier {
-    let mut v = fresh;
-    let items = fresh.start.items;
-    let mut i: u32 = 0;
-    while i < items {
-        v = take_item(v, log, i);
-        i += 1;
-    }
-    v
-}
-
-fn take_item(v: Verifier, log: &[u8], i: u32) -> Verifier {
-    match wire::log::log_item(log, i) {
-        ItemRead::Item(reading, weight) => v.item(reading, weight).verifier,
-        ItemRead::Nothing => v,
-    }
 }
 
 // The run's messages in order.
