@@ -111,14 +111,7 @@ fn numbers_to_run(s: State, a: &[u32], b: &[u32], f: &mut [u32], g: &mut [u32]) 
     s
 }
 
-fn field_items(
-    p: Prover,
-    l: Lists,
-    a: &[u32],
-    b: &[u32],
-    f: &mut [u32],
-    g: &mut [u32],
-) -> Step {
+fn field_items(p: Prover, l: Lists, a: &[u32], b: &[u32], f: &mut [u32], g: &mut [u32]) -> Step {
     let n = within(l.flent, f);
     let m = within(l.glent, g);
     let pass = p.pass;
