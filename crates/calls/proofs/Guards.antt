@@ -240,13 +240,13 @@ module _ (p : ℕ) (a : State) (past : Notes) (few : a .start .rounds ≤ 15) wh
 
     -- the open pass is the state's
     module _ (kind : s .kind ≡ a .pass .kind) (count : s .taken ≡ length (a .pass .items)) where
-      open-test : cond (wellFormed p R s) (cases.isOpen (s .kind)) false ≡ isOpen (a .pass .kind)
+      pub open-test : cond (wellFormed p R s) (cases.isOpen (s .kind)) false ≡ isOpen (a .pass .kind)
       open-test = formed-and _ _ (opens (s .kind) ∙ ap isOpen kind)
 
       wanted-test : ltb (s .taken) (a .start .items) ≡ ltb (length (a .pass .items)) (a .start .items)
       wanted-test = ap (λ n. ltb n (a .start .items)) count
 
-      place-there : (l : Lent) → placesThere R s (length (l .f)) (length (l .g)) ≡ (not (isChange (a .pass .kind)) || bothLong a l)
+      pub place-there : (l : Lent) → placesThere R s (length (l .f)) (length (l .g)) ≡ (not (isChange (a .pass .kind)) || bothLong a l)
       place-there l =
           ap₂ (λ b here. cond b here true) (changing (s .kind) ∙ ap isChange kind) (long-test l)
           ∙ place-test (isChange (a .pass .kind)) (bothLong a l)

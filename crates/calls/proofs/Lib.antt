@@ -4,11 +4,15 @@ pub mod Guards
 pub mod Steps
 pub mod Turns
 pub mod ItemRows
+pub mod RowsOfBlocks
 pub mod AnswerParts
 pub mod Fits
 pub mod Numbers
 pub mod Follows
 pub mod Refusals
+pub mod BlockRows
+pub mod BlockSingles
+pub mod BlockLists
 pub mod Agrees
 pub mod KeptCalls
 pub mod Means
@@ -22,6 +26,8 @@ pub mod QueryTurns
 pub mod QuerySteps
 pub mod QueryKeeps
 pub mod QueryLists
+pub mod JoinedLists
+pub mod HeardBlocks
 pub mod QueryKept
 pub mod QueryVerdicts
 pub mod StartKept

@@ -87,7 +87,7 @@ module _ (p : ℕ) (a : VerifierState) (v : Verifier) (s : Stands p a v) where
   formed-row : {A : Type 0} (rest o : Outcome A) → rest ≡ o → require (wellFormed v) 10 rest ≡ o
   formed-row rest o e = ap (λ b. require b 10 rest) (s .carries .formed) ∙ e
 
-  open-test : passOpen v ≡ not (a .closed)
+  pub open-test : passOpen v ≡ not (a .closed)
   unfolding passOpen
   open-test = formed-and _ _ (ap not (s .closed))
 

@@ -55,7 +55,7 @@ abbrev pub settledHeard : Verifier → Option Refusal → Spoken → Spoken
 settledHeard v none o = o
 settledHeard v (some k) o = record { verifier = v; told = refusedWith (k .0) (k .1) }
 
-step-so : (v : Verifier) (t : Option Refusal) (o : Replied)
+pub step-so : (v : Verifier) (t : Option Refusal) (o : Replied)
     → replying (leaves v (decided t (answered o))) ≡ settledHeard v t (record { verifier = o .verifier; told = answered (replies (o .reply)) })
 step-so v none o = refl
 step-so v (some (k, none)) o = refl

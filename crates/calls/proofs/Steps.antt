@@ -96,7 +96,7 @@ keeps r s l none o = refl
 keeps r s l (some (k, none)) o = refl
 keeps r s l (some (k, some i)) o = refl
 
-leaving-so : (r : Run) (s : Pass) (l : Lent) (t : Option Refusal) (o : Out) → leaving l (leaves r s (l .f) (l .g) (decided t (answered o))) ≡ settled r s l t (leaving l o)
+pub leaving-so : (r : Run) (s : Pass) (l : Lent) (t : Option Refusal) (o : Out) → leaving l (leaves r s (l .f) (l .g) (decided t (answered o))) ≡ settled r s l t (leaving l o)
 leaving-so r s l none o = refl
 leaving-so r s l (some (k, none)) o = refl
 leaving-so r s l (some (k, some i)) o = refl

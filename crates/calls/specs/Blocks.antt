@@ -54,9 +54,11 @@ unfoldable pub onto : Block → ℕ → List Given → List Given
 onto b zero xs = xs
 onto b (suc m) xs = onto b m (itemAt b m ∷ xs)
 
-abbrev pub withItems : State → Block → Lent → State
-withItems a b l =
-    buffersIn (isChange (a .pass .kind)) (inPass a (a .pass .kind) (a .pass .point) (onto b (count b) (a .pass .items))) l
+-- a block of no items changes nothing; with items it has the buffers of a change pass, as a single item has
+abbrev pub withItems : State → Block → ℕ → Lent → State
+withItems a b zero l = a
+withItems a b (suc m) l =
+    buffersIn (isChange (a .pass .kind)) (inPass a (a .pass .kind) (a .pass .point) (onto b (suc m) (a .pass .items))) l
 
 -- A RUN'S LIST
 pub data Wide : Type 0 where
@@ -77,7 +79,7 @@ module _ (p : ℕ) where
   wideOn w (made m) = onward p w m
   wideOn w (given b l) =
       record {
-        state = cond (isAnswered (blockCame w b l .answer)) (withItems (w .state) b (blockCame w b l .lent)) (w .state);
+        state = cond (isAnswered (blockCame w b l .answer)) (withItems (w .state) b (count b) (blockCame w b l .lent)) (w .state);
         run = blockCame w b l .run;
         pass = blockCame w b l .pass;
       }
