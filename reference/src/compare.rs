@@ -2,7 +2,7 @@
 
 use crate::generate::script::Script;
 use crate::generate::trip_files::{trip_files, TripFiles};
-use crate::generate::{large_list, list, list_without_run};
+use crate::generate::{large_list, Batch};
 use crate::random::Random;
 use crate::replay::encode;
 use crate::report::Report;
@@ -47,15 +47,14 @@ fn compare_all(programs: &Path, scratch: &Path, seed: u64, count: u64) -> Result
     }
     let batches = (count * LISTS_PER_TRIP).div_ceil(LISTS_IN_BATCH);
     for batch in 0..batches {
-        let mut script = Script::new(seed ^ (batch + 1) << 32);
-        list_without_run(&mut script);
-        (1..LISTS_IN_BATCH).for_each(|_| list(&mut script));
-        compare_script(programs, scratch, &script, &mut report)
-            .map_err(|difference| format!("batch {batch}\n{difference}"))?;
+        let lists = Batch::random(seed ^ (batch + 1) << 32, LISTS_IN_BATCH);
+        for script in [&lists.runs, &lists.files] {
+            compare_script(programs, scratch, script, &mut report)
+                .map_err(|difference| format!("batch {batch}\n{difference}"))?;
+        }
     }
     for items in [8_191, 32_768] {
-        let mut script = Script::new(seed ^ items as u64);
-        large_list(&mut script, items);
+        let script = large_list(seed ^ items as u64, items);
         compare_script(programs, scratch, &script, &mut report)
             .map_err(|difference| format!("list of {items} items\n{difference}"))?;
     }
@@ -113,7 +112,8 @@ fn compare_script(
     bytes.extend(&encode(&[8, 0, 0, 0])[..15]);
     fs::write(&input, bytes).map_err(|error| error.to_string())?;
     let records = File::open(&input).map_err(|error| error.to_string())?;
-    let got = stdout_of(&mut Command::new(programs.join("replay")), Stdio::from(records))?;
+    let program = programs.join(script.tool.program.name());
+    let got = stdout_of(&mut Command::new(program), Stdio::from(records))?;
     if got != script.answers.concat() {
         return Err(first_difference(script, &got));
     }
@@ -151,6 +151,7 @@ fn same_text(name: &str, expected: &str, got: &str) -> Result<(), String> {
 
 /// The call whose answer differs, with the calls before it in its list.
 fn first_difference(script: &Script, got: &str) -> String {
+    let name = script.tool.program.name();
     let mut rest = got;
     let answers = script.answers.iter();
     let place = answers.take_while(|answer| match rest.strip_prefix(answer.as_str()) {
@@ -162,11 +163,12 @@ fn first_difference(script: &Script, got: &str) -> String {
     });
     let place = place.count();
     if place == script.answers.len() {
-        return format!("replay: more output than calls: {}", shortened(rest));
+        return format!("{name}: more output than calls: {}", shortened(rest));
     }
     let number = script.lists.iter().rposition(|&start| start <= place).unwrap_or(0);
     let first = script.lists[number].max(place.saturating_sub(30));
-    let mut text = format!("list {number}, call {place} of the batch, with those before it:\n");
+    let mut text =
+        format!("{name}: list {number}, call {place} of the batch, with those before it:\n");
     for k in first..=place {
         let answer = if k < place { shortened(&script.answers[k]) } else { String::new() };
         text += &format!("  {:?} {answer}\n", script.records[k]);

@@ -4,7 +4,7 @@ use crate::edges::{self, CHALLENGES, POINT, TRIP};
 use crate::field::from_signed;
 use crate::files::write_log;
 use crate::random::Random;
-use crate::replay::Tool;
+use crate::replay::{Program, Tool};
 use crate::text::listed;
 use crate::{random_runs, rules, trip};
 
@@ -85,7 +85,7 @@ fn rule_verdicts() -> String {
 /// The paper's trip by calls of the tool, changing mode before round `change`, the ends (2), the
 /// openings (3) or never (4), with the answers worded as `trip` words them.
 fn replayed(change: usize) -> String {
-    let tool = &mut Tool::default();
+    let tool = &mut Tool::new(Program::Runs);
     tool.lent = (4, 4);
     call(tool, 10, [3, 0, 0]);
     let mut text = pass(tool, 13, 0) + "\n";

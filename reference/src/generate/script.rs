@@ -1,7 +1,7 @@
 //! Records as they are written, with the reference's answer to each.
 
 use crate::random::Random;
-use crate::replay::{Record, Tool, PLACES};
+use crate::replay::{Program, Record, Tool, PLACES};
 
 pub struct Script {
     pub tool: Tool,
@@ -13,9 +13,9 @@ pub struct Script {
 }
 
 impl Script {
-    pub fn new(seed: u64) -> Script {
+    pub fn new(program: Program, seed: u64) -> Script {
         let (records, answers, lists) = (Vec::new(), Vec::new(), Vec::new());
-        Script { tool: Tool::default(), random: Random::new(seed), records, answers, lists }
+        Script { tool: Tool::new(program), random: Random::new(seed), records, answers, lists }
     }
 
     pub fn begin_list(&mut self) {
