@@ -2,7 +2,7 @@
 
 use crate::generate::script::Script;
 use crate::generate::trip_files::{trip_files, TripFiles};
-use crate::generate::{large_list, Batch};
+use crate::generate::{large_list, large_list_in_blocks, Batch};
 use crate::random::Random;
 use crate::replay::encode;
 use crate::report::Report;
@@ -54,9 +54,16 @@ fn compare_all(programs: &Path, scratch: &Path, seed: u64, count: u64) -> Result
         }
     }
     for items in [8_191, 32_768] {
-        let script = large_list(seed ^ items as u64, items);
-        compare_script(programs, scratch, &script, &mut report)
-            .map_err(|difference| format!("list of {items} items\n{difference}"))?;
+        let seed = seed ^ items as u64;
+        let lists = [
+            ("", large_list(seed, items)),
+            (" in blocks", large_list_in_blocks(seed, items, true)),
+            (" in blocks, twisted", large_list_in_blocks(seed, items, false)),
+        ];
+        for (name, script) in lists {
+            compare_script(programs, scratch, &script, &mut report)
+                .map_err(|difference| format!("list of {items} items{name}\n{difference}"))?;
+        }
     }
     report.finish()
 }

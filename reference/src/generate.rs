@@ -1,6 +1,7 @@
 //! Random trips and lists of calls. A list is driven by the reference's own answers, so that proper
 //! calls follow whatever random ones came before, and deep states are reached in unruly lists too.
 
+pub mod blocks;
 mod file_list;
 mod noise;
 mod plan;
@@ -11,7 +12,7 @@ pub mod trip_files;
 mod verifier_list;
 
 use crate::replay::Program;
-use plan::Plan;
+use plan::{Kind, Plan};
 use script::Script;
 
 /// Lists for both call-list tools.
@@ -67,6 +68,15 @@ impl Batch {
 pub fn large_list(seed: u64, items: usize) -> Script {
     let mut script = Script::new(Program::Runs, seed);
     let plan = Plan::large(&mut script.random, items);
+    run_and_verify(&mut script, plan);
+    script
+}
+
+/// Such a run in blocks; a twisted one stays small to its end.
+pub fn large_list_in_blocks(seed: u64, items: usize, plain: bool) -> Script {
+    let mut script = Script::new(Program::Runs, seed);
+    let kind = if plain { Kind::Plain } else { Kind::Twisted };
+    let plan = Plan::large_in_blocks(&mut script.random, items, kind);
     run_and_verify(&mut script, plan);
     script
 }

@@ -188,6 +188,18 @@ pub fn run_limits(script: &mut Script) {
     }
     script.call(15, 65_536, 0);
     script.call(33, 0, 65_536);
+    let slot = script.random.below(8);
+    let length = script.random.between(254, 258);
+    script.call(60, slot, 0);
+    for k in 0..length {
+        script.call(61, slot, if k % 4 == 3 { 0 } else { k % 256 });
+    }
+    script.call(61, slot, 256);
+    for op in [26, 43, 60, 61] {
+        for slot in [slot, 8, 9, 256, u32::MAX as u64] {
+            script.call(op, slot, 0);
+        }
+    }
     only(script, 10);
 }
 
