@@ -1,5 +1,6 @@
 //! The second program: document 01 by its definitions, apart from the proved one.
 
+mod block_checks;
 mod compare;
 mod edges;
 mod field;

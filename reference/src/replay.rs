@@ -36,6 +36,7 @@ impl Program {
     }
 }
 
+#[derive(Clone, PartialEq)]
 pub struct Tool {
     pub program: Program,
     pub f: Vec<u64>,
