@@ -25,14 +25,19 @@ impl Batch {
     pub fn random(seed: u64, lists: u64) -> Batch {
         let runs = Script::new(Program::Runs, seed);
         let mut batch = Batch { runs, files: Script::new(Program::Files, !seed) };
-        batch.list_without_run();
+        batch.first_list();
         (1..lists).for_each(|_| batch.list());
         batch
     }
 
-    /// Calls before any start.
-    fn list_without_run(&mut self) {
-        self.runs.begin_list();
+    /// Every op, known or not; then calls before any start.
+    fn first_list(&mut self) {
+        for script in [&mut self.runs, &mut self.files] {
+            script.begin_list();
+            for op in 0..=100 {
+                script.call(op, 0, 0);
+            }
+        }
         for _ in 0..15 {
             noise::prover_call(&mut self.runs);
             noise::verifier_call(&mut self.runs);

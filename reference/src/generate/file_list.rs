@@ -1,6 +1,6 @@
 //! Files of the three kinds, whole and damaged, read by every call that takes one.
 
-use super::noise::{RUN_OPS, UNKNOWN};
+use super::noise::{foreign, RUN_OPS};
 use super::rule_list::random_matrix;
 use super::script::Script;
 use crate::field::P;
@@ -193,16 +193,15 @@ pub fn file_limits(script: &mut Script) {
     for _ in 0..10 {
         let random = &mut script.random;
         let edge = random.pick(&[4_095, 4_096, 4_097, u32::MAX as u64]);
-        let [any, other, third] = [(); 3].map(|()| random.any());
-        let op = random.pick(&[&RUN_OPS[..], &UNKNOWN].concat());
-        match random.below(5) {
+        let any = random.any();
+        match random.below(4) {
             0 => script.call(3, edge, 0),
             1 => script.call(3, 1, edge),
             2 => script.call3(4, any % 4, edge, any),
-            3 => script.call(5, edge.max(4_097), 0),
-            _ => script.call3(op, any, other, third),
+            _ => script.call(5, edge.max(4_097), 0),
         };
     }
+    foreign(script, &RUN_OPS);
     script.call(5, 2, 0);
     script.call(52, 0, 0);
 }

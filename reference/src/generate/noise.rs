@@ -171,7 +171,7 @@ pub const RUN_OPS: [u32; 35] = [
 const FILE_OPS: [u32; 10] = [50, 51, 52, 53, 54, 55, 56, 57, 58, 59];
 
 /// What neither does.
-pub const UNKNOWN: [u32; 16] = [0, 9, 25, 28, 29, 41, 42, 45, 46, 49, 62, 63, 64, 70, 81, u32::MAX];
+const UNKNOWN: [u32; 16] = [0, 9, 25, 28, 29, 41, 42, 45, 46, 49, 62, 63, 64, 70, 81, u32::MAX];
 
 /// What the tool itself turns away, and how much it holds.
 pub fn run_limits(script: &mut Script) {
@@ -200,7 +200,16 @@ pub fn run_limits(script: &mut Script) {
             script.call(op, slot, 0);
         }
     }
+    foreign(script, &FILE_OPS);
     only(script, 10);
+}
+
+/// Ops of the other tool, and of neither, with numbers that they could take.
+pub fn foreign(script: &mut Script, others: &[u32]) {
+    for &op in others.iter().chain(&UNKNOWN) {
+        let [a, b, c] = [(); 3].map(|()| script.random.below(4));
+        script.call3(op, a, b, c);
+    }
 }
 
 /// The tool's own records, with what it calls bad.
