@@ -1,6 +1,7 @@
 //! The call-list tools of REPLAY.md: `replay` for runs and verifiers, `replay_files` for files and
-//! rules. What one of them does is unknown to the other, but for the first five ops. Where a record is both `tool bad` and a call without a run or
-//! verifier, it is `tool bad`: the record is read before the call is made.
+//! rules. What one of them does is unknown to the other, but for the first five ops. Where a record
+//! is both `tool bad` and a call without a run or verifier, it is `tool bad`: the record is read
+//! before the call is made.
 
 mod file_calls;
 
