@@ -2,11 +2,11 @@
 
 use crate::generate::script::Script;
 use crate::generate::trip_files::{trip_files, TripFiles};
-use crate::generate::{large_list, list, list_without_run};
+use crate::generate::{large_list, large_list_in_blocks, Batch};
 use crate::random::Random;
-use crate::replay::encode;
+use crate::replay::{encode, Record, Tool};
 use crate::report::Report;
-use crate::text::hex;
+use crate::text::{hex, listed};
 use crate::{edges, rules, trip};
 use std::fs::{self, File};
 use std::path::{Path, PathBuf};
@@ -14,6 +14,8 @@ use std::process::{Command, Stdio};
 
 const LISTS_PER_TRIP: u64 = 5;
 const LISTS_IN_BATCH: u64 = 50;
+/// How many calls before a difference are shown.
+const CALLS_SHOWN: usize = 30;
 
 /// `count` trips, each in three modes, and five times as many lists.
 pub fn compare(programs: &Path, seed: u64, count: u64) -> Result<String, String> {
@@ -47,17 +49,23 @@ fn compare_all(programs: &Path, scratch: &Path, seed: u64, count: u64) -> Result
     }
     let batches = (count * LISTS_PER_TRIP).div_ceil(LISTS_IN_BATCH);
     for batch in 0..batches {
-        let mut script = Script::new(seed ^ (batch + 1) << 32);
-        list_without_run(&mut script);
-        (1..LISTS_IN_BATCH).for_each(|_| list(&mut script));
-        compare_script(programs, scratch, &script, &mut report)
-            .map_err(|difference| format!("batch {batch}\n{difference}"))?;
+        let lists = Batch::random(seed ^ (batch + 1) << 32, LISTS_IN_BATCH);
+        for script in [&lists.runs, &lists.files] {
+            compare_script(programs, scratch, script, &mut report)
+                .map_err(|difference| format!("batch {batch}\n{difference}"))?;
+        }
     }
     for items in [8_191, 32_768] {
-        let mut script = Script::new(seed ^ items as u64);
-        large_list(&mut script, items);
-        compare_script(programs, scratch, &script, &mut report)
-            .map_err(|difference| format!("list of {items} items\n{difference}"))?;
+        let seed = seed ^ items as u64;
+        let lists = [
+            ("", large_list(seed, items)),
+            (" in blocks", large_list_in_blocks(seed, items, true)),
+            (" in blocks, twisted", large_list_in_blocks(seed, items, false)),
+        ];
+        for (name, script) in lists {
+            compare_script(programs, scratch, &script, &mut report)
+                .map_err(|difference| format!("list of {items} items{name}\n{difference}"))?;
+        }
     }
     report.finish()
 }
@@ -113,7 +121,8 @@ fn compare_script(
     bytes.extend(&encode(&[8, 0, 0, 0])[..15]);
     fs::write(&input, bytes).map_err(|error| error.to_string())?;
     let records = File::open(&input).map_err(|error| error.to_string())?;
-    let got = stdout_of(&mut Command::new(programs.join("replay")), Stdio::from(records))?;
+    let program = programs.join(script.tool.program.name());
+    let got = stdout_of(&mut Command::new(program), Stdio::from(records))?;
     if got != script.answers.concat() {
         return Err(first_difference(script, &got));
     }
@@ -151,6 +160,7 @@ fn same_text(name: &str, expected: &str, got: &str) -> Result<(), String> {
 
 /// The call whose answer differs, with the calls before it in its list.
 fn first_difference(script: &Script, got: &str) -> String {
+    let name = script.tool.program.name();
     let mut rest = got;
     let answers = script.answers.iter();
     let place = answers.take_while(|answer| match rest.strip_prefix(answer.as_str()) {
@@ -162,15 +172,20 @@ fn first_difference(script: &Script, got: &str) -> String {
     });
     let place = place.count();
     if place == script.answers.len() {
-        return format!("replay: more output than calls: {}", shortened(rest));
+        return format!("{name}: more output than calls: {}", shortened(rest));
     }
     let number = script.lists.iter().rposition(|&start| start <= place).unwrap_or(0);
-    let first = script.lists[number].max(place.saturating_sub(30));
-    let mut text = format!("list {number}, call {place} of the batch, with those before it:\n");
-    for k in first..=place {
+    // What fills the scratch list, the file and the slots is left out.
+    let mut shown: Vec<usize> = (script.lists[number]..=place).collect();
+    shown.retain(|&k| !matches!(script.records[k][0], 1 | 2 | 50 | 51 | 60 | 61) || k == place);
+    shown.drain(..shown.len().saturating_sub(CALLS_SHOWN));
+    let mut text =
+        format!("{name}: list {number}, call {place} of the batch, with those before it:\n");
+    for k in shown {
         let answer = if k < place { shortened(&script.answers[k]) } else { String::new() };
         text += &format!("  {:?} {answer}\n", script.records[k]);
     }
+    text += &handed_over(script, place);
     let lines = script.answers[place].lines().count().max(1);
     let given: Vec<&str> = rest.lines().take(lines).collect();
     text + &format!(
@@ -178,6 +193,22 @@ fn first_difference(script: &Script, got: &str) -> String {
         shortened(&script.answers[place]),
         shortened(&given.join("\n"))
     )
+}
+
+/// What a call is handed beside its record, as the tool held it then.
+fn handed_over(script: &Script, place: usize) -> String {
+    let mut tool = Tool::new(script.tool.program);
+    script.records[..place].iter().for_each(|&record| drop(tool.step(record)));
+    let [op, a, ..]: Record = script.records[place];
+    match op {
+        26 | 43 => tool.slots.get(a as usize).map_or(String::new(), |bytes| {
+            format!("  slot {a}, {} bytes: {}\n", bytes.len(), hex(bytes))
+        }),
+        11 | 27 | 30..=32 | 40 | 44 | 59 => format!("  scratch list:{}\n", listed(&tool.scratch)),
+        52..=57 => format!("  file: {}\n", hex(&tool.file)),
+        58 => format!("  file: {}\n  scratch list:{}\n", hex(&tool.file), listed(&tool.scratch)),
+        _ => String::new(),
+    }
 }
 
 fn shortened(text: &str) -> String {

@@ -1,6 +1,7 @@
 //! Random trips and lists of calls. A list is driven by the reference's own answers, so that proper
 //! calls follow whatever random ones came before, and deep states are reached in unruly lists too.
 
+pub mod blocks;
 mod file_list;
 mod noise;
 mod plan;
@@ -10,41 +11,83 @@ pub mod script;
 pub mod trip_files;
 mod verifier_list;
 
-use plan::Plan;
+use crate::replay::Program;
+use plan::{Kind, Plan};
 use script::Script;
 
-/// Calls before any start.
-pub fn list_without_run(script: &mut Script) {
-    script.begin_list();
-    for _ in 0..15 {
-        noise::prover_call(script);
-        noise::verifier_call(script);
-    }
+/// Lists for both call-list tools.
+pub struct Batch {
+    pub runs: Script,
+    pub files: Script,
 }
 
-/// One list of the usual kinds.
-pub fn list(script: &mut Script) {
-    script.begin_list();
-    match script.random.below(20) {
-        0..=2 => file_list::files(script),
-        3 => file_list::tool_limits(script),
-        4..=5 => rule_list::rule_check(script),
-        6 => noise::only(script, 60),
-        _ => {
-            let plan = Plan::random(&mut script.random);
-            run_and_verify(script, plan);
+impl Batch {
+    pub fn random(seed: u64, lists: u64) -> Batch {
+        let runs = Script::new(Program::Runs, seed);
+        let mut batch = Batch { runs, files: Script::new(Program::Files, !seed) };
+        batch.first_list();
+        (1..lists).for_each(|_| batch.list());
+        batch
+    }
+
+    /// Every op, known or not; then calls before any start.
+    fn first_list(&mut self) {
+        for script in [&mut self.runs, &mut self.files] {
+            script.begin_list();
+            for op in 0..=100 {
+                script.call(op, 0, 0);
+            }
+        }
+        for _ in 0..15 {
+            noise::prover_call(&mut self.runs);
+            noise::verifier_call(&mut self.runs);
+        }
+    }
+
+    /// One list of the usual kinds.
+    fn list(&mut self) {
+        let Batch { runs, files } = self;
+        match runs.random.below(20) {
+            0..=2 => file_list::files(files),
+            3 => {
+                noise::run_limits(runs);
+                file_list::file_limits(files);
+            }
+            4..=5 => {
+                let plan = rule_list::rule_check(files, &mut runs.random);
+                run_and_verify(runs, plan);
+            }
+            6 => {
+                runs.begin_list();
+                noise::only(runs, 60);
+            }
+            _ => {
+                let plan = Plan::random(&mut runs.random);
+                run_and_verify(runs, plan);
+            }
         }
     }
 }
 
 /// A run too large for the buffers until its folds are short enough.
-pub fn large_list(script: &mut Script, items: usize) {
-    script.begin_list();
+pub fn large_list(seed: u64, items: usize) -> Script {
+    let mut script = Script::new(Program::Runs, seed);
     let plan = Plan::large(&mut script.random, items);
-    run_and_verify(script, plan);
+    run_and_verify(&mut script, plan);
+    script
+}
+
+/// Such a run in blocks; a twisted one stays small to its end.
+pub fn large_list_in_blocks(seed: u64, items: usize, plain: bool) -> Script {
+    let mut script = Script::new(Program::Runs, seed);
+    let kind = if plain { Kind::Plain } else { Kind::Twisted };
+    let plan = Plan::large_in_blocks(&mut script.random, items, kind);
+    run_and_verify(&mut script, plan);
+    script
 }
 
 fn run_and_verify(script: &mut Script, mut plan: Plan) {
+    script.begin_list();
     let openings = prover_list::drive(script, &mut plan);
     verifier_list::drive(script, &plan, &openings);
     if script.random.chance(100) {

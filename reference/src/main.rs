@@ -1,5 +1,6 @@
 //! The second program: document 01 by its definitions, apart from the proved one.
 
+mod block_checks;
 mod compare;
 mod edges;
 mod field;
@@ -22,21 +23,25 @@ mod trip;
 mod vector;
 mod verifier;
 
+use replay::Program;
 use std::io::{self, Read, Write};
 use std::path::Path;
 use std::process::ExitCode;
 
 const USAGE: &str = "usage:
   reference trip FOLDER      what `trip` prints for trip.rvl and trip.rvc of the folder
-  reference replay           the call-list tool, from standard input to standard output
+  reference replay           the call-list tool for runs and verifiers, from standard input to
+                             standard output
+  reference replay_files     the call-list tool for files and rules, likewise
   reference edges            the edges of document 01
   reference rules            two small rule checks, one with a failing row, and refusals
   reference make FOLDER      writes trip.rvl and trip.rvc from two lines on standard input:
                                READING:WEIGHT items, as in -180:10 -175:20 40:5
                                the challenges and then the point, as in 2 3 2
   reference compare PROGRAMS [SEED] [COUNT]
-                             compares the folder's trip, replay, edges and rules with this program
-                             on COUNT trips and five times as many lists (default 1 and 500)
+                             compares the folder's trip, replay, replay_files, edges and rules with
+                             this program on COUNT trips and five times as many lists (default 1
+                             and 500)
   reference selftest         checks this program against document 01's example and itself
 ";
 
@@ -59,7 +64,8 @@ fn answer(words: &[&str]) -> Result<String, String> {
     let number = |word: &str| word.parse::<u64>().map_err(|_| USAGE.to_string());
     match words {
         ["trip", folder] => Ok(trip::output_of_folder(Path::new(folder))),
-        ["replay"] => Ok(replay::output(&input()?)),
+        ["replay"] => Ok(replay::output(Program::Runs, &input()?)),
+        ["replay_files"] => Ok(replay::output(Program::Files, &input()?)),
         ["edges"] => Ok(edges::output()),
         ["rules"] => Ok(rules::example()),
         ["make", folder] => {

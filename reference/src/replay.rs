@@ -1,5 +1,7 @@
-//! The call-list tool of REPLAY.md. Where a record is both `tool bad` and a call without a run or
-//! verifier, it is `tool bad`: the record is read before the call is made.
+//! The call-list tools of REPLAY.md: `replay` for runs and verifiers, `replay_files` for files and
+//! rules. What one of them does is unknown to the other, but for the first five ops. Where a record
+//! is both `tool bad` and a call without a run or verifier, it is `tool bad`: the record is read
+//! before the call is made.
 
 mod file_calls;
 
@@ -11,14 +13,33 @@ use crate::verifier::Verifier;
 use std::fmt::Display;
 
 pub const PLACES: usize = 4_096;
-const SCRATCH: usize = 128;
+pub const SCRATCH: usize = 128;
 const PROOF: usize = 256;
+const SLOTS: usize = 8;
+pub const SLOT: usize = 256;
 const BAD: &str = "tool bad";
 const FULL: &str = "tool full";
 
 pub type Record = [u32; 4];
 
+#[derive(Clone, Copy, Debug, PartialEq)]
+pub enum Program {
+    Runs,
+    Files,
+}
+
+impl Program {
+    pub fn name(self) -> &'static str {
+        match self {
+            Program::Runs => "replay",
+            Program::Files => "replay_files",
+        }
+    }
+}
+
+#[derive(Clone, PartialEq)]
 pub struct Tool {
+    pub program: Program,
     pub f: Vec<u64>,
     pub g: Vec<u64>,
     pub lent: (usize, usize),
@@ -26,29 +47,14 @@ pub struct Tool {
     pub proof: [u8; PROOF],
     pub proof_length: usize,
     pub file: Vec<u8>,
+    pub slots: [Vec<u8>; SLOTS],
     pub run: Option<Run>,
     pub verifier: Option<Verifier>,
 }
 
-impl Default for Tool {
-    fn default() -> Tool {
-        Tool {
-            f: vec![0; PLACES],
-            g: vec![0; PLACES],
-            lent: (0, 0),
-            scratch: Vec::new(),
-            proof: [0; PROOF],
-            proof_length: 0,
-            file: Vec::new(),
-            run: None,
-            verifier: None,
-        }
-    }
-}
-
 /// All that a stream of records prints.
-pub fn output(input: &[u8]) -> String {
-    let mut tool = Tool::default();
+pub fn output(program: Program, input: &[u8]) -> String {
+    let mut tool = Tool::new(program);
     input.chunks_exact(16).map(|record| tool.step(decode(record))).collect()
 }
 
@@ -68,18 +74,41 @@ fn plain_item(reading: u32, weight: u32) -> Option<(i16, u16)> {
     Some((u16::try_from(reading).ok()? as i16, u16::try_from(weight).ok()?))
 }
 
+/// The first a numbers of a list and the next b of it.
+fn two_slices(numbers: &[u64], a: u32, b: u32) -> Option<(&[u64], &[u64])> {
+    let (a, b) = (a as usize, b as usize);
+    Some((numbers.get(..a)?, numbers.get(a..a + b)?))
+}
+
 impl Tool {
+    pub fn new(program: Program) -> Tool {
+        Tool {
+            program,
+            f: vec![0; PLACES],
+            g: vec![0; PLACES],
+            lent: (0, 0),
+            scratch: Vec::new(),
+            proof: [0; PROOF],
+            proof_length: 0,
+            file: Vec::new(),
+            slots: Default::default(),
+            run: None,
+            verifier: None,
+        }
+    }
+
     /// The lines that one record prints, each with its end.
     pub fn step(&mut self, [op, a, b, c]: Record) -> String {
         let (wide_a, wide_b) = (a as u64, b as u64);
-        let lines = match op {
-            1..=8 => self.own(op, a as usize, b as usize, c),
-            10..=12 => self.start_prover(op, wide_a, wide_b),
-            13..=24 => self.prover(op, a, b),
-            30..=32 => self.start_verifier(op, wide_a, wide_b),
-            33..=40 => self.verifier(op, a, b, c),
-            50..=51 => self.write_file(op, a),
-            52..=59 => self.read_file(op, a, wide_b),
+        let lines = match (self.program, op) {
+            (_, 1..=5) | (Program::Runs, 6..=8) => self.own(op, a as usize, b as usize, c),
+            (Program::Runs, 10..=12) => self.start_prover(op, wide_a, wide_b),
+            (Program::Runs, 13..=24 | 26..=27) => self.prover(op, a, b),
+            (Program::Runs, 30..=32) => self.start_verifier(op, wide_a, wide_b),
+            (Program::Runs, 33..=40 | 43..=44) => self.verifier(op, a, b, c),
+            (Program::Runs, 60..=61) => self.write_slot(op, a as usize, b),
+            (Program::Files, 50..=51) => self.write_file(op, a),
+            (Program::Files, 52..=59) => self.read_file(op, a, wide_b),
             _ => BAD.to_string(),
         };
         match lines.is_empty() {
@@ -104,6 +133,17 @@ impl Tool {
                 return format!("proof {} {}", self.proof_length, hex(bytes));
             }
             _ => return BAD.to_string(),
+        }
+        String::new()
+    }
+
+    fn write_slot(&mut self, op: u32, slot: usize, byte: u32) -> String {
+        match op {
+            _ if slot >= SLOTS => return BAD.to_string(),
+            60 => self.slots[slot].clear(),
+            _ if byte > 255 => return BAD.to_string(),
+            _ if self.slots[slot].len() == SLOT => return FULL.to_string(),
+            _ => self.slots[slot].push(byte as u8),
         }
         String::new()
     }
@@ -150,6 +190,14 @@ impl Tool {
             21 => Call::Opening(number),
             22 => Call::ToFull,
             23 => Call::ToSmall,
+            26 => match self.slots.get(a as usize) {
+                Some(block) => Call::Items(block),
+                None => return BAD.to_string(),
+            },
+            27 => match two_slices(&self.scratch, a, b) {
+                Some((first, second)) => Call::FieldItems(first, second),
+                None => return BAD.to_string(),
+            },
             _ if a as usize > PROOF => return BAD.to_string(),
             _ => Call::WriteProof(a as usize),
         };
@@ -183,7 +231,15 @@ impl Tool {
 
     fn verifier(&mut self, op: u32, a: u32, b: u32, c: u32) -> String {
         let item = plain_item(a, b);
-        if op == 33 && item.is_none() {
+        let block = self.slots.get(a as usize);
+        let slices = two_slices(&self.scratch, a, b);
+        let bad = match op {
+            33 => item.is_none(),
+            43 => block.is_none(),
+            44 => slices.is_none(),
+            _ => false,
+        };
+        if bad {
             return BAD.to_string();
         }
         let Some(verifier) = &mut self.verifier else {
@@ -204,6 +260,11 @@ impl Tool {
             })),
             38 => answered(verifier.verdict()),
             39 => answered(verifier.proof(&self.proof[..self.proof_length])),
+            43 => answered(verifier.items(block.unwrap()).map(|_| "taken")),
+            44 => {
+                let (first, second) = slices.unwrap();
+                answered(verifier.field_items(first, second).map(|_| "taken"))
+            }
             _ => answered(verifier.check_opening(numbers[0], &self.scratch).map(
                 |fault| match fault {
                     None => "yes".to_string(),

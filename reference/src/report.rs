@@ -1,22 +1,38 @@
-//! What a comparison has covered. Numbers that it should reach and did not make it fail.
+//! What a comparison has covered. What it should reach and did not makes it fail.
 
+use crate::generate::blocks::{Counts, ALWAYS_REFUSED, WHERE};
 use crate::generate::script::Script;
 
-const GROUPS: [&str; 4] = ["trip", "prover", "verifier", "files and rules"];
+/// Blocks stand apart from the other calls of a prover and a verifier.
+const GROUPS: [&str; 8] = [
+    "trip",
+    "prover",
+    "verifier",
+    "files and rules",
+    "items",
+    "field_items",
+    "verifier's items",
+    "its field_items",
+];
 
 /// The refusals that document 01 allows in each group.
-const WANTED: [&[usize]; 4] = [
+const WANTED: [&[usize]; GROUPS.len()] = [
     &[1, 2, 3, 4, 5, 6, 7],
     &[3, 5, 6, 7, 8, 9, 10, 16],
     &[1, 2, 3, 4, 5, 6, 7, 8, 10, 11, 12, 16],
     &[1, 2, 3, 4, 5, 6, 7, 9, 11, 13, 14, 15, 16],
+    &[4, 5, 8, 9, 10],
+    &[8, 9, 10, 16],
+    &[4, 5, 8, 10],
+    &[8, 10, 16],
 ];
 
 #[derive(Default)]
 pub struct Report {
     /// By group, then by refusal number.
-    refused: [[u64; 17]; 4],
-    answered: [u64; 4],
+    refused: [[u64; 17]; GROUPS.len()],
+    answered: [u64; GROUPS.len()],
+    blocks: Counts,
     yes: u64,
     no: u64,
     trips: u64,
@@ -37,6 +53,10 @@ impl Report {
                 10..=24 => 1,
                 30..=40 => 2,
                 52..=59 => 3,
+                26 => 4,
+                27 => 5,
+                43 => 6,
+                44 => 7,
                 _ => continue,
             };
             self.count(group, answer);
@@ -44,6 +64,10 @@ impl Report {
                 self.yes += answer.starts_with("yes") as u64;
                 self.no += answer.starts_with("no ") as u64;
             }
+        }
+        let counted = self.blocks.iter_mut().flatten().flatten();
+        for (sum, count) in counted.zip(script.blocks.iter().flatten().flatten()) {
+            *sum += count;
         }
     }
 
@@ -59,36 +83,75 @@ impl Report {
     }
 
     pub fn finish(&self) -> Result<String, String> {
-        let mut missing = String::new();
-        for (group, wanted) in WANTED.iter().enumerate() {
-            for &number in wanted.iter().filter(|&&number| self.refused[group][number] == 0) {
-                missing += &format!("refusal {number} was not reached in {}\n", GROUPS[group]);
-            }
-        }
+        let missing = self.missing_refusals() + &self.missing_blocks();
         match missing.is_empty() {
             true => Ok(self.table()),
             false => Err(missing + &self.table()),
         }
     }
 
-    fn table(&self) -> String {
-        let row = |name: &str, counts: [u64; 4]| {
-            let cells = counts.map(|count| format!("{count:>16}")).concat();
-            format!("{name:>8}{cells}\n")
-        };
-        let heads = GROUPS.map(|name| format!("{name:>16}")).concat();
-        let mut text = format!("{:>8}{heads}\n", "refused");
-        for number in 1..=16 {
-            text +=
-                &row(&number.to_string(), [0, 1, 2, 3].map(|group| self.refused[group][number]));
+    fn missing_refusals(&self) -> String {
+        let mut missing = String::new();
+        for (group, wanted) in WANTED.iter().enumerate() {
+            for &number in wanted.iter().filter(|&&number| self.refused[group][number] == 0) {
+                missing += &format!("refusal {number} was not reached in {}\n", GROUPS[group]);
+            }
         }
-        text += &row("answered", self.answered);
-        let calls = self.refused[1..].iter().flatten().sum::<u64>()
-            + self.answered[1..].iter().sum::<u64>();
-        text + &format!(
+        missing
+    }
+
+    fn missing_blocks(&self) -> String {
+        let mut missing = String::new();
+        for (name, places) in ["plain", "twisted"].iter().zip(&self.blocks) {
+            for (place, &[taken, refused]) in places.iter().enumerate() {
+                if taken == 0 && place < ALWAYS_REFUSED {
+                    missing += &format!("no {name} block was taken: {}\n", WHERE[place]);
+                }
+                if refused == 0 {
+                    missing += &format!("no {name} block was refused: {}\n", WHERE[place]);
+                }
+            }
+        }
+        missing
+    }
+
+    fn table(&self) -> String {
+        let mut text = self.columns(0..4) + &self.columns(4..8) + &self.places();
+        let calls =
+            self.refused[1..].iter().flatten().chain(&self.answered[1..]).copied().sum::<u64>();
+        text += &format!(
             "{} trips in three modes, {} lists, {calls} calls, {} verdicts yes, {} no, \
              {} example programs: all alike\n",
             self.trips, self.lists, self.yes, self.no, self.programs
-        )
+        );
+        text
+    }
+
+    /// Some of the groups side by side, with the numbers that one of them can be refused with.
+    fn columns(&self, groups: std::ops::Range<usize>) -> String {
+        let row = |name: &str, cell: &dyn Fn(usize) -> String| {
+            let cells = groups.clone().map(|group| format!("{:>17}", cell(group)));
+            format!("{name:>8}{}\n", cells.collect::<String>())
+        };
+        let mut text = row("refused", &|group| GROUPS[group].to_string());
+        for number in 1..=16 {
+            if WANTED[groups.clone()].iter().any(|wanted| wanted.contains(&number)) {
+                text += &row(&number.to_string(), &|group| self.refused[group][number].to_string());
+            }
+        }
+        text + &row("answered", &|group| self.answered[group].to_string())
+    }
+
+    /// Where blocks were handed in, taken and refused.
+    fn places(&self) -> String {
+        let mut text = format!(
+            "{:>24}{:>13}{:>13}{:>15}{:>15}\n",
+            "blocks", "plain taken", "refused", "twisted taken", "refused"
+        );
+        for (place, name) in WHERE.iter().enumerate() {
+            let [[plain, refused], [twisted, turned_away]] = self.blocks.map(|kind| kind[place]);
+            text += &format!("{name:>24}{plain:>13}{refused:>13}{twisted:>15}{turned_away:>15}\n");
+        }
+        text
     }
 }

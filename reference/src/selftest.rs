@@ -4,9 +4,9 @@ use crate::edges::{self, CHALLENGES, POINT, TRIP};
 use crate::field::from_signed;
 use crate::files::write_log;
 use crate::random::Random;
-use crate::replay::Tool;
+use crate::replay::{Program, Tool};
 use crate::text::listed;
-use crate::{random_runs, rules, trip};
+use crate::{block_checks, random_runs, rules, trip};
 
 const PAPER_TRIP: &str = "total -5100
 round 0 2147482047 2147478297 2147480147
@@ -61,6 +61,10 @@ pub fn run() -> Result<String, String> {
     for change in 0..=4 {
         alike(&format!("change before {change}"), PAPER_TRIP, &replayed(change))?;
     }
+    for program in [Program::Runs, Program::Files] {
+        alike(program.name(), &known_by_paper(program), &known(program))?;
+    }
+    block_checks::run()?;
     let mut random = Random::new(1);
     for k in 0..400 {
         random_runs::random_run(&mut random).map_err(|what| format!("random run {k}: {what}"))?;
@@ -75,6 +79,22 @@ fn alike(name: &str, wanted: &str, got: &str) -> Result<(), String> {
     }
 }
 
+/// The ops that a program has, as REPLAY.md divides them.
+fn known_by_paper(program: Program) -> String {
+    let ops = match program {
+        Program::Runs => vec![1..=8, 10..=24, 26..=27, 30..=40, 43..=44, 60..=61],
+        Program::Files => vec![1..=5, 50..=59],
+    };
+    ops.into_iter().flatten().map(|op: u32| format!("{op} ")).collect()
+}
+
+/// Those for which a record of zeros is not bad.
+fn known(program: Program) -> String {
+    let bad = |&op: &u32| Tool::new(program).step([op, 0, 0, 0]) == "tool bad\n";
+    let ops = (0..=100).chain([u32::MAX]).filter(|op| !bad(op));
+    ops.map(|op| format!("{op} ")).collect()
+}
+
 fn rule_verdicts() -> String {
     let example = rules::example();
     let verdicts: Vec<&str> =
@@ -85,7 +105,7 @@ fn rule_verdicts() -> String {
 /// The paper's trip by calls of the tool, changing mode before round `change`, the ends (2), the
 /// openings (3) or never (4), with the answers worded as `trip` words them.
 fn replayed(change: usize) -> String {
-    let tool = &mut Tool::default();
+    let tool = &mut Tool::new(Program::Runs);
     tool.lent = (4, 4);
     call(tool, 10, [3, 0, 0]);
     let mut text = pass(tool, 13, 0) + "\n";

@@ -31,7 +31,7 @@ pub enum Aim {
 }
 
 /// The vectors of the items answered in this pass; places not yet taken are zero.
-#[derive(Clone)]
+#[derive(Clone, Debug, PartialEq)]
 pub struct Pass {
     pub aim: Aim,
     pub taken: usize,
@@ -40,7 +40,7 @@ pub struct Pass {
     pub plain_total: i64,
 }
 
-#[derive(Clone)]
+#[derive(Clone, Debug, PartialEq)]
 pub struct Run {
     pub plain: bool,
     pub items: usize,

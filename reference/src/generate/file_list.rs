@@ -1,6 +1,6 @@
 //! Files of the three kinds, whole and damaged, read by every call that takes one.
 
-use super::noise;
+use super::noise::{foreign, RUN_OPS};
 use super::rule_list::random_matrix;
 use super::script::Script;
 use crate::field::P;
@@ -8,6 +8,7 @@ use crate::files::{write_log, write_matrix, write_proof, Proof};
 use crate::random::Random;
 
 pub fn files(script: &mut Script) {
+    script.begin_list();
     for _ in 0..script.random.between(2, 5) {
         let kind = script.random.below(3);
         let random = &mut script.random;
@@ -176,12 +177,11 @@ fn claims(script: &mut Script) {
 }
 
 /// What the tool itself turns away, and how much it holds.
-pub fn tool_limits(script: &mut Script) {
+pub fn file_limits(script: &mut Script) {
+    script.begin_list();
     let length = script.random.between(126, 131);
     script.fill_scratch(&vec![1; length as usize]);
-    script.call(11, 3, 0);
-    script.call(31, 3, script.tool.scratch.len() as u64 + 1);
-    script.call(31, 3, u32::MAX as u64);
+    script.call(59, 7, 1);
     if script.random.chance(200) {
         let bytes: Vec<u8> = (0..1_026).map(|k| k as u8).collect();
         script.fill_file(&bytes);
@@ -190,12 +190,18 @@ pub fn tool_limits(script: &mut Script) {
         script.call(57, 127, 0);
     }
     script.call(51, 256, 0);
-    for op in [5, 7, 24] {
-        for a in [256, 257, 4_097, u32::MAX as u64] {
-            script.call(op, if op == 5 { a.max(4_097) } else { a }, 0);
-        }
+    for _ in 0..10 {
+        let random = &mut script.random;
+        let edge = random.pick(&[4_095, 4_096, 4_097, u32::MAX as u64]);
+        let any = random.any();
+        match random.below(4) {
+            0 => script.call(3, edge, 0),
+            1 => script.call(3, 1, edge),
+            2 => script.call3(4, any % 4, edge, any),
+            _ => script.call(5, edge.max(4_097), 0),
+        };
     }
-    script.call(15, 65_536, 0);
-    script.call(33, 0, 65_536);
-    noise::only(script, 10);
+    foreign(script, &RUN_OPS);
+    script.call(5, 2, 0);
+    script.call(52, 0, 0);
 }

@@ -22,8 +22,10 @@ pub fn any_call(script: &mut Script) {
 }
 
 pub fn prover_call(script: &mut Script) {
-    let op = script.random.between(13, 24) as u32;
+    let op = script.random.pick(&[13, 14, 15, 16, 17, 18, 19, 20, 21, 22, 23, 24, 26, 27]);
     let (a, b) = match op {
+        26 => (slot(script), script.random.any()),
+        27 => slices(script),
         15 => plain_item(script),
         16 => (script.random.any(), script.random.any()),
         24 => (proof_room(script), 0),
@@ -43,6 +45,30 @@ fn plain_item(script: &mut Script) -> (u64, u64) {
     }
 }
 
+/// Whatever the slot holds; the one after the last is bad.
+fn slot(script: &mut Script) -> u64 {
+    match script.random.below(10) {
+        0 => script.random.pick(&[8, 9, 256, u32::MAX as u64]),
+        _ => script.random.below(8),
+    }
+}
+
+/// Two slices of the scratch list as it is; now and then it has too few numbers.
+fn slices(script: &mut Script) -> (u64, u64) {
+    let (length, random) = (script.tool.scratch.len() as u64, &mut script.random);
+    let half = length / 2;
+    let first = random.below(length + 1);
+    match random.below(8) {
+        0 => (first, length - first + 1),
+        1 => (length + 1, 0),
+        2 => (u32::MAX as u64, random.pick(&[0, 1, u32::MAX as u64])),
+        3 => (1, u32::MAX as u64),
+        4 => (first, length - first),
+        5 => (first.min(half), first.min(half)),
+        _ => (half, half),
+    }
+}
+
 /// About as many bytes as the run's proof has.
 fn proof_room(script: &mut Script) -> u64 {
     let length = script.tool.run.as_ref().map_or(18, |run| 18 + 12 * run.rounds) as u64;
@@ -50,7 +76,7 @@ fn proof_room(script: &mut Script) -> u64 {
 }
 
 pub fn verifier_call(script: &mut Script) {
-    let op = script.random.between(33, 40) as u32;
+    let op = script.random.pick(&[33, 34, 35, 36, 37, 38, 39, 40, 43, 44]);
     let any = [script.random.any(), script.random.any(), script.random.any()];
     let [a, b, c] = match op {
         33 => {
@@ -64,6 +90,11 @@ pub fn verifier_call(script: &mut Script) {
         40 => {
             opening_list(script);
             any
+        }
+        43 => [slot(script), any[1], any[2]],
+        44 => {
+            let (first, second) = slices(script);
+            [first, second, 0]
         }
         _ => any,
     };
@@ -132,6 +163,55 @@ pub fn refused_start(script: &mut Script) {
     };
 }
 
+/// What `replay` alone does, and what `replay_files` alone does.
+pub const RUN_OPS: [u32; 35] = [
+    6, 7, 8, 10, 11, 12, 13, 14, 15, 16, 17, 18, 19, 20, 21, 22, 23, 24, 26, 27, 30, 31, 32, 33,
+    34, 35, 36, 37, 38, 39, 40, 43, 44, 60, 61,
+];
+const FILE_OPS: [u32; 10] = [50, 51, 52, 53, 54, 55, 56, 57, 58, 59];
+
+/// What neither does.
+const UNKNOWN: [u32; 16] = [0, 9, 25, 28, 29, 41, 42, 45, 46, 49, 62, 63, 64, 70, 81, u32::MAX];
+
+/// What the tool itself turns away, and how much it holds.
+pub fn run_limits(script: &mut Script) {
+    script.begin_list();
+    let length = script.random.between(126, 131);
+    script.fill_scratch(&vec![1; length as usize]);
+    script.call(11, 3, 0);
+    script.call(31, 3, script.tool.scratch.len() as u64 + 1);
+    script.call(31, 3, u32::MAX as u64);
+    for op in [5, 7, 24] {
+        for a in [256, 257, 4_097, u32::MAX as u64] {
+            script.call(op, if op == 5 { a.max(4_097) } else { a }, 0);
+        }
+    }
+    script.call(15, 65_536, 0);
+    script.call(33, 0, 65_536);
+    let slot = script.random.below(8);
+    let length = script.random.between(254, 258);
+    script.call(60, slot, 0);
+    for k in 0..length {
+        script.call(61, slot, if k % 4 == 3 { 0 } else { k % 256 });
+    }
+    script.call(61, slot, 256);
+    for op in [26, 43, 60, 61] {
+        for slot in [slot, 8, 9, 256, u32::MAX as u64] {
+            script.call(op, slot, 0);
+        }
+    }
+    foreign(script, &FILE_OPS);
+    only(script, 10);
+}
+
+/// Ops of the other tool, and of neither, with numbers that they could take.
+pub fn foreign(script: &mut Script, others: &[u32]) {
+    for &op in others.iter().chain(&UNKNOWN) {
+        let [a, b, c] = [(); 3].map(|()| script.random.below(4));
+        script.call3(op, a, b, c);
+    }
+}
+
 /// The tool's own records, with what it calls bad.
 fn own_call(script: &mut Script) {
     let random = &mut script.random;
@@ -139,8 +219,9 @@ fn own_call(script: &mut Script) {
     let byte = random.pick(&[0, 1, 255, 256, u32::MAX as u64]);
     let place = random.pick(&[0, 3, 5, 6, 10, 30, 255, 256, u32::MAX as u64]);
     let any = random.any();
-    let unknown = random.pick(&[0, 9, 25, 29, 41, 49, 60, u32::MAX]);
-    match random.below(9) {
+    let unknown = random.pick(&[&FILE_OPS[..], &UNKNOWN].concat());
+    let slot = random.below(9);
+    match random.below(11) {
         0 => script.call(1, any, any),
         1 => script.call(2, any, any),
         2 => script.call(3, edge, 0),
@@ -149,6 +230,8 @@ fn own_call(script: &mut Script) {
         5 => script.call(6, place, byte),
         6 => script.call(7, place, 0),
         7 => script.call(8, any, any),
+        8 => script.call(60, slot, byte % 256),
+        9 => script.call(61, slot, byte),
         _ => script.call3(unknown, any, any, any),
     };
 }

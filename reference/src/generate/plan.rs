@@ -1,5 +1,6 @@
 //! What one run is meant to be: its trip, its challenges, when it changes mode, how unruly it is.
 
+use super::blocks::LONGEST;
 use crate::random::Random;
 use crate::vector::{rounds_of, rule_twists};
 
@@ -26,6 +27,11 @@ pub struct Plan {
     pub noise: u64,
     pub dumps: u64,
     pub strays: u64,
+    /// Permille of blocks, and of faulty blocks before a proper call.
+    pub blocks: u64,
+    pub faults: u64,
+    /// Blocks are cut at multiples of the longest.
+    pub aligned: bool,
 }
 
 impl Plan {
@@ -56,9 +62,34 @@ impl Plan {
         let trip = trip.collect();
         let mut plan = Plan::of(random, Kind::Plain, trip);
         plan.change_before = rounds_of(items).saturating_sub(12);
-        (plan.openings, plan.noise, plan.strays) = (0, 0, 0);
-        plan.dumps = 1;
+        plan.openings = 0;
+        plan.calmed()
+    }
+
+    /// A run of many items whose blocks come again, so that they stay in the slots or the scratch
+    /// list. A plain one changes mode as the one above, a twisted one never.
+    pub fn large_in_blocks(random: &mut Random, items: usize, kind: Kind) -> Plan {
+        let repeated = match kind {
+            Kind::Plain => {
+                (0..7 * LONGEST).map(|_| (random.below(1 << 16), random.below(10))).collect()
+            }
+            _ => field_items(random, LONGEST),
+        };
+        let trip = (0..items).map(|i| repeated[i % repeated.len()]).collect();
+        let mut plan = Plan::of(random, kind, trip);
+        let rounds = rounds_of(items);
+        (plan.change_before, plan.openings) = match kind {
+            Kind::Plain => (rounds.saturating_sub(12), 0),
+            _ => (rounds + 2, 1),
+        };
+        let mut plan = plan.calmed();
+        (plan.blocks, plan.faults, plan.aligned) = (1_000, 2, true);
         plan
+    }
+
+    fn calmed(mut self) -> Plan {
+        (self.noise, self.dumps, self.strays, self.blocks, self.faults) = (0, 1, 0, 0, 0);
+        self
     }
 
     pub fn of(random: &mut Random, kind: Kind, items: Vec<(u64, u64)>) -> Plan {
@@ -83,6 +114,9 @@ impl Plan {
             noise: random.pick(&[0, 0, 20, 80, 250]),
             dumps: random.pick(&[0, 50, 300, 1_000]),
             strays: random.pick(&[0, 0, 0, 100]),
+            blocks: random.pick(&[0, 0, 200, 600, 1_000]),
+            faults: random.pick(&[0, 50, 150]),
+            aligned: false,
         }
     }
 

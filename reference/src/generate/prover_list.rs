@@ -1,6 +1,7 @@
 //! Drives a run to its end: at each step the call that is next in the reference's state, with random
 //! calls and dumps between.
 
+use super::blocks::{self, Taker};
 use super::noise;
 use super::plan::{field_items, plain_items, Kind, Plan};
 use super::script::Script;
@@ -38,6 +39,9 @@ pub fn drive(script: &mut Script, plan: &mut Plan) -> Openings {
         if replaced || openings_next && all_given {
             break;
         }
+        if script.random.chance(plan.faults) {
+            blocks::faulty(script, plan, Taker::Run);
+        }
         step(script, plan, &mut openings);
     }
     if plan.noise > 0 {
@@ -65,8 +69,11 @@ fn step(script: &mut Script, plan: &mut Plan, openings: &mut Openings) {
     let run = script.tool.run.as_ref().unwrap();
     match &run.pass {
         Some(pass) if pass.taken < run.items => {
-            let (aim, index) = (pass.aim, run.items - 1 - pass.taken);
-            give_item(script, plan, aim, index);
+            let index = run.items - 1 - pass.taken;
+            match script.random.chance(plan.blocks) {
+                true => blocks::give(script, plan, Taker::Run),
+                false => give_item(script, plan, index),
+            }
         }
         Some(pass) => {
             let aim = pass.aim;
@@ -115,11 +122,8 @@ fn near_miss(script: &mut Script) {
     };
 }
 
-fn give_item(script: &mut Script, plan: &Plan, aim: Aim, index: usize) {
-    if let Aim::Change(level) = aim {
-        let size = script.tool.run.as_ref().unwrap().size() >> level;
-        script.lend(size);
-    }
+fn give_item(script: &mut Script, plan: &Plan, index: usize) {
+    blocks::lend_for_change(script);
     let stray = script.random.chance(plan.strays);
     let (op, item) = match plan.plain() {
         true if stray => (15, plain_items(&mut script.random, 1)[0]),

@@ -1,4 +1,4 @@
-//! A rule check: three matrix files, their products by the tool, the claim, and the twisted run.
+//! A rule check: three matrix files, their products by the tool and the claim, for a twisted run.
 
 use super::plan::{Kind, Plan};
 use super::script::Script;
@@ -6,7 +6,9 @@ use crate::field::{inverse, mul};
 use crate::files::{write_matrix, Entry, Matrix};
 use crate::random::Random;
 
-pub fn rule_check(script: &mut Script) {
+/// The products as a run, planned by `planned`.
+pub fn rule_check(script: &mut Script, planned: &mut Random) -> Plan {
+    script.begin_list();
     let random = &mut script.random;
     let rounds = random.below(5) as usize;
     let size = 1 << rounds;
@@ -23,9 +25,9 @@ pub fn rule_check(script: &mut Script) {
     script.fill_scratch(&cz);
     let claim = script.call(59, rounds as u64, v).strip_prefix("claim ").unwrap().parse().unwrap();
     let items = az.into_iter().zip(bz).collect();
-    let mut plan = Plan::of(&mut script.random, Kind::Rule(v), items);
+    let mut plan = Plan::of(planned, Kind::Rule(v), items);
     plan.claim = Some(claim);
-    super::run_and_verify(script, plan);
+    plan
 }
 
 /// Entries in order, with places met twice.

@@ -1,7 +1,8 @@
 //! Records as they are written, with the reference's answer to each.
 
+use super::blocks::Counts;
 use crate::random::Random;
-use crate::replay::{Record, Tool, PLACES};
+use crate::replay::{Program, Record, Tool, PLACES};
 
 pub struct Script {
     pub tool: Tool,
@@ -10,12 +11,22 @@ pub struct Script {
     pub answers: Vec<String>,
     /// Where each list begins.
     pub lists: Vec<usize>,
+    pub blocks: Counts,
+    /// The slot that is filled next.
+    slot: usize,
 }
 
 impl Script {
-    pub fn new(seed: u64) -> Script {
-        let (records, answers, lists) = (Vec::new(), Vec::new(), Vec::new());
-        Script { tool: Tool::default(), random: Random::new(seed), records, answers, lists }
+    pub fn new(program: Program, seed: u64) -> Script {
+        Script {
+            tool: Tool::new(program),
+            random: Random::new(seed),
+            records: Vec::new(),
+            answers: Vec::new(),
+            lists: Vec::new(),
+            blocks: Counts::default(),
+            slot: 0,
+        }
     }
 
     pub fn begin_list(&mut self) {
@@ -39,6 +50,27 @@ impl Script {
         for &number in numbers {
             self.call(2, number, 0);
         }
+    }
+
+    /// Makes the scratch list begin with these numbers, if it does not already.
+    pub fn scratch_with(&mut self, numbers: &[u64]) {
+        if !self.tool.scratch.starts_with(numbers) {
+            self.fill_scratch(numbers);
+        }
+    }
+
+    /// A slot that holds these bytes, filled if none does.
+    pub fn slot_with(&mut self, bytes: &[u8]) -> u64 {
+        if let Some(slot) = self.tool.slots.iter().position(|held| held == bytes) {
+            return slot as u64;
+        }
+        self.slot = (self.slot + 1) % self.tool.slots.len();
+        let slot = self.slot as u64;
+        self.call(60, slot, 0);
+        for &byte in bytes {
+            self.call(61, slot, byte as u64);
+        }
+        slot
     }
 
     pub fn fill_file(&mut self, bytes: &[u8]) {

@@ -1,6 +1,7 @@
 //! Drives a verifier through the run that the tool holds: its items, its total and messages or its
 //! proof file, its openings; true, or with one number changed.
 
+use super::blocks::{self, Taker};
 use super::noise;
 use super::plan::{Kind, Plan};
 use super::prover_list::Openings;
@@ -99,6 +100,12 @@ fn step(script: &mut Script, plan: &Plan, given: &Given) -> bool {
     if verifier.plain != plan.plain() || verifier.items != plan.items.len() {
         return true;
     }
+    let closed = verifier.claim.is_some();
+    if script.random.chance(if closed { plan.faults / 2 } else { plan.faults }) {
+        blocks::faulty(script, plan, Taker::Verifier);
+        return false;
+    }
+    let verifier = script.tool.verifier.as_ref().unwrap();
     if verifier.claim.is_some() {
         let over = verifier.verdict.is_some() || passed == verifier.rounds;
         let Some(&[even, cross, odd]) = given.messages.get(passed).filter(|_| !over) else {
@@ -109,6 +116,8 @@ fn step(script: &mut Script, plan: &Plan, given: &Given) -> bool {
         if script.call3(37, even, cross, odd) == "refused 11" {
             script.call3(37, even.min(1), cross.min(1), odd.min(1));
         }
+    } else if taken < plan.items.len() && script.random.chance(plan.blocks) {
+        blocks::give(script, plan, Taker::Verifier);
     } else if taken < plan.items.len() {
         let (a, b) = plan.items[taken];
         if script.random.chance(15) {
