@@ -75,8 +75,8 @@ fn call_of(r: Record) -> Named {
     match op {
         13 => Named::Call(Call::OpenPass),
         14 => Named::Call(Call::OpenAt(r.a)),
-        15 => reading(r.a, r.b),
-        16 => given(Given::Numbers(r.a, r.b)),
+        15 => give(signs::item(r.a, r.b)),
+        16 => Named::Call(Call::Give(Given::Numbers(r.a, r.b))),
         17 => Named::Call(Call::Close),
         18 => Named::Call(Call::Message),
         19 => Named::Call(Call::Challenge(r.a)),
@@ -89,15 +89,11 @@ fn call_of(r: Record) -> Named {
     }
 }
 
-fn reading(a: u32, b: u32) -> Named {
-    let Plain::Item(reading, weight) = signs::item(a, b) else {
+fn give(item: Plain) -> Named {
+    let Plain::Item(given) = item else {
         return Named::Nothing;
     };
-    given(Given::Reading(reading, weight))
-}
-
-fn given(item: Given) -> Named {
-    Named::Call(Call::Give(item))
+    Named::Call(Call::Give(given))
 }
 
 fn write_proof(size: u32) -> Named {

@@ -74,8 +74,8 @@ pub(crate) fn call(j: Judge, r: Record, l: Lists, p: Proof) -> Judge {
 fn query_of(r: Record) -> Posed {
     let op = r.op;
     match op {
-        33 => reading(r.a, r.b),
-        34 => given(Given::Numbers(r.a, r.b)),
+        33 => give(signs::item(r.a, r.b)),
+        34 => Posed::Query(Query::Give(Given::Numbers(r.a, r.b))),
         35 => Posed::Query(Query::Close(signed64(r.a, r.b))),
         36 => Posed::Query(Query::CloseClaim(r.a)),
         37 => Posed::Query(Query::Message(r.a, r.b, r.c)),
@@ -86,15 +86,11 @@ fn query_of(r: Record) -> Posed {
     }
 }
 
-fn reading(a: u32, b: u32) -> Posed {
-    let Plain::Item(reading, weight) = signs::item(a, b) else {
+fn give(item: Plain) -> Posed {
+    let Plain::Item(given) = item else {
         return Posed::Nothing;
     };
-    given(Given::Reading(reading, weight))
-}
-
-fn given(item: Given) -> Posed {
-    Posed::Query(Query::Give(item))
+    Posed::Query(Query::Give(given))
 }
 
 // With the scratch list and the proof file.
