@@ -37,11 +37,11 @@ fn call(s: State, r: Record, f: &mut [u32; 4096], g: &mut [u32; 4096]) -> State 
     match op {
         1..=4 => state::keep(s, r, f, g),
         5 => dump::call(s, r.a, f, g),
-        6..=8 => state::with_proof(s, proof::call(s.proof, r)),
-        10..=12 => state::with_prover(s, proving::start(s.prover, r, s.lists)),
+        6..=8 => proof::call(s, r),
+        10..=12 => proving::start(s, r),
         13..=24 => proving::call(s, r, f, g),
-        30..=32 => state::with_judge(s, verifying::start(s.judge, r, s.lists)),
-        33..=40 => state::with_judge(s, verifying::call(s.judge, r, s.lists, s.proof)),
+        30..=32 => verifying::start(s, r),
+        33..=40 => verifying::call(s, r),
         60..=61 => state::fill(s, r),
         _ => bad(s),
     }

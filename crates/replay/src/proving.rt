@@ -2,7 +2,6 @@
 use super::answers;
 use super::print;
 use super::proof::Proof;
-use super::state;
 use super::state::Prover;
 use super::state::State;
 use calls::Call;
@@ -24,9 +23,10 @@ pub enum Named {
     Nothing,
 }
 
-pub(crate) fn start(p: Prover, r: Record, l: Lists) -> Prover {
-    let scratch = l.scratch;
-    started(p, start_of(r, numbers(l.held, &scratch)))
+pub(crate) fn start(s: State, r: Record) -> State {
+    let scratch = s.lists.scratch;
+    let prover = started(s.prover, start_of(r, numbers(s.lists.held, &scratch)));
+    State { prover, ..s }
 }
 
 fn start_of(r: Record, twists: &[u32]) -> Step {
@@ -110,7 +110,11 @@ fn made(s: State, call: Call, a: u32, f: &mut [u32; 4096], g: &mut [u32; 4096]) 
     answers::step(step);
     let answer = step.answer;
     let size = size_after(proof.size, answer);
-    state::with_prover(state::with_proof(s, Proof { bytes, size }), left_by(step))
+    State {
+        proof: Proof { bytes, size },
+        prover: left_by(step),
+        ..s
+    }
 }
 
 fn make(
