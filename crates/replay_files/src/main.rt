@@ -1,5 +1,5 @@
-// Reads a file and checks rules by a list of calls, and prints what each answers. A record of standard input is one call. The buffers
-// are lent to the calls as a host would lend them.
+// Runs a list of calls on files and rules, and prints what each answers. A record of standard input is one call. The buffers are lent
+// to the calls as a host would lend them.
 mod files;
 mod print;
 mod record;
