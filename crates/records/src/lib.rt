@@ -1,4 +1,5 @@
-// What the tools for lists of calls share and no call answers. They print it themselves: a library must not.
+// What the tools for lists of calls share: the numbers of a record, and what they keep for the calls. It prints nothing, as no library
+// may: it answers what the tool says.
 ghost use mathlib.Core.Path.{_≡_};
 ghost use Rattle.wire.specs.Number.{wordAt};
 
@@ -29,7 +30,7 @@ pub fn decode(bytes: &[u8]) -> Record
     }
 }
 
-// What the tool itself says of a record that makes no call.
+// What the tool says of a record that makes no call.
 pub enum Said {
     Nothing,
     Bad,

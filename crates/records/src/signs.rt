@@ -2,14 +2,15 @@
 ghost use mathlib.Core.Path.{_≡_};
 ghost use Prim.Native.Nat.{_+_, _*_, _<_};
 ghost use Rattle.wire.specs.Number.{signed};
+use item::Given;
 
-// An item of a plain run.
 pub enum Plain {
-    Item(i16, u16),
+    Item(Given),
+    // A number takes more than sixteen bits.
     Bad,
 }
 
-// The reading in sixteen bits, and the weight.
+// An item of a plain run.
 pub fn item(reading: u32, weight: u32) -> Plain {
     if reading > 65535 {
         return Plain::Bad;
@@ -17,7 +18,7 @@ pub fn item(reading: u32, weight: u32) -> Plain {
     if weight > 65535 {
         return Plain::Bad;
     }
-    Plain::Item(signed16(reading), weight as u16)
+    Plain::Item(Given::Reading(signed16(reading), weight as u16))
 }
 
 fn signed16(v: u32) -> i16

@@ -1,5 +1,6 @@
 // The proof file: ops 6 to 8.
 use super::print;
+use super::state::State;
 use records::Record;
 use records::parts::within_bytes;
 
@@ -15,17 +16,19 @@ pub(crate) fn none() -> Proof {
     }
 }
 
-pub(crate) fn call(p: Proof, r: Record) -> Proof {
+pub(crate) fn call(s: State, r: Record) -> State {
     let op = r.op;
-    if op == 6 {
-        return set(p, r.a, r.b);
+    if op == 8 {
+        let bytes = s.proof.bytes;
+        dump(s.proof.size, &bytes);
+        return s;
     }
-    if op == 7 {
-        return resized(p, r.a);
-    }
-    let bytes = p.bytes;
-    dump(p.size, &bytes);
-    p
+    let proof = if op == 6 {
+        set(s.proof, r.a, r.b)
+    } else {
+        resized(s.proof, r.a)
+    };
+    State { proof, ..s }
 }
 
 fn set(p: Proof, at: u32, byte: u32) -> Proof {

@@ -2,7 +2,6 @@
 use super::answers;
 use super::print;
 use super::proof::Proof;
-use super::state;
 use super::state::Prover;
 use super::state::State;
 use calls::Call;
@@ -24,9 +23,10 @@ pub enum Named {
     Nothing,
 }
 
-pub(crate) fn start(p: Prover, r: Record, l: Lists) -> Prover {
-    let scratch = l.scratch;
-    started(p, start_of(r, numbers(l.held, &scratch)))
+pub(crate) fn start(s: State, r: Record) -> State {
+    let scratch = s.lists.scratch;
+    let prover = started(s.prover, start_of(r, numbers(s.lists.held, &scratch)));
+    State { prover, ..s }
 }
 
 fn start_of(r: Record, twists: &[u32]) -> Step {
@@ -75,8 +75,8 @@ fn call_of(r: Record) -> Named {
     match op {
         13 => Named::Call(Call::OpenPass),
         14 => Named::Call(Call::OpenAt(r.a)),
-        15 => reading(r.a, r.b),
-        16 => given(Given::Numbers(r.a, r.b)),
+        15 => give(signs::item(r.a, r.b)),
+        16 => Named::Call(Call::Give(Given::Numbers(r.a, r.b))),
         17 => Named::Call(Call::Close),
         18 => Named::Call(Call::Message),
         19 => Named::Call(Call::Challenge(r.a)),
@@ -89,15 +89,11 @@ fn call_of(r: Record) -> Named {
     }
 }
 
-fn reading(a: u32, b: u32) -> Named {
-    let Plain::Item(reading, weight) = signs::item(a, b) else {
+fn give(item: Plain) -> Named {
+    let Plain::Item(given) = item else {
         return Named::Nothing;
     };
-    given(Given::Reading(reading, weight))
-}
-
-fn given(item: Given) -> Named {
-    Named::Call(Call::Give(item))
+    Named::Call(Call::Give(given))
 }
 
 fn write_proof(size: u32) -> Named {
@@ -114,7 +110,11 @@ fn made(s: State, call: Call, a: u32, f: &mut [u32; 4096], g: &mut [u32; 4096]) 
     answers::step(step);
     let answer = step.answer;
     let size = size_after(proof.size, answer);
-    state::with_prover(state::with_proof(s, Proof { bytes, size }), left_by(step))
+    State {
+        proof: Proof { bytes, size },
+        prover: left_by(step),
+        ..s
+    }
 }
 
 fn make(

@@ -78,15 +78,3 @@ pub(crate) fn fill(s: State, r: Record) -> State {
     let slots = filled.slots;
     State { slots, ..s }
 }
-
-pub(crate) fn with_proof(s: State, proof: Proof) -> State {
-    State { proof, ..s }
-}
-
-pub(crate) fn with_prover(s: State, prover: Prover) -> State {
-    State { prover, ..s }
-}
-
-pub(crate) fn with_judge(s: State, judge: Judge) -> State {
-    State { judge, ..s }
-}

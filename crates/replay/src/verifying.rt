@@ -3,6 +3,7 @@ use super::answers;
 use super::print;
 use super::proof::Proof;
 use super::state::Judge;
+use super::state::State;
 use calls::query::Query;
 use item::Given;
 use records::Record;
@@ -22,9 +23,10 @@ pub enum Posed {
     Nothing,
 }
 
-pub(crate) fn start(j: Judge, r: Record, l: Lists) -> Judge {
-    let scratch = l.scratch;
-    start_with(j, r, numbers(l.held, &scratch))
+pub(crate) fn start(s: State, r: Record) -> State {
+    let scratch = s.lists.scratch;
+    let judge = start_with(s.judge, r, numbers(s.lists.held, &scratch));
+    State { judge, ..s }
 }
 
 fn start_with(j: Judge, r: Record, values: &[u32]) -> Judge {
@@ -59,23 +61,24 @@ fn started(j: Judge, step: Step) -> Judge {
     Judge { on: true, verifier }
 }
 
-pub(crate) fn call(j: Judge, r: Record, l: Lists, p: Proof) -> Judge {
+pub(crate) fn call(s: State, r: Record) -> State {
     let Posed::Query(query) = query_of(r) else {
         print::bad();
-        return j;
+        return s;
     };
-    if j.on {
-        return asked(j, query, l, p);
+    if s.judge.on {
+        let judge = asked(s.judge, query, s.lists, s.proof);
+        return State { judge, ..s };
     }
     print::line(b"no verifier");
-    j
+    s
 }
 
 fn query_of(r: Record) -> Posed {
     let op = r.op;
     match op {
-        33 => reading(r.a, r.b),
-        34 => given(Given::Numbers(r.a, r.b)),
+        33 => give(signs::item(r.a, r.b)),
+        34 => Posed::Query(Query::Give(Given::Numbers(r.a, r.b))),
         35 => Posed::Query(Query::Close(signed64(r.a, r.b))),
         36 => Posed::Query(Query::CloseClaim(r.a)),
         37 => Posed::Query(Query::Message(r.a, r.b, r.c)),
@@ -86,15 +89,11 @@ fn query_of(r: Record) -> Posed {
     }
 }
 
-fn reading(a: u32, b: u32) -> Posed {
-    let Plain::Item(reading, weight) = signs::item(a, b) else {
+fn give(item: Plain) -> Posed {
+    let Plain::Item(given) = item else {
         return Posed::Nothing;
     };
-    given(Given::Reading(reading, weight))
-}
-
-fn given(item: Given) -> Posed {
-    Posed::Query(Query::Give(item))
+    Posed::Query(Query::Give(given))
 }
 
 // With the scratch list and the proof file.

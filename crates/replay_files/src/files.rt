@@ -1,5 +1,6 @@
 // The file and its calls: ops 50 to 57.
 use super::print;
+use super::state::State;
 use records::Record;
 use records::parts::within_bytes;
 use wire::log::ItemRead;
@@ -20,18 +21,20 @@ pub(crate) fn none() -> File {
     }
 }
 
-pub(crate) fn call(file: File, r: Record) -> File {
+pub(crate) fn call(s: State, r: Record) -> State {
     let op = r.op;
-    if op == 50 {
-        return File { size: 0, ..file };
+    if op > 51 {
+        let bytes = s.file.bytes;
+        let n = within_bytes(s.file.size, &bytes);
+        read(op, r.a, &bytes[..n]);
+        return s;
     }
-    if op == 51 {
-        return append(file, r.a);
-    }
-    let bytes = file.bytes;
-    let n = within_bytes(file.size, &bytes);
-    read(op, r.a, &bytes[..n]);
-    file
+    let file = if op == 50 {
+        none()
+    } else {
+        append(s.file, r.a)
+    };
+    State { file, ..s }
 }
 
 fn append(file: File, byte: u32) -> File {

@@ -1,5 +1,5 @@
-// Reads a file and checks rules by a list of calls, and prints what each answers. A record of standard input is one call. The buffers
-// are lent to the calls as a host would lend them.
+// Runs a list of calls on files and rules, and prints what each answers. A record of standard input is one call. The buffers are lent
+// to the calls as a host would lend them.
 mod files;
 mod print;
 mod record;
@@ -34,7 +34,7 @@ fn call(s: State, r: Record, f: &mut [u32; 4096], g: &mut [u32; 4096]) -> State 
     match op {
         1..=4 => state::keep(s, r, f, g),
         5 => dump(s, r.a, f, g),
-        50..=57 => state::with_file(s, files::call(s.file, r)),
+        50..=57 => files::call(s, r),
         58..=59 => rules::call(s, r, f),
         _ => bad(s),
     }

@@ -1,4 +1,4 @@
-// The records of standard input.
+// The records of standard input. The same file stands in replay and in replay_files, as print.rt does.
 use libc::STDIN_FILENO;
 use records::Record;
 

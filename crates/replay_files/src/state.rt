@@ -25,7 +25,3 @@ pub(crate) fn keep(s: State, r: Record, f: &mut [u32; 4096], g: &mut [u32; 4096]
     let lists = kept.lists;
     State { lists, ..s }
 }
-
-pub(crate) fn with_file(s: State, file: File) -> State {
-    State { file, ..s }
-}
