@@ -23,6 +23,8 @@ use Rattle.calls.specs.QueryState.{VerifierState, Posed, Hearing, freshH
 use Rattle.calls.specs.Given.{replyOf, BringsRun}
 use Rattle.calls.specs.Starts.{Whole}
 use Rattle.calls.specs.Demand3.{AllSized, AllKept, AllTake, AllBringRun, AllSay, Demand3}
+use Rattle.calls.proofs.BlockLists.{fresh-blocks}
+use Rattle.calls.proofs.HeardBlocks.{every-heard-block}
 use Rattle.calls.proofs.Records.{Notes}
 use Rattle.calls.proofs.Refusals.{all-decided, fresh-faithful}
 use Rattle.calls.proofs.Answers.{Going, all-right, fresh-going}
@@ -117,6 +119,8 @@ module _ (p : ℕ) (large : maxWeight < p) (prime : Prime p) (odd : p % 2 ≡ 1)
                   ),
             );
         verdicts = λ s h cs listed. every-verdict p s cs large h listed;
+        blocks = fresh-blocks p large;
+        verifierBlocks = every-heard-block p;
       }
 
 -- of the customer's modulus

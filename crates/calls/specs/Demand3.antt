@@ -1,6 +1,6 @@
 -- DEMAND 3: "a single theorem whose subject is the whole list". To be read top to bottom with Lists, Starts, State, World, Table, Meaning,
 -- Statement (a run's list), Proper (a run's own list), QueryState (a verifier's list), Given (a verifier's beside a run's), Carried and
--- WholeList (the verifier's own list) and Verdict (a verifier's verdicts).
+-- WholeList (the verifier's own list), Verdict (a verifier's verdicts) and Blocks (lists with blocks of items).
 use Prim.Native.Nat.{ℕ, _+_, _<_, _≤_}
 use mathlib.Core.Path.{_≡_}
 use mathlib.Core.Bool.{Bool, true}
@@ -24,6 +24,7 @@ use Rattle.calls.specs.Given.{replyOf, BringsRun, OpeningsChecked, agree
 use Rattle.calls.specs.Carried.{byMessages, byFile, writesProof}
 use Rattle.calls.specs.WholeList.{wholeByMessages, wholeByFile}
 use Rattle.calls.specs.Verdict.{broughtWith, Judges, Account, freshAccount, accountOn}
+use Rattle.calls.specs.Blocks.{Wide, SizedWide, wideOn, WideDecided, expanded, WidePosed, wideHears, WideDecidedHeard, expandedHeard}
 use Rattle.calls.specs.Starts.{Startable, Whole, Starts}
 
 -- ALONG A RUN'S LIST
@@ -139,3 +140,12 @@ pub record Demand3 (p : ℕ) : Type 0 where
   -- A VERIFIER'S VERDICTS, whatever its list: yes for exactly the messages that meet its equations, else no with the first round that
   -- failed, or n
   pub verdicts : (s : Start) → Startable s → (cs : List ℕ) → length cs ≡ s .rounds → (qs : List Posed) → AllJudged p s cs (freshAccount s cs) qs
+  -- WITH BLOCKS OF ITEMS AMONG THE CALLS: each is refused exactly when its rows say, or stands for its single items, all of them answered; and the
+  -- list ends as the one in which each answered block stands as its single items, of which all the above is said
+  pub blocks : (s : Start) → Startable s → (f g : List ℕ) (xs : List Wide)
+      → (let w : World = freshWorld s f g in
+      along (wideOn p) (λ w x. SizedWide x) w xs
+      → along (wideOn p) (WideDecided p) w xs × (after (wideOn p) w xs ≡ after (onward p) w (expanded p w xs)) × AllSized p w (expanded p w xs))
+  pub verifierBlocks : (s : Start) → Startable s → (cs : List ℕ) (xs : List WidePosed)
+      → (let h : Hearing = freshHearing s cs in
+      along (wideHears p) (WideDecidedHeard p) h xs × (after (wideHears p) h xs ≡ after (hearsOn p) h (expandedHeard p h xs)))

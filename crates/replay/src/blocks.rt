@@ -1,10 +1,7 @@
 // Blocks of items: the bytes of a slot, or two parts of the scratch list.
-ghost use Prim.Native.Nat.{_≤_};
-ghost use lib.ListN.{length};
 use super::answers;
 use super::print;
 use super::proving;
-use super::state;
 use super::state::Judge;
 use super::state::Prover;
 use super::state::State;
@@ -40,11 +37,19 @@ fn slot(s: State, run: bool, k: u32, f: &mut [u32; 4096], g: &mut [u32; 4096]) -
     let sizes = slots.sizes;
     let at = (k as usize) * 256;
     let size = sizes[k as usize];
-    let part = bytes_of(&bytes[at..], size);
+    let part = bytes_from(&bytes, at, size);
     if run {
         return to_run(s, part, f, g);
     }
-    state::with_judge(s, to_judge(s.judge, part))
+    let judge = to_judge(s.judge, part);
+    State { judge, ..s }
+}
+
+fn bytes_from(bytes: &[u8], at: usize, size: usize) -> &[u8] {
+    if bytes.len() < at {
+        return &bytes[..0];
+    }
+    bytes_of(&bytes[at..], size)
 }
 
 fn bytes_of(bytes: &[u8], size: usize) -> &[u8] {
@@ -54,7 +59,8 @@ fn bytes_of(bytes: &[u8], size: usize) -> &[u8] {
 
 fn to_run(s: State, block: &[u8], f: &mut [u32], g: &mut [u32]) -> State {
     if s.prover.on {
-        return state::with_prover(s, took(items(s.prover, s.lists, block, f, g)));
+        let prover = took(items(s.prover, s.lists, block, f, g));
+        return State { prover, ..s };
     }
     print::line(b"no run");
     s
@@ -100,12 +106,14 @@ fn parts(s: State, run: bool, a: u32, b: u32, f: &mut [u32; 4096], g: &mut [u32;
     if run {
         return numbers_to_run(s, &held[..n], &held[n..end], f, g);
     }
-    state::with_judge(s, numbers_to_judge(s.judge, &held[..n], &held[n..end]))
+    let judge = numbers_to_judge(s.judge, &held[..n], &held[n..end]);
+    State { judge, ..s }
 }
 
 fn numbers_to_run(s: State, a: &[u32], b: &[u32], f: &mut [u32], g: &mut [u32]) -> State {
     if s.prover.on {
-        return state::with_prover(s, took(field_items(s.prover, s.lists, a, b, f, g)));
+        let prover = took(field_items(s.prover, s.lists, a, b, f, g));
+        return State { prover, ..s };
     }
     print::line(b"no run");
     s
