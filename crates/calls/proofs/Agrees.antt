@@ -20,7 +20,7 @@ use Rattle.phase.specs.declared.Next.{Next}
 use Rattle.phase.specs.declared.Next.the-variants as next
 use Rattle.phase.specs.declared.Kind.{Kind}
 use Rattle.phase.specs.declared.Kind.the-variants.{Shut, Asked, Change}
-use Rattle.phase.specs.Cases.{isTotal}
+use Rattle.phase.specs.Cases.{waits}
 use Rattle.phase.specs.Level.{levelAt}
 use Rattle.phase.specs.Order.{roundFits}
 use Rattle.prover.specs.declared.Pass.{Pass}
@@ -114,13 +114,13 @@ module _ (p : ℕ) (its : List Given) (a : State) {past : Notes} (h : Fits p a p
   agree-at k j l = array-at 15 (a .turn .challenges) j (omega (arith, level-taken k))
 
   -- THE OPEN PASS has taken the trip's items, asked for or for a change
-  pub pass-taken : isTotal (a .turn .next) ≡ false → Gives T (a .pass .items)
+  pub pass-taken : waits next.Total (a .turn .next) ≡ false → Gives T (a .pass .items)
       → (let s : Pass = passAfter p (runOf a past) Asked (a .pass .point) (a .pass .items) in
       Taken p (a .start .rounds) (at (a .turn .challenges)) (levelOf (runOf a past) Asked) (s .points) (vectorF p T) (vectorG p T) (2 ^ a .start .rounds - a .start .items + length (a .pass .items)) (kernelOf s))
   pass-taken other gives =
       after-given p (runOf a past) (a .pass .point) (a .pass .items) (run-formed p a h) (h .pass .count) other (at (a .turn .challenges)) (agree-at Asked) T refl gives
 
-  pub pass-changing : isTotal (a .turn .next) ≡ false → Gives T (a .pass .items)
+  pub pass-changing : waits next.Total (a .turn .next) ≡ false → Gives T (a .pass .items)
       → (let s : Pass = passAfter p (runOf a past) Change (a .pass .point) (a .pass .items) in
       Changing p (a .start .rounds) (at (a .turn .challenges)) (levelOf (runOf a past) Change) (vectorF p T) (vectorG p T) (2 ^ a .start .rounds - a .start .items + length (a .pass .items)) (kernelOf s))
   pass-changing other gives =
@@ -130,7 +130,7 @@ module _ (p : ℕ) (its : List Given) (a : State) {past : Notes} (h : Fits p a p
   enough = subst (λ n. a .start .items ≤ 2 ^ n) (sym (h .run .rounds)) (rounds-enough (a .start .items) (h .run .most))
 
   -- a whole one
-  pub pass-whole : isTotal (a .turn .next) ≡ false → Gives T (a .pass .items) → length (a .pass .items) ≡ a .start .items
+  pub pass-whole : waits next.Total (a .turn .next) ≡ false → Gives T (a .pass .items) → length (a .pass .items) ≡ a .start .items
       → (let s : Pass = passAfter p (runOf a past) Asked (a .pass .point) (a .pass .items) in
       Taken p (a .start .rounds) (at (a .turn .challenges)) (levelOf (runOf a past) Asked) (s .points) (vectorF p T) (vectorG p T) (2 ^ a .start .rounds) (kernelOf s))
   pass-whole other gives all =

@@ -17,7 +17,7 @@ use Rattle.phase.specs.declared.Next.{Next}
 use Rattle.phase.specs.declared.Next.the-variants as next
 use Rattle.phase.specs.declared.Kind.{Kind}
 use Rattle.phase.specs.declared.Kind.the-variants.{Shut, Asked, Change}
-use Rattle.phase.specs.Cases.{isTotal}
+use Rattle.phase.specs.Cases.{waits}
 use Rattle.phase.proofs.Facts.{level-at-most}
 use Rattle.prover.specs.declared.Run.{Run}
 use Rattle.prover.specs.declared.Pass.{Pass}
@@ -147,7 +147,7 @@ module _ (p : ℕ) (large : maxWeight < p) (through : Bool) (its : List Given) w
       let n : ℕ = a .start .rounds in
       let c : ℕ → ℕ = at (a .turn .challenges) in
       let T : Trip = tripAt its a in
-      let other : isTotal (a .turn .next) ≡ false = totals (a .turn .next) ∙ e .1 in
+      let other : waits next.Total (a .turn .next) ≡ false = totals (a .turn .next) ∙ e .1 in
       let s : Pass = passAfter p (runOf a past) Asked (a .pass .point) (a .pass .items) in
       let level : levelOf (runOf a past) Asked ≡ passLevel a = asked-level p large n (length (a .turn .challenges)) (a .turn .next) in
       let hi = level-at-most n (length (a .turn .challenges)) (a .turn .next) Asked (round-most p its a h) in

@@ -17,8 +17,9 @@ use Rattle.vector.specs.Rounds.{size}
 use Rattle.kernel.specs.declared.Climber.{Climber}
 use Rattle.kernel.specs.Kernel.{fits, climberIn}
 use Rattle.kernel.specs.Change.{Placed, placedOf, placeAfter, putIn, placedAt, placed}
+use Rattle.phase.specs.declared.Next.the-variants as next
 use Rattle.phase.specs.Cases as cases
-use Rattle.phase.specs.Cases.{isTotal}
+use Rattle.phase.specs.Cases.{waits}
 use Rattle.item.specs.declared.Item.{Item}
 use Rattle.item.specs.declared.Start.{Start}
 use Rattle.item.specs.declared.Given.{Given}
@@ -71,7 +72,7 @@ module _ (p : ℕ) (r : Run) (s : Pass) (y : Item) (f g : List ℕ) where
 
   takes-long : (length (takes p r s y f g .f) ≡ length f) × (length (takes p r s y f g .g) ≡ length g)
   unfolding takes placedItem placed
-  takes-long = by (isTotal (r .next)) (cases.isChange (s .kind)) (fits (levelOf r (s .kind)) (kernelOf s))
+  takes-long = by (waits next.Total (r .next)) (cases.isChange (s .kind)) (fits (levelOf r (s .kind)) (kernelOf s))
     where
       by : (sums change fit : Bool) → (length (taking sums change fit .f) ≡ length f) × (length (taking sums change fit .g) ≡ length g)
       by true change fit = (refl, refl)

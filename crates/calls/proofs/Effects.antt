@@ -13,7 +13,7 @@ use Rattle.vector.specs.Fold.{combine, fold}
 use Rattle.vector.proofs.Folds.{fold-challenges}
 use Rattle.phase.specs.declared.Next.the-variants as next
 use Rattle.phase.specs.declared.Kind.the-variants.{Shut, Change}
-use Rattle.phase.specs.Cases.{isTotal}
+use Rattle.phase.specs.Cases.{waits}
 use Rattle.phase.specs.Level.{levelAt}
 use Rattle.prover.specs.declared.Run.{Run}
 use Rattle.prover.specs.declared.Pass.{Pass}
@@ -67,7 +67,7 @@ module _ (p : ℕ) (its : List Given) (a : State) {past : Notes} (h : Fits p a p
       (padded-written p cs f R xs (run-formed p a h) zero-from) there
 
   -- AN ITEM OF A CHANGE
-  module _ (gives : Gives T (a .pass .items)) (more : length (a .pass .items) < a .start .items) (change : a .pass .kind ≡ Change) (later : isTotal (a .turn .next) ≡ false)
+  module _ (gives : Gives T (a .pass .items)) (more : length (a .pass .items) < a .start .items) (change : a .pass .kind ≡ Change) (later : waits next.Total (a .turn .next) ≡ false)
       (x : Given) (next-item : x ≡ itemOf T (a .start .items - 1 - length (a .pass .items))) (fs gs : List ℕ) (lf : long a ≤ length fs) (lg : long a ≤ length gs) where
     abbrev S : Pass
     S = passAfter p R Change (a .pass .point) (a .pass .items)

@@ -21,7 +21,7 @@ use Rattle.phase.specs.declared.Next.{Next}
 use Rattle.phase.specs.declared.Next.the-variants as next
 use Rattle.phase.specs.declared.Kind.{Kind}
 use Rattle.phase.specs.declared.Kind.the-variants.{Shut}
-use Rattle.phase.specs.Cases.{isTotal}
+use Rattle.phase.specs.Cases.{waits}
 use Rattle.phase.specs.Order.{roundFits, kindFits}
 use Rattle.prover.specs.WellFormed.{runFormed, wellFormed}
 use Rattle.item.specs.declared.Start.{Start}
@@ -124,7 +124,7 @@ module _ (p : ℕ) (a : State) {past : Notes} (h : Fits p a past) where
   pub taken-is : passOf p a past .taken ≡ length (a .pass .items)
   taken-is = after-taken p (runOf a past) (a .pass .kind) (a .pass .point) (a .pass .items)
 
-  pub sum-is : isTotal (a .turn .next) ≡ true → passOf p a past .total ≡ sumOf (a .pass .items)
+  pub sum-is : waits next.Total (a .turn .next) ≡ true → passOf p a past .total ≡ sumOf (a .pass .items)
   sum-is e = after-total p (runOf a past) (a .pass .kind) (a .pass .point) e (a .pass .items) (h .pass .within) (omega (arith, h .pass .count, h .run .most))
 
   pub messages-below : 0 < p → allBelow p (λ k. getD (runOf a past .messages) k 0) (3 * a .start .rounds) ≡ true

@@ -27,7 +27,7 @@ use Rattle.phase.specs.declared.Next.{Next}
 use Rattle.phase.specs.declared.Next.the-variants as next
 use Rattle.phase.specs.declared.Kind.{Kind}
 use Rattle.phase.specs.declared.Kind.the-variants.{Shut, Asked, Change}
-use Rattle.phase.specs.Cases.{isTotal}
+use Rattle.phase.specs.Cases.{waits}
 use Rattle.phase.specs.Level.{levelAt}
 use Rattle.phase.specs.Order.{roundOrEnds, roundFits, kindFits}
 use Rattle.prover.specs.declared.Run.{Run}
@@ -310,7 +310,7 @@ module _ (p : ℕ) (large : maxWeight < p) where
     close-core next.Total Asked et op fit fits = total-closed (a .start .plain) refl et (λ e. fits e refl)
     close-core next.Message Asked et op fit fits =
         let q = message-round a h et in
-        let b = own-message p positive R (a .pass .items) (h .pass .fine) (a .pass .point) (run-formed p a h) all (ap isTotal et) enough (length (a .turn .challenges))
+        let b = own-message p positive R (a .pass .items) (h .pass .fine) (a .pass .point) (run-formed p a h) all (ap (waits next.Total) et) enough (length (a .turn .challenges))
         (ap (λ t. levelAt (a .start .rounds) (length (a .turn .challenges)) t Asked) et) (q .0) in
         record {
           run = message-run a h et (S Asked .even) (S Asked .cross) (S Asked .odd);
@@ -323,7 +323,7 @@ module _ (p : ℕ) (large : maxWeight < p) where
         no-pass Small e = true≢false (sym e)
         no-pass Full e = true≢false (sym e)
     close-core next.Ends Asked et op fit fits =
-        let b = own-ends p positive R (a .pass .items) (h .pass .fine) (a .pass .point) (run-formed p a h) all (ap isTotal et) enough et in
+        let b = own-ends p positive R (a .pass .items) (h .pass .fine) (a .pass .point) (run-formed p a h) all (ap (waits next.Total) et) enough et in
         record { run = refl; pass = refl; fits = record { run = ends-fits a h et _ _ (b .0) (b .1); pass = shut-items (a .start) (a .turn .mode) _ } }
     close-core next.Openings Asked et op fit fits =
         record {
@@ -351,7 +351,7 @@ module _ (p : ℕ) (large : maxWeight < p) where
       (sym (kind-is p a h))
       (close-core a h l all (a .turn .next) (a .pass .kind) refl (q .0) (h .pass .kind)
       (λ plain first.
-      ap (inLimits p) (after-total p (runOf a past) Asked (a .pass .point) (ap isTotal first) (a .pass .items) (h .pass .within) (omega (arith, h .pass .count, h .run .most)))
+      ap (inLimits p) (after-total p (runOf a past) Asked (a .pass .point) (ap (waits next.Total) first) (a .pass .items) (h .pass .within) (omega (arith, h .pass .count, h .run .most)))
       ∙ limit-of (waits next.Total (a .turn .next)) (a .start .plain) _ (v .0) (ap (waits next.Total) first) plain))
 
   -- the closed pass is the same of any run

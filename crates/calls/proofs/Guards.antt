@@ -20,7 +20,7 @@ use Rattle.phase.specs.declared.Next.the-variants as next
 use Rattle.phase.specs.declared.Kind.{Kind}
 use Rattle.phase.specs.declared.Kind.the-variants.{Shut, Asked, Change}
 use Rattle.phase.specs.Cases as cases
-use Rattle.phase.specs.Cases.{isTotal, isMessage, isEnds, isOpenings, isChallenge}
+use Rattle.phase.specs.Cases.{waits}
 use Rattle.phase.specs.Level.{levelAt}
 use Rattle.phase.specs.Order.{openNext, changeAt}
 use Rattle.prover.specs.declared.Run.{Run}
@@ -91,7 +91,7 @@ pass-next Small next.Challenge = refl
 pass-next Small next.Ends = refl
 pass-next Small next.Openings = refl
 
-openings-next : (m : Bool) (t : Next) (n : ℕ) → cond m (cond (isOpenings t) (ltb 0 n) false) false ≡ (m && openingsNext t n)
+openings-next : (m : Bool) (t : Next) (n : ℕ) → cond m (cond (waits next.Openings t) (ltb 0 n) false) false ≡ (m && openingsNext t n)
 openings-next false t n = refl
 openings-next true next.Total n = refl
 openings-next true next.Message n = refl
@@ -107,7 +107,7 @@ change-next Small next.Challenge n = refl
 change-next Small next.Ends n = refl
 change-next Small next.Openings n = refl
 
-message-next : (m : Bool) (t : Next) → cond m (isMessage t) false ≡ (m && waits next.Message t)
+message-next : (m : Bool) (t : Next) → cond m (waits next.Message t) false ≡ (m && waits next.Message t)
 message-next false t = refl
 message-next true next.Total = refl
 message-next true next.Message = refl
@@ -115,7 +115,7 @@ message-next true next.Challenge = refl
 message-next true next.Ends = refl
 message-next true next.Openings = refl
 
-ends-next : (m : Bool) (t : Next) → cond m (isEnds t) false ≡ (m && waits next.Ends t)
+ends-next : (m : Bool) (t : Next) → cond m (waits next.Ends t) false ≡ (m && waits next.Ends t)
 ends-next false t = refl
 ends-next true next.Total = refl
 ends-next true next.Message = refl
@@ -123,14 +123,14 @@ ends-next true next.Challenge = refl
 ends-next true next.Ends = refl
 ends-next true next.Openings = refl
 
-challenge-next : (t : Next) → isChallenge t ≡ waits next.Challenge t
+challenge-next : (t : Next) → waits next.Challenge t ≡ waits next.Challenge t
 challenge-next next.Total = refl
 challenge-next next.Message = refl
 challenge-next next.Challenge = refl
 challenge-next next.Ends = refl
 challenge-next next.Openings = refl
 
-pub proof-next : (plain : Bool) (t : Next) → cond plain (isOpenings t) false ≡ (plain && waits next.Openings t)
+pub proof-next : (plain : Bool) (t : Next) → cond plain (waits next.Openings t) false ≡ (plain && waits next.Openings t)
 proof-next false t = refl
 proof-next true next.Total = refl
 proof-next true next.Message = refl
@@ -145,7 +145,7 @@ level-now n i next.Challenge = refl
 level-now n i next.Ends = refl
 level-now n i next.Openings = refl
 
-pub totals : (t : Next) → isTotal t ≡ waits next.Total t
+pub totals : (t : Next) → waits next.Total t ≡ waits next.Total t
 totals next.Total = refl
 totals next.Message = refl
 totals next.Challenge = refl
@@ -280,10 +280,10 @@ module _ (p : ℕ) (a : State) (past : Notes) (few : a .start .rounds ≤ 15) wh
       unfolding giveCall table
       item-decided x l = like-row _ _ 10 _ _ _ open-test (like-row _ _ 8 _ _ _ wanted-test (own-rows x l))
 
-      total-test : (isTotal (a .turn .next) ≡ true → s .total ≡ sumOf (a .pass .items)) → close.totalFits p R s ≡ totalFits p a
-      total-test sums = by (isTotal (a .turn .next)) refl (totals (a .turn .next))
+      total-test : (waits next.Total (a .turn .next) ≡ true → s .total ≡ sumOf (a .pass .items)) → close.totalFits p R s ≡ totalFits p a
+      total-test sums = by (waits next.Total (a .turn .next)) refl (totals (a .turn .next))
         where
-          by : (first : Bool) → isTotal (a .turn .next) ≡ first → first ≡ waits next.Total (a .turn .next)
+          by : (first : Bool) → waits next.Total (a .turn .next) ≡ first → first ≡ waits next.Total (a .turn .next)
               → cond first (cond (a .start .plain) (inLimits p (s .total)) true) true ≡ totalFits p a
           by true e w =
               ap (λ z. cond (a .start .plain) (inLimits p z) true) (sums e)
@@ -291,7 +291,7 @@ module _ (p : ℕ) (a : State) (past : Notes) (few : a .start .rounds ≤ 15) wh
               ∙ ap (λ first. not (first && a .start .plain) || inLimits p (sumOf (a .pass .items))) w
           by false e w = ap (λ first. not (first && a .start .plain) || inLimits p (sumOf (a .pass .items))) w
 
-      pub close-decided : (isTotal (a .turn .next) ≡ true → s .total ≡ sumOf (a .pass .items)) → (l : Lent)
+      pub close-decided : (waits next.Total (a .turn .next) ≡ true → s .total ≡ sumOf (a .pass .items)) → (l : Lent)
           → closeCall p R s ≡ decided (table p a call.Close l) (closing R s (s .kind))
       unfolding closeCall table
       close-decided sums l =

@@ -17,7 +17,7 @@ use Rattle.phase.specs.declared.Next.{Next}
 use Rattle.phase.specs.declared.Next.the-variants as next
 use Rattle.phase.specs.declared.Kind.{Kind}
 use Rattle.phase.specs.declared.Kind.the-variants.{Shut, Asked, Change}
-use Rattle.phase.specs.Cases.{isTotal, isOpenings}
+use Rattle.phase.specs.Cases.{waits}
 use Rattle.phase.specs.Order.{roundOrEnds, roundFits, kindFits}
 use Rattle.prover.specs.declared.Run.{Run}
 use Rattle.prover.specs.declared.Pass.{Pass}
@@ -102,12 +102,12 @@ module _ (p : ℕ) (large : maxWeight < p) (through : Bool) (its : List Given) (
         ≡ record { answer = answered (cond plain (reply.total (totalOf T)) (reply.fieldTotal (dot p (2 ^ n) (vectorF p T) (vectorG p T)))); values = noValues }
     total-meant true k e =
         ap (λ z. record { answer = answered (reply.total z); values = noValues })
-        (after-sum p R Asked (a .pass .point) (a .pass .items) (run-formed p a h) (ap isTotal e) (h .pass .within) all T refl gives whole)
+        (after-sum p R Asked (a .pass .point) (a .pass .items) (run-formed p a h) (ap (waits next.Total) e) (h .pass .within) all T refl gives whole)
     total-meant false k e =
         ap (λ z. record { answer = answered (reply.fieldTotal z); values = noValues })
-        (after-dot p R Asked (a .pass .point) (a .pass .items) (run-formed p a h) (ap isTotal e) k all T refl gives)
+        (after-dot p R Asked (a .pass .point) (a .pass .items) (run-formed p a h) (ap (waits next.Total) e) k all T refl gives)
 
-    taken-whole : a .pass .kind ≡ Asked → isTotal (a .turn .next) ≡ false
+    taken-whole : a .pass .kind ≡ Asked → waits next.Total (a .turn .next) ≡ false
         → Taken p n cs (levelOf R (S Asked .kind)) (S Asked .points) (vectorF p T) (vectorG p T) (2 ^ n) (kernelOf (S Asked))
     taken-whole ek other =
         subst (λ k. Taken p n cs (levelOf R k) (S Asked .points) (vectorF p T) (vectorG p T) (2 ^ n) (kernelOf (S Asked))) (sym (after-kind p R Asked (a .pass .point) (a .pass .items)))
@@ -115,21 +115,21 @@ module _ (p : ℕ) (large : maxWeight < p) (through : Bool) (its : List Given) (
 
     -- an opening pass evaluates at its point
     opening-points : a .turn .next ≡ next.Openings → S Asked .points ≡ pointsOf p (a .pass .point)
-    opening-points et = after-points p R Asked (a .pass .point) (a .pass .items) ∙ ap (λ t. cond (isOpenings t) (newPass Asked (pointsOf p (a .pass .point)) (paddedKernel R)) (newPass Asked noPoints (openKernel R)) .points) et
+    opening-points et = after-points p R Asked (a .pass .point) (a .pass .items) ∙ ap (λ t. cond (waits next.Openings t) (newPass Asked (pointsOf p (a .pass .point)) (paddedKernel R)) (newPass Asked noPoints (openKernel R)) .points) et
 
     pub close-meant : (t : Next) (k : Kind) → a .turn .next ≡ t → a .pass .kind ≡ k → isOpen k ≡ true → kindFits k (a .turn .mode) t ≡ true
         → replied (closeStep R (S k) t k) ≡ meant p T (a .turn .challenges) (closeAsks a t k)
     close-meant t Shut et ek op fit = absurd (true≢false (sym op))
     close-meant next.Total Asked et ek op fit = total-meant (a .start .plain) refl et
     close-meant next.Message Asked et ek op fit =
-        ap replied (same-step (closed-message p cs (vectorF p T) (vectorG p T) R (S Asked) (run-formed p a h) (taken-whole ek (ap isTotal et)) et))
+        ap replied (same-step (closed-message p cs (vectorF p T) (vectorG p T) R (S Asked) (run-formed p a h) (taken-whole ek (ap (waits next.Total) et)) et))
     close-meant next.Challenge Asked et ek op fit = refl
     close-meant next.Ends Asked et ek op fit =
-        ap replied (same-step (closed-ends p cs (vectorF p T) (vectorG p T) R (S Asked) (run-formed p a h) (taken-whole ek (ap isTotal et)) et))
+        ap replied (same-step (closed-ends p cs (vectorF p T) (vectorG p T) R (S Asked) (run-formed p a h) (taken-whole ek (ap (waits next.Total) et)) et))
     close-meant next.Openings Asked et ek op fit =
         ap replied
         (same-step
-        (closed-opening p cs (vectorF p T) (vectorG p T) R (S Asked) (run-formed p a h) (taken-whole ek (ap isTotal et)) et
+        (closed-opening p cs (vectorF p T) (vectorG p T) R (S Asked) (run-formed p a h) (taken-whole ek (ap (waits next.Total) et)) et
         (after-kind p R Asked (a .pass .point) (a .pass .items)) (a .pass .point) (opening-points et)))
     close-meant t Change et ek op fit = refl
 

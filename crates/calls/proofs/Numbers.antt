@@ -17,7 +17,7 @@ use Rattle.kernel.proofs.KernelPass.{Taken}
 use Rattle.kernel.proofs.KernelEnds.{taken-message}
 use Rattle.phase.specs.declared.Next.the-variants as next
 use Rattle.phase.specs.declared.Kind.the-variants.{Asked}
-use Rattle.phase.specs.Cases.{isTotal}
+use Rattle.phase.specs.Cases.{waits}
 use Rattle.prover.specs.declared.Run.{Run}
 use Rattle.prover.specs.declared.Pass.{Pass}
 use Rattle.prover.specs.Records.{kernelOf}
@@ -69,7 +69,7 @@ module _ (p : ℕ) (some : 0 < p) where
     g-below : (j : ℕ) → vectorG p T j < p
     g-below = padded-below (r .start .items) _ (λ j. item-fine j .1)
 
-    module _ (b : ℕ) (ok : runFormed p r ≡ true) (all : length xs ≡ r .start .items) (other : isTotal (r .next) ≡ false) (enough : r .start .items ≤ 2 ^ r .start .rounds) where
+    module _ (b : ℕ) (ok : runFormed p r ≡ true) (all : length xs ≡ r .start .items) (other : waits next.Total (r .next) ≡ false) (enough : r .start .items ≤ 2 ^ r .start .rounds) where
       abbrev s : Pass
       s = passAfter p r Asked b xs
 

@@ -20,7 +20,7 @@ use Rattle.phase.specs.declared.Next.{Next}
 use Rattle.phase.specs.declared.Next.the-variants as next
 use Rattle.phase.specs.declared.Kind.{Kind}
 use Rattle.phase.specs.declared.Kind.the-variants.{Shut, Asked, Change}
-use Rattle.phase.specs.Cases.{isTotal}
+use Rattle.phase.specs.Cases.{waits}
 use Rattle.phase.specs.Level.{levelAt}
 use Rattle.phase.specs.Order.{roundOrEnds}
 use Rattle.prover.specs.declared.Run.{Run}
@@ -167,7 +167,7 @@ module _ (p : ℕ) (large : maxWeight < p) where
   pub counts-hold : (a : State) {past : Notes} (r : Run) (s : Pass) → Inv a past r s → CountsHold a s
   counts-hold a {past} r s i e =
       let h = i .fits in
-      let other : isTotal (a .turn .next) ≡ false = totals (a .turn .next) ∙ e .1 in
+      let other : waits next.Total (a .turn .next) ≡ false = totals (a .turn .next) ∙ e .1 in
       let level : levelOf (runOf a past) Asked ≡ passLevel a = asked-level (a .start .rounds) (length (a .turn .challenges)) (a .turn .next) in
       let b = bounds p (runOf a past) (run-formed p a h) in
       let t : padding (runOf a past) + length (a .pass .items) ≡ taken a = ap (λ n. n + length (a .pass .items)) (b .padding) in

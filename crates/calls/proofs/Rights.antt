@@ -24,7 +24,7 @@ use Rattle.phase.specs.declared.Next.{Next}
 use Rattle.phase.specs.declared.Next.the-variants as next
 use Rattle.phase.specs.declared.Kind.{Kind}
 use Rattle.phase.specs.declared.Kind.the-variants.{Shut, Asked, Change}
-use Rattle.phase.specs.Cases.{isTotal}
+use Rattle.phase.specs.Cases.{waits}
 use Rattle.phase.specs.Order.{roundFits, kindFits}
 use Rattle.prover.specs.declared.Run.{Run}
 use Rattle.prover.specs.declared.Pass.{Pass}
@@ -133,7 +133,7 @@ module _ (p : ℕ) (large : maxWeight < p) (through : Bool) (its : List Given) (
       let b = both-long there in
       item-so p its a h (g .gives) more ek (later (a .turn .mode) (a .turn .next) fit) x e (l .f) (l .g) (b .0) (b .1)
     where
-      later : (m : Mode) (t : Next) → kindFits Change m t ≡ true → isTotal t ≡ false
+      later : (m : Mode) (t : Next) → kindFits Change m t ≡ true → waits next.Total t ≡ false
       later Full t e = absurd (true≢false (sym e))
       later Small next.Total e = absurd (true≢false (sym e))
       later Small next.Message e = refl

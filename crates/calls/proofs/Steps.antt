@@ -17,7 +17,7 @@ use Rattle.phase.specs.declared.Next.{Next}
 use Rattle.phase.specs.declared.Next.the-variants as next
 use Rattle.phase.specs.declared.Kind.{Kind}
 use Rattle.phase.specs.declared.Kind.the-variants.{Shut, Asked, Change}
-use Rattle.phase.specs.Cases.{isTotal, isOpenings}
+use Rattle.phase.specs.Cases.{waits}
 use Rattle.phase.specs.Order.{kindFits}
 use Rattle.prover.specs.declared.Run.{Run}
 use Rattle.prover.specs.declared.Pass.{Pass}
@@ -118,7 +118,7 @@ finishes r s Full t Asked h o e = absurd (true≢false (sym h))
 finishes r s m t Change h o e = refl
 
 module _ (p : ℕ) (a : State) (past : Notes) (few : a .start .rounds ≤ 15) (s : Pass) (wf : wellFormed p (runOf a past) s ≡ true) (kind : s .kind ≡ a .pass .kind)
-    (count : s .taken ≡ length (a .pass .items)) (sums : isTotal (a .turn .next) ≡ true → s .total ≡ sumOf (a .pass .items))
+    (count : s .taken ≡ length (a .pass .items)) (sums : waits next.Total (a .turn .next) ≡ true → s .total ≡ sumOf (a .pass .items))
     (fits : kindFits (a .pass .kind) (a .turn .mode) (a .turn .next) ≡ true) where
   abbrev R : Run
   R = runOf a past
@@ -145,7 +145,7 @@ module _ (p : ℕ) (a : State) (past : Notes) (few : a .start .rounds ≤ 15) (s
         (same-row (leb (proofSize (a .start .rounds)) (length file)) 9 _ none _ refl)
 
     write-turn : mayWrite p R s ≡ (a .start .plain && waits next.Openings (a .turn .next))
-    write-turn = ap (λ b. cond b (cond (a .start .plain) (isOpenings (a .turn .next)) false) false) wf ∙ proof-next (a .start .plain) (a .turn .next)
+    write-turn = ap (λ b. cond b (cond (a .start .plain) (waits next.Openings (a .turn .next)) false) false) wf ∙ proof-next (a .start .plain) (a .turn .next)
 
     write-so : (l : Lent) → writeCall p R s (l .file) ≡ decided (table p a call.WriteProof l) (answered (proofSize (a .start .rounds)))
     unfolding writeCall table

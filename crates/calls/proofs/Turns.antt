@@ -9,7 +9,7 @@ use Rattle.phase.specs.declared.Next.{Next}
 use Rattle.phase.specs.declared.Next.the-variants as next
 use Rattle.phase.specs.declared.Kind.{Kind}
 use Rattle.phase.specs.declared.Kind.the-variants.{Shut, Asked, Change}
-use Rattle.phase.specs.Cases.{isOpenings}
+use Rattle.phase.specs.Cases.{waits}
 use Rattle.phase.specs.Order.{kindFits}
 use Rattle.calls.specs.State.{isFull, isSmall}
 use Rattle.calls.specs.Table.{Refusal, rowAt, waits, openingsNext}
@@ -30,7 +30,7 @@ row-at-passed false k i t e = absurd (some-none e)
 
 -- a pass, openings, a change
 pub pass-kind : (m : Mode) (t : Next) → (isSmall m && (waits next.Total t || (waits next.Message t || waits next.Ends t))) ≡ true
-    → (kindFits Asked m t ≡ true) × (isOpenings t ≡ false)
+    → (kindFits Asked m t ≡ true) × (waits next.Openings t ≡ false)
 pass-kind Full t e = absurd (true≢false (sym e))
 pass-kind Small next.Total e = (refl, refl)
 pass-kind Small next.Message e = (refl, refl)
@@ -38,7 +38,7 @@ pass-kind Small next.Challenge e = absurd (true≢false (sym e))
 pass-kind Small next.Ends e = (refl, refl)
 pass-kind Small next.Openings e = absurd (true≢false (sym e))
 
-pub openings-kind : (m : Mode) (t : Next) (n : ℕ) → (isSmall m && openingsNext t n) ≡ true → (kindFits Asked m t ≡ true) × (isOpenings t ≡ true)
+pub openings-kind : (m : Mode) (t : Next) (n : ℕ) → (isSmall m && openingsNext t n) ≡ true → (kindFits Asked m t ≡ true) × (waits next.Openings t ≡ true)
 openings-kind Full t n e = absurd (true≢false (sym e))
 openings-kind Small next.Total n e = absurd (true≢false (sym e))
 openings-kind Small next.Message n e = absurd (true≢false (sym e))

@@ -1,7 +1,7 @@
 -- What the tests say: of what is next, of the round and of the open pass; and a bound of the level.
-use mathlib.Core.Path.{_≡_, refl, sym, subst}
+use mathlib.Core.Path.{_≡_, refl, sym, subst, ap, _∙_}
 use mathlib.Core.Bool.{true, true≢false}
-use Prim.Native.Nat.{ℕ, _≤_}
+use Prim.Native.Nat.{ℕ, zero, suc, _≤_}
 use native.Mathlib.Nat.{le-refl}
 use native.Mathlib.Omega.{arith}
 use borrow.Author.Tests.{eqb-true, ltb-true}
@@ -11,37 +11,28 @@ use Rattle.phase.specs.declared.Next.{Next}
 use Rattle.phase.specs.declared.Next.the-variants.{Total, Message, Challenge, Ends, Openings}
 use Rattle.phase.specs.declared.Kind.{Kind}
 use Rattle.phase.specs.declared.Kind.the-variants.{Shut, Asked, Change}
-use Rattle.phase.specs.Cases.{isFull, isMessage, isChallenge, isEnds, isOpenings}
+use Rattle.phase.specs.Cases.{isFull, rank, waits}
 use Rattle.phase.specs.Level.{levelAt}
 use Rattle.phase.specs.Order.{roundFits, kindFits}
 
-pub is-message : (a : Next) → isMessage a ≡ true → a ≡ Message
-is-message Total h = absurd (true≢false (sym h))
-is-message Message h = refl
-is-message Challenge h = absurd (true≢false (sym h))
-is-message Ends h = absurd (true≢false (sym h))
-is-message Openings h = absurd (true≢false (sym h))
+unfoldable of-rank : ℕ → Next
+of-rank zero = Total
+of-rank (suc zero) = Message
+of-rank (suc (suc zero)) = Challenge
+of-rank (suc (suc (suc zero))) = Ends
+of-rank (suc (suc (suc (suc k)))) = Openings
 
-pub is-challenge : (a : Next) → isChallenge a ≡ true → a ≡ Challenge
-is-challenge Total h = absurd (true≢false (sym h))
-is-challenge Message h = absurd (true≢false (sym h))
-is-challenge Challenge h = refl
-is-challenge Ends h = absurd (true≢false (sym h))
-is-challenge Openings h = absurd (true≢false (sym h))
+rank-of : (a : Next) → of-rank (rank a) ≡ a
+unfolding of-rank
+rank-of Total = refl
+rank-of Message = refl
+rank-of Challenge = refl
+rank-of Ends = refl
+rank-of Openings = refl
 
-pub is-ends : (a : Next) → isEnds a ≡ true → a ≡ Ends
-is-ends Total h = absurd (true≢false (sym h))
-is-ends Message h = absurd (true≢false (sym h))
-is-ends Challenge h = absurd (true≢false (sym h))
-is-ends Ends h = refl
-is-ends Openings h = absurd (true≢false (sym h))
-
-pub is-openings : (a : Next) → isOpenings a ≡ true → a ≡ Openings
-is-openings Total h = absurd (true≢false (sym h))
-is-openings Message h = absurd (true≢false (sym h))
-is-openings Challenge h = absurd (true≢false (sym h))
-is-openings Ends h = absurd (true≢false (sym h))
-is-openings Openings h = refl
+-- what waits is next
+pub waits-for : (wanted next : Next) → waits wanted next ≡ true → next ≡ wanted
+waits-for wanted next e = sym (rank-of next) ∙ ap of-rank (sym (eqb-true (rank wanted) (rank next) e)) ∙ rank-of wanted
 
 pub round-at-most : (next : Next) (round rounds : ℕ) → roundFits next round rounds ≡ true → round ≤ rounds
 round-at-most Total round rounds e = omega (arith, eqb-true round 0 e)
@@ -68,8 +59,8 @@ full-kind Change Small a b h e = absurd (true≢false (sym h))
 full-kind Change Full a b h e = absurd (true≢false (sym e))
 
 -- nor is one open where a challenge is next
-pub challenge-kind : (kind : Kind) (mode : Mode) (a b : Next) → isChallenge a ≡ true → kindFits kind mode a ≡ true → kindFits kind mode b ≡ true
-challenge-kind kind mode a b h e = go kind mode (subst (λ n. kindFits kind mode n ≡ true) (is-challenge a h) e)
+pub challenge-kind : (kind : Kind) (mode : Mode) (a b : Next) → waits Challenge a ≡ true → kindFits kind mode a ≡ true → kindFits kind mode b ≡ true
+challenge-kind kind mode a b h e = go kind mode (subst (λ n. kindFits kind mode n ≡ true) (waits-for Challenge a h) e)
   where
     go : (kind : Kind) (mode : Mode) → kindFits kind mode Challenge ≡ true → kindFits kind mode b ≡ true
     go Shut mode e = refl

@@ -1,5 +1,7 @@
 -- Which mode, which next, which kind.
-use mathlib.Core.Bool.{Bool, true, false}
+use Prim.Native.Nat.{ℕ}
+use mathlib.Core.Bool.{Bool, true, false, not}
+use lib.Dec.{eqb}
 use Rattle.phase.specs.declared.Mode.{Mode}
 use Rattle.phase.specs.declared.Mode.the-variants.{Small, Full}
 use Rattle.phase.specs.declared.Next.{Next}
@@ -7,13 +9,12 @@ use Rattle.phase.specs.declared.Next.the-variants.{Total, Message, Chall
 use Rattle.phase.specs.declared.Kind.{Kind}
 use Rattle.phase.specs.declared.Kind.the-variants.{Shut, Asked, Change}
 
-abbrev pub isSmall : Mode → Bool
-isSmall Small = true
-isSmall Full = false
-
 abbrev pub isFull : Mode → Bool
 isFull Small = false
 isFull Full = true
+
+abbrev pub isSmall : Mode → Bool
+isSmall m = not (isFull m)
 
 abbrev pub isOpen : Kind → Bool
 isOpen Shut = false
@@ -25,37 +26,13 @@ isChange Shut = false
 isChange Asked = false
 isChange Change = true
 
-abbrev pub isTotal : Next → Bool
-isTotal Total = true
-isTotal Message = false
-isTotal Challenge = false
-isTotal Ends = false
-isTotal Openings = false
+abbrev pub rank : Next → ℕ
+rank Total = 0
+rank Message = 1
+rank Challenge = 2
+rank Ends = 3
+rank Openings = 4
 
-abbrev pub isMessage : Next → Bool
-isMessage Total = false
-isMessage Message = true
-isMessage Challenge = false
-isMessage Ends = false
-isMessage Openings = false
-
-abbrev pub isChallenge : Next → Bool
-isChallenge Total = false
-isChallenge Message = false
-isChallenge Challenge = true
-isChallenge Ends = false
-isChallenge Openings = false
-
-abbrev pub isEnds : Next → Bool
-isEnds Total = false
-isEnds Message = false
-isEnds Challenge = false
-isEnds Ends = true
-isEnds Openings = false
-
-abbrev pub isOpenings : Next → Bool
-isOpenings Total = false
-isOpenings Message = false
-isOpenings Challenge = false
-isOpenings Ends = false
-isOpenings Openings = true
+-- what is wanted is next
+abbrev pub waits : Next → Next → Bool
+waits wanted next = eqb (rank wanted) (rank next)

@@ -1,6 +1,6 @@
 // Which mode, which next, which kind.
 ghost use mathlib.Core.Path.{_≡_};
-ghost use Rattle.phase.specs.Cases.{isSmall, isFull, isChange, isTotal, isMessage, isChallenge, isEnds, isOpenings};
+ghost use Rattle.phase.specs.Cases.{isSmall, isFull, isChange, rank, waits};
 use super::Kind;
 use super::Mode;
 use super::Next;
@@ -33,62 +33,22 @@ pub fn is_change(kind: Kind) -> bool
     }
 }
 
-pub fn is_total(next: Next) -> bool
-    ensures { λ r. ⌜ r ≡ isTotal next ⌝ }
+// The place in document 01's order of a run.
+fn rank(next: Next) -> u32
+    ensures { λ r. ⌜ r ≡ rank next ⌝ }
 {
     match next {
-        Next::Total => true,
-        Next::Message => false,
-        Next::Challenge => false,
-        Next::Ends => false,
-        Next::Openings => false,
+        Next::Total => 0,
+        Next::Message => 1,
+        Next::Challenge => 2,
+        Next::Ends => 3,
+        Next::Openings => 4,
     }
 }
 
-pub fn is_message(next: Next) -> bool
-    ensures { λ r. ⌜ r ≡ isMessage next ⌝ }
+// Whether what is wanted is next.
+pub fn waits(wanted: Next, next: Next) -> bool
+    ensures { λ r. ⌜ r ≡ waits wanted next ⌝ }
 {
-    match next {
-        Next::Total => false,
-        Next::Message => true,
-        Next::Challenge => false,
-        Next::Ends => false,
-        Next::Openings => false,
-    }
-}
-
-pub fn is_challenge(next: Next) -> bool
-    ensures { λ r. ⌜ r ≡ isChallenge next ⌝ }
-{
-    match next {
-        Next::Total => false,
-        Next::Message => false,
-        Next::Challenge => true,
-        Next::Ends => false,
-        Next::Openings => false,
-    }
-}
-
-pub fn is_ends(next: Next) -> bool
-    ensures { λ r. ⌜ r ≡ isEnds next ⌝ }
-{
-    match next {
-        Next::Total => false,
-        Next::Message => false,
-        Next::Challenge => false,
-        Next::Ends => true,
-        Next::Openings => false,
-    }
-}
-
-pub fn is_openings(next: Next) -> bool
-    ensures { λ r. ⌜ r ≡ isOpenings next ⌝ }
-{
-    match next {
-        Next::Total => false,
-        Next::Message => false,
-        Next::Challenge => false,
-        Next::Ends => false,
-        Next::Openings => true,
-    }
+    rank(wanted) == rank(next)
 }

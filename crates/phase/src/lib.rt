@@ -1,5 +1,6 @@
 // The phase of a run: its mode, what is next and the kind of its pass; what may open, close and change; the level.
 pub mod cases;
+pub mod folds;
 pub mod levels;
 pub mod order;
 

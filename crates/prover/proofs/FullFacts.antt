@@ -15,9 +15,9 @@ use Rattle.vector.proofs.Rounds.{size-halves, size-last}
 use Rattle.phase.specs.declared.Next.{Next}
 use Rattle.phase.specs.declared.Next.the-variants.{Message, Challenge, Ends, Openings}
 use Rattle.phase.specs.declared.Kind.the-variants.{Shut}
-use Rattle.phase.specs.Cases.{isFull, isMessage, isEnds, isOpenings, isChallenge}
+use Rattle.phase.specs.Cases.{isFull, waits}
 use Rattle.phase.specs.Order.{roundFits, kindFits}
-use Rattle.phase.proofs.Facts.{is-message, is-challenge, is-ends, is-openings}
+use Rattle.phase.proofs.Facts.{waits-for}
 use Rattle.prover.specs.declared.Run.{Run}
 use Rattle.prover.specs.declared.Pass.{Pass}
 use Rattle.prover.specs.Level.{levelOf, foldSize}
@@ -89,14 +89,14 @@ module _ (p : ℕ) (r : Run) (s : Pass) where
 
   pub message-round : messageTurn p r s ≡ true → InRound Message
   message-round e =
-      let a = holds (fullFormed p r s) (isMessage (r .next)) e in
-      let same = is-message (r .next) (a .1) in
+      let a = holds (fullFormed p r s) (waits Message (r .next)) e in
+      let same = waits-for Message (r .next) (a .1) in
       in-round Message (holds (wellFormed p r s) (isFull (r .mode)) (a .0) .0) same (λ t. ltb-true (r .round) (r .start .rounds) t) (rw same)
 
   pub challenge-round : challengeTurn p r s ≡ true → InRound Challenge
   challenge-round e =
-      let a = holds (wellFormed p r s) (isChallenge (r .next)) e in
-      let same = is-challenge (r .next) (a .1) in
+      let a = holds (wellFormed p r s) (waits Challenge (r .next)) e in
+      let same = waits-for Challenge (r .next) (a .1) in
       in-round Challenge (a .0) same (λ t. ltb-true (r .round) (r .start .rounds) t) (rw same)
 
   -- the end values are next
@@ -111,9 +111,9 @@ module _ (p : ℕ) (r : Run) (s : Pass) where
 
   pub at-ends : endsTurn p r s ≡ true → AtEnds
   at-ends e =
-      let a = holds (fullFormed p r s) (isEnds (r .next)) e in
+      let a = holds (fullFormed p r s) (waits Ends (r .next)) e in
       let b = holds (wellFormed p r s) (isFull (r .mode)) (a .0) in
-      let same = is-ends (r .next) (a .1) in
+      let same = waits-for Ends (r .next) (a .1) in
       let h = formed p r s (b .0) in
       let t = tests p r s (b .0) in
       let level : levelOf r Shut ≡ r .start .rounds = rw same in
@@ -143,10 +143,10 @@ module _ (p : ℕ) (r : Run) (s : Pass) where
 
   pub at-openings : openingTurn p r s ≡ true → AtOpenings
   at-openings e =
-      let a = holds (fullFormed p r s) (cond (isOpenings (r .next)) (ltb 0 (r .start .rounds)) false) e in
+      let a = holds (fullFormed p r s) (cond (waits Openings (r .next)) (ltb 0 (r .start .rounds)) false) e in
       let b = holds (wellFormed p r s) (isFull (r .mode)) (a .0) in
-      let d = holds (isOpenings (r .next)) (ltb 0 (r .start .rounds)) (a .1) in
-      let same = is-openings (r .next) (d .0) in
+      let d = holds (waits Openings (r .next)) (ltb 0 (r .start .rounds)) (a .1) in
+      let same = waits-for Openings (r .next) (d .0) in
       let h = formed p r s (b .0) in
       let level : levelOf r Shut ≡ 0 = rw same in
       record {

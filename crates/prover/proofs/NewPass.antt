@@ -14,9 +14,10 @@ use Rattle.vector.proofs.StackCount.{ones-below}
 use Rattle.kernel.proofs.KernelLevels.{levelled-padding, levelled-count}
 use Rattle.kernel.proofs.KernelPass.{Taken}
 use Rattle.kernel.proofs.KernelOpen.{taken-padding}
+use Rattle.phase.specs.declared.Next.the-variants as next
 use Rattle.phase.specs.declared.Kind.{Kind}
 use Rattle.phase.specs.declared.Kind.the-variants.{Asked}
-use Rattle.phase.specs.Cases.{isTotal}
+use Rattle.phase.specs.Cases.{waits}
 use Rattle.phase.specs.Order.{kindFits}
 use Rattle.phase.proofs.Facts.{level-at-most}
 use Rattle.prover.specs.declared.Run.{Run}
@@ -66,7 +67,7 @@ module _ (r : Run) (s : Pass) (h : Formed r s) where
 
 -- a pass for the total has no stack
 pub open-counts : (r : Run) (s : Pass) → Formed r s → (openKernel r .fcount ≡ openKernel r .gcount) × (openKernel r .fcount ≤ 15)
-open-counts r s h = by (isTotal (r .next))
+open-counts r s h = by (waits next.Total (r .next))
   where
     by : (b : Bool) → (cond b emptyKernel (paddedKernel r) .fcount ≡ cond b emptyKernel (paddedKernel r) .gcount) × (cond b emptyKernel (paddedKernel r) .fcount ≤ 15)
     by true = (refl, omega arith)

@@ -15,7 +15,7 @@ use Rattle.phase.specs.declared.Mode.the-variants.{Small, Full}
 use Rattle.phase.specs.declared.Next.{Next}
 use Rattle.phase.specs.declared.Next.the-variants.{Total, Message, Ends, Openings}
 use Rattle.phase.specs.declared.Kind.the-variants.{Asked}
-use Rattle.phase.specs.Cases.{isSmall, isTotal}
+use Rattle.phase.specs.Cases.{isSmall, waits}
 use Rattle.phase.specs.Level.{levelAt}
 use Rattle.phase.specs.Order.{kindFits}
 use Rattle.prover.specs.declared.Run.{Run}
@@ -131,15 +131,15 @@ open-anew p r s unfinished t u = open-opens p r unfinished u ∙ sym (open-opens
 
 -- the kernel of the pass: nothing taken for the total, else the padding, folding to level i before message i and to level n after
 pub total-kernel : (r : Run) → r .next ≡ Total → openKernel r ≡ emptyKernel
-total-kernel r e = ap (λ n. cond (isTotal n) emptyKernel (paddedKernel r)) e
+total-kernel r e = ap (λ n. cond (waits Total n) emptyKernel (paddedKernel r)) e
 
 pub message-kernel : (r : Run) → r .next ≡ Message → openKernel r ≡ paddingKernel (padding r) (r .round)
 message-kernel r e =
-    ap (λ n. cond (isTotal n) emptyKernel (paddedKernel r)) e ∙ ap (λ n. paddingKernel (padding r) (levelAt (r .start .rounds) (r .round) n Asked)) e
+    ap (λ n. cond (waits Total n) emptyKernel (paddedKernel r)) e ∙ ap (λ n. paddingKernel (padding r) (levelAt (r .start .rounds) (r .round) n Asked)) e
 
 pub ends-kernel : (r : Run) → r .next ≡ Ends → openKernel r ≡ paddingKernel (padding r) (r .start .rounds)
 ends-kernel r e =
-    ap (λ n. cond (isTotal n) emptyKernel (paddedKernel r)) e ∙ ap (λ n. paddingKernel (padding r) (levelAt (r .start .rounds) (r .round) n Asked)) e
+    ap (λ n. cond (waits Total n) emptyKernel (paddedKernel r)) e ∙ ap (λ n. paddingKernel (padding r) (levelAt (r .start .rounds) (r .round) n Asked)) e
 
 pub openings-kernel : (r : Run) → r .next ≡ Openings → paddedKernel r ≡ paddingKernel (padding r) (r .start .rounds)
 openings-kernel r e = ap (λ n. paddingKernel (padding r) (levelAt (r .start .rounds) (r .round) n Asked)) e

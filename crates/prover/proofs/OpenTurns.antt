@@ -8,9 +8,9 @@ use Rattle.phase.specs.declared.Mode.{Mode}
 use Rattle.phase.specs.declared.Mode.the-variants.{Small, Full}
 use Rattle.phase.specs.declared.Next.{Next}
 use Rattle.phase.specs.declared.Next.the-variants.{Total, Message, Challenge, Ends, Openings}
-use Rattle.phase.specs.Cases.{isSmall, isOpenings}
+use Rattle.phase.specs.Cases.{isSmall, waits}
 use Rattle.phase.specs.Order.{openNext}
-use Rattle.phase.proofs.Facts.{is-openings}
+use Rattle.phase.proofs.Facts.{waits-for}
 use Rattle.prover.specs.declared.Run.{Run}
 use Rattle.prover.specs.declared.Pass.{Pass}
 use Rattle.prover.specs.WellFormed.{wellFormed}
@@ -72,21 +72,21 @@ open-turn p r s =
 
 pub open-at-turn : (p : ℕ) (r : Run) (s : Pass) → Decides (mayOpenAt p r s) (OpenAtTurn p r s)
 open-at-turn p r s =
-    let opens = cond (isOpenings (r .next)) (ltb 0 (r .start .rounds)) false in
+    let opens = cond (waits Openings (r .next)) (ltb 0 (r .start .rounds)) false in
     let turn = cond (isSmall (r .mode)) opens false in
     record {
       so = λ h.
           let a = holds (wellFormed p r s) turn h in
           let b = holds (isSmall (r .mode)) opens (a .1) in
-          let c = holds (isOpenings (r .next)) (ltb 0 (r .start .rounds)) (b .1) in
+          let c = holds (waits Openings (r .next)) (ltb 0 (r .start .rounds)) (b .1) in
           record {
             formed = a .0;
             small = small-is (r .mode) (b .0);
-            next = is-openings (r .next) (c .0);
+            next = waits-for Openings (r .next) (c .0);
             rounds = ltb-true 0 (r .start .rounds) (c .1);
           };
       back = λ t.
           both-true (wellFormed p r s) turn (t .formed)
           (both-true (isSmall (r .mode)) opens (ap isSmall (t .small))
-          (both-true (isOpenings (r .next)) (ltb 0 (r .start .rounds)) (ap isOpenings (t .next)) (lt-ltb 0 (r .start .rounds) (t .rounds))));
+          (both-true (waits Openings (r .next)) (ltb 0 (r .start .rounds)) (ap (waits Openings) (t .next)) (lt-ltb 0 (r .start .rounds) (t .rounds))));
     }

@@ -14,7 +14,8 @@ use Rattle.item.specs.declared.Parts.{Parts}
 use Rattle.item.specs.declared.Parts.the-variants as parts
 use Rattle.item.specs.Item.{partsOf, partsIn}
 use Rattle.kernel.specs.Change.{placedOf}
-use Rattle.phase.specs.Cases.{isChange, isTotal}
+use Rattle.phase.specs.declared.Next.the-variants as next
+use Rattle.phase.specs.Cases.{isChange, waits}
 use Rattle.prover.specs.declared.Run.{Run}
 use Rattle.prover.specs.declared.Pass.{Pass}
 use Rattle.prover.specs.declared.Step.{Step}
@@ -33,19 +34,19 @@ module _ (p : ℕ) (r : Run) (s : Pass) (x : Item) (f g : List ℕ) where
   abbrev stacking : Bool → Out
   stacking b = takenItem r s (cond b (placedItem p r s (entering p r s x) (x .g) f g) (placedOf (enteredItem p r s (entering p r s x) (x .g)) f g))
 
-  pub takes-sum : isTotal (r .next) ≡ true → takes p r s x f g ≡ summing
+  pub takes-sum : waits next.Total (r .next) ≡ true → takes p r s x f g ≡ summing
   unfolding takes
   takes-sum h = ap (λ b. cond b summing (stacking (isChange (s .kind)))) h
 
-  takes-stacks : isTotal (r .next) ≡ false → (b : Bool) → isChange (s .kind) ≡ b → takes p r s x f g ≡ stacking b
+  takes-stacks : waits next.Total (r .next) ≡ false → (b : Bool) → isChange (s .kind) ≡ b → takes p r s x f g ≡ stacking b
   unfolding takes
   takes-stacks h b k = ap (λ b. cond b summing (stacking (isChange (s .kind)))) h ∙ ap stacking k
 
-  pub takes-enter : isTotal (r .next) ≡ false → isChange (s .kind) ≡ false
+  pub takes-enter : waits next.Total (r .next) ≡ false → isChange (s .kind) ≡ false
       → takes p r s x f g ≡ takenItem r s (placedOf (enteredItem p r s (entering p r s x) (x .g)) f g)
   takes-enter h k = takes-stacks h false k
 
-  pub takes-place : isTotal (r .next) ≡ false → isChange (s .kind) ≡ true
+  pub takes-place : waits next.Total (r .next) ≡ false → isChange (s .kind) ≡ true
       → takes p r s x f g ≡ takenItem r s (placedItem p r s (entering p r s x) (x .g) f g)
   takes-place h k = takes-stacks h true k
 

@@ -13,7 +13,7 @@ use Rattle.phase.specs.declared.Next.{Next}
 use Rattle.phase.specs.declared.Next.the-variants.{Total, Message, Challenge, Ends, Openings}
 use Rattle.phase.specs.declared.Kind.{Kind}
 use Rattle.phase.specs.declared.Kind.the-variants.{Shut, Asked, Change}
-use Rattle.phase.specs.Cases.{isTotal}
+use Rattle.phase.specs.Cases.{waits}
 use Rattle.phase.specs.Order.{roundOrEnds}
 use Rattle.prover.specs.declared.Run.{Run}
 use Rattle.prover.specs.declared.Pass.{Pass}
@@ -103,7 +103,7 @@ changedStep r = answeredStep (inFull r) shutPass answer.Changed
 
 -- 7: a plain total within its limits
 abbrev pub totalFits : ℕ → Run → Pass → Bool
-totalFits p r s = cond (isTotal (r .next)) (cond (r .start .plain) (inLimits p (s .total)) true) true
+totalFits p r s = cond (waits Total (r .next)) (cond (r .start .plain) (inLimits p (s .total)) true) true
 
 -- the three numbers of message i, from place 3i on
 abbrev pub messagesWith : List ℕ → ℕ → ℕ → ℕ → ℕ → List ℕ

@@ -9,7 +9,9 @@ use Rattle.refusal.specs.Outcome.{Outcome, answered, require}
 use Rattle.vector.specs.Vector.{at}
 use Rattle.vector.specs.Message.{Message}
 use Rattle.vector.specs.Slice.{messageSlice, allReduced}
-use Rattle.phase.specs.Cases.{isFull, isMessage, isEnds, isOpenings}
+use Rattle.phase.specs.declared.Next.{Next}
+use Rattle.phase.specs.declared.Next.the-variants as next
+use Rattle.phase.specs.Cases.{isFull, waits}
 use Rattle.prover.specs.declared.Run.{Run}
 use Rattle.prover.specs.declared.Pass.{Pass}
 use Rattle.prover.specs.declared.Answer.the-variants as answer
@@ -24,15 +26,18 @@ abbrev pub fullFormed : ℕ → Run → Pass → Bool
 fullFormed p r s = cond (wellFormed p r s) (isFull (r .mode)) false
 
 -- whose turn it is
+abbrev pub fullTurn : ℕ → Run → Pass → Next → Bool
+fullTurn p r s wanted = cond (fullFormed p r s) (waits wanted (r .next)) false
+
 abbrev pub messageTurn : ℕ → Run → Pass → Bool
-messageTurn p r s = cond (fullFormed p r s) (isMessage (r .next)) false
+messageTurn p r s = fullTurn p r s next.Message
 
 abbrev pub endsTurn : ℕ → Run → Pass → Bool
-endsTurn p r s = cond (fullFormed p r s) (isEnds (r .next)) false
+endsTurn p r s = fullTurn p r s next.Ends
 
 -- "openings .. with n = 0" are refused
 abbrev pub openingTurn : ℕ → Run → Pass → Bool
-openingTurn p r s = cond (fullFormed p r s) (cond (isOpenings (r .next)) (ltb 0 (r .start .rounds)) false) false
+openingTurn p r s = cond (fullFormed p r s) (cond (waits next.Openings (r .next)) (ltb 0 (r .start .rounds)) false) false
 
 -- "in the places a full-mode call reads, a number P or more" is refused
 abbrev pub bothReduced : ℕ → Run → List ℕ → List ℕ → Bool

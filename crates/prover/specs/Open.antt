@@ -12,9 +12,10 @@ use Rattle.kernel.specs.declared.Kernel.{Kernel}
 use Rattle.kernel.specs.declared.Points.{Points}
 pub use Rattle.kernel.specs.Kernel.{noPoints}
 use Rattle.kernel.specs.Kernel.{emptyKernel, paddingKernel}
+use Rattle.phase.specs.declared.Next.the-variants as next
 use Rattle.phase.specs.declared.Kind.{Kind}
 use Rattle.phase.specs.declared.Kind.the-variants.{Asked}
-use Rattle.phase.specs.Cases.{isSmall, isTotal, isOpenings}
+use Rattle.phase.specs.Cases.{isSmall, waits}
 use Rattle.phase.specs.Order.{openNext}
 use Rattle.prover.specs.declared.Run.{Run}
 use Rattle.prover.specs.declared.Pass.{Pass}
@@ -54,7 +55,7 @@ mayOpen p r s = cond (wellFormed p r s) (cond (isSmall (r .mode)) (openNext (r .
 
 -- the run is small, the openings are next and there are rounds: "openings .. with n = 0" are refused
 abbrev pub mayOpenAt : ℕ → Run → Pass → Bool
-mayOpenAt p r s = cond (wellFormed p r s) (cond (isSmall (r .mode)) (cond (isOpenings (r .next)) (ltb 0 (r .start .rounds)) false) false) false
+mayOpenAt p r s = cond (wellFormed p r s) (cond (isSmall (r .mode)) (cond (waits next.Openings (r .next)) (ltb 0 (r .start .rounds)) false) false) false
 
 -- "A small pass takes the padding by itself", folding to the level of what is next
 abbrev pub paddedKernel : Run → Kernel
@@ -62,7 +63,7 @@ paddedKernel r = paddingKernel (padding r) (levelOf r Asked)
 
 -- a pass for the total has no stack
 abbrev pub openKernel : Run → Kernel
-openKernel r = cond (isTotal (r .next)) emptyKernel (paddedKernel r)
+openKernel r = cond (waits next.Total (r .next)) emptyKernel (paddedKernel r)
 
 abbrev pub opened : Run → Points → Kernel → Out
 opened r points k = out (answeredStep r (newPass Asked points k) answer.Opened) [] []

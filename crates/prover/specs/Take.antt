@@ -9,7 +9,8 @@ pub use Rattle.item.specs.Item.{entersAs}
 use Rattle.kernel.specs.declared.Kernel.{Kernel}
 use Rattle.kernel.specs.Kernel.{entered}
 use Rattle.kernel.specs.Change.{Placed, placedOf, placed}
-use Rattle.phase.specs.Cases.{isChange, isTotal}
+use Rattle.phase.specs.declared.Next.the-variants as next
+use Rattle.phase.specs.Cases.{isChange, waits}
 use Rattle.prover.specs.declared.Run.{Run}
 use Rattle.prover.specs.declared.Pass.{Pass}
 use Rattle.prover.specs.declared.Answer.the-variants as answer
@@ -50,5 +51,5 @@ takenItem r s k = out (answeredStep r (withKernel (oneMore s) (k .kernel)) answe
 unfoldable pub takes : ℕ → Run → Pass → Item → List ℕ → List ℕ → Out
 takes p r s x f g =
     let a : ℕ = entering p r s x in
-    cond (isTotal (r .next)) (out (answeredStep r (summedItem p (r .start .plain) s x a) answer.Taken) f g)
+    cond (waits next.Total (r .next)) (out (answeredStep r (summedItem p (r .start .plain) s x a) answer.Taken) f g)
     (takenItem r s (cond (isChange (s .kind)) (placedItem p r s a (x .g) f g) (placedOf (enteredItem p r s a (x .g)) f g)))

@@ -15,7 +15,7 @@ use super::full_checks;
 use field::Checked;
 use field::Field;
 use phase::cases;
-use phase::levels;
+use phase::folds;
 use phase::order;
 use refusal::Check;
 
@@ -52,9 +52,8 @@ fn challenge_full(p: u32, run: Run, pass: Pass, c: u32, f: &mut [u32], g: &mut [
 {
     let start = run.start;
     let next = run.next;
-    let half = (levels::fold_size(start.rounds, run.round, next) / 2) as usize;
-    vector::slice::fold(p, c, f, half);
-    vector::slice::fold(p, c, g, half);
+    folds::fold(p, c, start.rounds, run.round, next, f);
+    folds::fold(p, c, start.rounds, run.round, next, g);
     answered(keep_challenge(run, c), pass, Answer::Challenged)
 }
 

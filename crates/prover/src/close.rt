@@ -30,7 +30,7 @@ fn total_fits(p: u32, run: Run, pass: Pass) -> Check
     ensures { λ r. ⌜ passed r ≡ totalFits p run pass ⌝ }
 {
     let next = run.next;
-    if cases::is_total(next) {} else {
+    if cases::waits(Next::Total, next) {} else {
         return Check::Passed;
     }
     let start = run.start;

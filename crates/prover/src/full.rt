@@ -16,7 +16,8 @@ use super::checks;
 use super::close::keep_ends;
 use super::close::keep_message;
 use super::full_checks;
-use phase::levels;
+use phase::Next;
+use phase::folds;
 use refusal::Check;
 use vector::Message;
 
@@ -27,8 +28,7 @@ fn give_message(p: u32, run: Run, pass: Pass, f: &[u32], g: &[u32]) -> Step
 {
     let start = run.start;
     let next = run.next;
-    let half = (levels::fold_size(start.rounds, run.round, next) / 2) as usize;
-    let m = vector::slice::message(p, f, g, half);
+    let m = folds::message(p, start.rounds, run.round, next, f, g);
     answered(
         keep_message(run, m.even, m.cross, m.odd),
         pass,
@@ -52,7 +52,7 @@ impl Run {
         ensures { λ r. ⌜ out r (now (f .entry)) (now (g .entry)) ≡ leaves self pass (now (f .entry)) (now (g .entry)) (messageCall (modulusOf (self .start)) self pass (now (f .entry)) (now (g .entry))) ⌝ }
     {
         let p = item::modulus_of(self.start);
-        let Check::Passed = full_checks::message_next(p, self, pass) else {
+        let Check::Passed = full_checks::full_next(p, self, pass, Next::Message) else {
             return refuse(self, pass, refusal::ORDER);
         };
         let Check::Passed = checks::both_long(self, f.len(), g.len()) else {
@@ -69,7 +69,7 @@ impl Run {
         ensures { λ r. ⌜ out r (now (f .entry)) (now (g .entry)) ≡ leaves self pass (now (f .entry)) (now (g .entry)) (endsCall (modulusOf (self .start)) self pass (now (f .entry)) (now (g .entry))) ⌝ }
     {
         let p = item::modulus_of(self.start);
-        let Check::Passed = full_checks::ends_next(p, self, pass) else {
+        let Check::Passed = full_checks::full_next(p, self, pass, Next::Ends) else {
             return refuse(self, pass, refusal::ORDER);
         };
         let Check::Passed = checks::both_long(self, f.len(), g.len()) else {

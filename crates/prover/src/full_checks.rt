@@ -1,11 +1,12 @@
 // The checks of the full-mode calls and of a challenge, each answered by Passed or Failed.
 ghost use mathlib.Core.Path.{_≡_};
 ghost use Rattle.refusal.specs.Check.{passed};
-ghost use Rattle.prover.specs.Full.{fullFormed, messageTurn, endsTurn, openingTurn, bothReduced};
+ghost use Rattle.prover.specs.Full.{fullFormed, fullTurn, openingTurn, bothReduced};
 ghost use Rattle.prover.specs.Challenge.{challengeTurn};
 use super::Pass;
 use super::Run;
 use super::formed;
+use phase::Next;
 use phase::cases;
 use phase::levels;
 use refusal::Check;
@@ -22,15 +23,15 @@ fn full_formed(p: u32, run: Run, pass: Pass) -> bool
     false
 }
 
-// 10: a message of a full run is next.
-pub fn message_next(p: u32, run: Run, pass: Pass) -> Check
-    ensures { λ r. ⌜ passed r ≡ messageTurn p run pass ⌝ }
+// 10: what is wanted of a full run is next.
+pub fn full_next(p: u32, run: Run, pass: Pass, wanted: Next) -> Check
+    ensures { λ r. ⌜ passed r ≡ fullTurn p run pass wanted ⌝ }
 {
     if full_formed(p, run, pass) {} else {
         return Check::Failed;
     }
     let next = run.next;
-    pass_if(cases::is_message(next))
+    pass_if(cases::waits(wanted, next))
 }
 
 // 10: a challenge is next.
@@ -41,18 +42,7 @@ pub fn challenge_next(p: u32, run: Run, pass: Pass) -> Check
         return Check::Failed;
     }
     let next = run.next;
-    pass_if(cases::is_challenge(next))
-}
-
-// 10: the ends of a full run are next.
-pub fn ends_next(p: u32, run: Run, pass: Pass) -> Check
-    ensures { λ r. ⌜ passed r ≡ endsTurn p run pass ⌝ }
-{
-    if full_formed(p, run, pass) {} else {
-        return Check::Failed;
-    }
-    let next = run.next;
-    pass_if(cases::is_ends(next))
+    pass_if(cases::waits(Next::Challenge, next))
 }
 
 // 10: openings of a full run are next, and there are rounds to open.
@@ -63,7 +53,7 @@ pub fn openings_next(p: u32, run: Run, pass: Pass) -> Check
         return Check::Failed;
     }
     let next = run.next;
-    if cases::is_openings(next) {} else {
+    if cases::waits(Next::Openings, next) {} else {
         return Check::Failed;
     }
     let start = run.start;

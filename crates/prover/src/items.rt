@@ -23,6 +23,7 @@ use item::Parts;
 use item::Start;
 use kernel::Kernel;
 use kernel::Points;
+use phase::Next;
 use phase::cases;
 use phase::levels;
 use phase::order;
@@ -121,7 +122,7 @@ fn take(p: u32, run: Run, pass: Pass, x: Item, f: &mut [u32], g: &mut [u32]) -> 
     let start = run.start;
     let a = twisted(p, start, start.items - 1 - pass.taken, x.f);
     let next = run.next;
-    if cases::is_total(next) {
+    if cases::waits(Next::Total, next) {
         return answered(run, sum(p, start.plain, pass, x, a), Answer::Taken);
     }
     let challenges = run.challenges;

@@ -17,6 +17,7 @@ use field::modular;
 use kernel::Kernel;
 use kernel::Points;
 use phase::Kind;
+use phase::Next;
 use phase::cases;
 use phase::levels;
 use refusal::Check;
@@ -90,7 +91,7 @@ fn open_kernel(run: Run) -> Kernel
     ensures { λ r. ⌜ r ≡ openKernel run ⌝ }
 {
     let next = run.next;
-    if cases::is_total(next) {
+    if cases::waits(Next::Total, next) {
         return kernel::start::empty();
     }
     padded_kernel(run)

@@ -5,6 +5,7 @@ ghost use Rattle.prover.specs.Open.{mayOpen, mayOpenAt};
 use super::Pass;
 use super::Run;
 use super::formed;
+use phase::Next;
 use phase::cases;
 use phase::order;
 use refusal::Check;
@@ -37,7 +38,7 @@ pub fn may_open_at(p: u32, run: Run, pass: Pass) -> Check
         return Check::Failed;
     }
     let next = run.next;
-    if cases::is_openings(next) {} else {
+    if cases::waits(Next::Openings, next) {} else {
         return Check::Failed;
     }
     let start = run.start;

@@ -13,6 +13,7 @@ use super::Step;
 use super::answers::answered;
 use super::answers::refuse;
 use super::formed;
+use phase::Next;
 use phase::cases;
 use refusal::Check;
 use refusal::pass_if;
@@ -30,7 +31,7 @@ fn may_write(p: u32, run: Run, pass: Pass) -> Check
         return Check::Failed;
     }
     let next = run.next;
-    pass_if(cases::is_openings(next))
+    pass_if(cases::waits(Next::Openings, next))
 }
 
 fn written_step(run: Run, pass: Pass, written: ProofWritten) -> Step

@@ -20,8 +20,9 @@ use Rattle.kernel.proofs.KernelTurns.{placed-fits}
 use Rattle.kernel.proofs.KernelOpen.{padded-fold}
 use Rattle.kernel.proofs.KernelLevels.{LevelledBelow}
 use Rattle.kernel.proofs.KernelChangePass.{Changing, arrives-last, arrives-below, reaches-last, stops-before}
+use Rattle.phase.specs.declared.Next.the-variants as next
 use Rattle.phase.specs.declared.Kind.the-variants.{Change}
-use Rattle.phase.specs.Cases.{isChange, isTotal}
+use Rattle.phase.specs.Cases.{isChange, waits}
 use Rattle.prover.specs.declared.Run.{Run}
 use Rattle.prover.specs.declared.Pass.{Pass}
 use Rattle.prover.specs.Records.{Out, kernelOf}
@@ -63,18 +64,18 @@ padded-written p c f r xs ok zeros long =
 
 module _ (p : ℕ) (r : Run) (s : Pass) (x : Item) (fs gs : List ℕ) where
   -- NO OTHER PASS touches the buffers
-  pub total-leaves : isTotal (r .next) ≡ true → (let o : Out = takes p r s x fs gs in (o .f ≡ fs) × (o .g ≡ gs))
+  pub total-leaves : waits next.Total (r .next) ≡ true → (let o : Out = takes p r s x fs gs in (o .f ≡ fs) × (o .g ≡ gs))
   total-leaves e = (ap (λ o. o .f) (takes-sum p r s x fs gs e), ap (λ o. o .g) (takes-sum p r s x fs gs e))
 
   pub asked-leaves : isChange (s .kind) ≡ false → (let o : Out = takes p r s x fs gs in (o .f ≡ fs) × (o .g ≡ gs))
-  asked-leaves e = by (isTotal (r .next)) refl
+  asked-leaves e = by (waits next.Total (r .next)) refl
     where
-      by : (b : Bool) → isTotal (r .next) ≡ b → (let o : Out = takes p r s x fs gs in (o .f ≡ fs) × (o .g ≡ gs))
+      by : (b : Bool) → waits next.Total (r .next) ≡ b → (let o : Out = takes p r s x fs gs in (o .f ≡ fs) × (o .g ≡ gs))
       by true t = total-leaves t
       by false t = (ap (λ o. o .f) (takes-enter p r s x fs gs t e), ap (λ o. o .g) (takes-enter p r s x fs gs t e))
 
 -- AN ITEM of a change pass
-module _ (p : ℕ) (r : Run) (s : Pass) (x : Item) (fs gs : List ℕ) (ok : runFormed p r ≡ true) (change : s .kind ≡ Change) (later : isTotal (r .next) ≡ false)
+module _ (p : ℕ) (r : Run) (s : Pass) (x : Item) (fs gs : List ℕ) (ok : runFormed p r ≡ true) (change : s .kind ≡ Change) (later : waits next.Total (r .next) ≡ false)
     (t : ℕ) (count : 2 ^ r .start .rounds - r .start .items + s .taken ≡ t) (ht : t < 2 ^ r .start .rounds) where
   abbrev n : ℕ
   n = r .start .rounds

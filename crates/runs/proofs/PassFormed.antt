@@ -15,7 +15,7 @@ use Rattle.phase.specs.declared.Next.{Next}
 use Rattle.phase.specs.declared.Next.the-variants.{Total, Message, Challenge, Ends, Openings}
 use Rattle.phase.specs.declared.Kind.{Kind}
 use Rattle.phase.specs.declared.Kind.the-variants.{Shut, Asked, Change}
-use Rattle.phase.specs.Cases.{isTotal, isOpenings}
+use Rattle.phase.specs.Cases.{waits}
 use Rattle.phase.specs.Order.{kindFits}
 use Rattle.prover.specs.declared.Run.{Run}
 use Rattle.prover.specs.declared.Pass.{Pass}
@@ -32,12 +32,12 @@ use Rattle.runs.proofs.PassKernel.{after-counts, after-room}
 use Rattle.runs.proofs.PassTotal.{after-bound}
 
 -- a pass for the total has no stack
-pub after-still : (p : ℕ) (r : Run) (b : ℕ) → isTotal (r .next) ≡ true → (xs : List Given) → kernelOf (passAfter p r Asked b xs) ≡ emptyKernel
+pub after-still : (p : ℕ) (r : Run) (b : ℕ) → waits Total (r .next) ≡ true → (xs : List Given) → kernelOf (passAfter p r Asked b xs) ≡ emptyKernel
 unfolding passAfter
 after-still p r b e [] = by (r .next) e
   where
-    by : (n : Next) → isTotal n ≡ true
-        → kernelOf (cond (isOpenings n) (newPass Asked (pointsOf p b) (paddedKernel r)) (newPass Asked noPoints (cond (isTotal n) emptyKernel (paddedKernel r)))) ≡ emptyKernel
+    by : (n : Next) → waits Total n ≡ true
+        → kernelOf (cond (waits Openings n) (newPass Asked (pointsOf p b) (paddedKernel r)) (newPass Asked noPoints (cond (waits Total n) emptyKernel (paddedKernel r)))) ≡ emptyKernel
     by Total e = refl
     by Message e = absurd (true≢false (sym e))
     by Challenge e = absurd (true≢false (sym e))
@@ -46,7 +46,7 @@ after-still p r b e [] = by (r .next) e
 after-still p r b e (x ∷ xs) = takes-still p r (passAfter p r Asked b xs) (contributes p (r .start) x) [] [] e ∙ after-still p r b e xs
 
 -- no change before the total
-change-later : (m : Mode) (n : Next) → kindFits Change m n ≡ true → isTotal n ≡ false
+change-later : (m : Mode) (n : Next) → kindFits Change m n ≡ true → waits Total n ≡ false
 change-later Small Total h = sym h
 change-later Small Message h = refl
 change-later Small Challenge h = refl
@@ -66,9 +66,9 @@ module _ (p : ℕ) (r : Run) (b : ℕ) (formed : runFormed p r ≡ true) where
       → (passAfter p r k b xs .fcount ≡ passAfter p r k b xs .gcount) × (passAfter p r k b xs .fcount ≤ 15)
   unfolding passAfter
   counts Shut fits xs within none = rw (none refl) (refl, omega arith)
-  counts Asked fits xs within none = by (isTotal (r .next)) refl
+  counts Asked fits xs within none = by (waits Total (r .next)) refl
     where
-      by : (t : Bool) → isTotal (r .next) ≡ t → (passAfter p r Asked b xs .fcount ≡ passAfter p r Asked b xs .gcount) × (passAfter p r Asked b xs .fcount ≤ 15)
+      by : (t : Bool) → waits Total (r .next) ≡ t → (passAfter p r Asked b xs .fcount ≡ passAfter p r Asked b xs .gcount) × (passAfter p r Asked b xs .fcount ≤ 15)
       by true e =
           let q = after-still p r b e xs in
           let f = ap (λ k. k .fcount) q in

@@ -16,9 +16,10 @@ use Rattle.vector.proofs.StackCount.{ones-below}
 use Rattle.kernel.proofs.KernelLevels.{LevelledBelow, below-count}
 use Rattle.kernel.proofs.KernelStream.{kernelOf as streamOf, levelled-list}
 use Rattle.kernel.proofs.KernelChangeStream.{changeOf, levelled-change}
+use Rattle.phase.specs.declared.Next.the-variants as next
 use Rattle.phase.specs.declared.Kind.{Kind}
 use Rattle.phase.specs.declared.Kind.the-variants.{Shut, Asked, Change}
-use Rattle.phase.specs.Cases.{isOpen, isChange, isTotal, isOpenings}
+use Rattle.phase.specs.Cases.{isOpen, isChange, waits}
 use Rattle.prover.specs.declared.Run.{Run}
 use Rattle.prover.specs.declared.Pass.{Pass}
 use Rattle.prover.specs.Records.{kernelOf}
@@ -53,10 +54,10 @@ pub ones-fit : (n w t : ℕ) → n ≤ 15 → t ≤ 2 ^ n → ones w t ≤ 15
 ones-fit n w t hn ht =
     ⊎-elim (λ (e : t ≡ 2 ^ n). rw e (omega (arith, ones-power n w))) (λ (l : t < 2 ^ n). omega (arith, ones-below n w t l)) (eq-or-lt-of-le ht)
 
-module _ (p : ℕ) (r : Run) (b : ℕ) (other : isTotal (r .next) ≡ false) where
+module _ (p : ℕ) (r : Run) (b : ℕ) (other : waits next.Total (r .next) ≡ false) where
   -- "A small pass takes the padding by itself"
   opened-asked : kernelOf (openedPass p r Asked b) ≡ paddedKernel r
-  opened-asked = by (isOpenings (r .next))
+  opened-asked = by (waits next.Openings (r .next))
     where
       by : (t : Bool) → kernelOf (cond t (newPass Asked (pointsOf p b) (paddedKernel r)) (newPass Asked noPoints (openKernel r))) ≡ paddedKernel r
       by true = refl

@@ -13,9 +13,10 @@ use Rattle.kernel.specs.declared.Kernel.{Kernel}
 use Rattle.kernel.specs.Kernel.{emptyKernel, paddingBelow}
 use Rattle.kernel.specs.Change.{Placed, placedOf, placedKernel}
 use Rattle.kernel.proofs.KernelChangeStream.{placed-kernel}
+use Rattle.phase.specs.declared.Next.the-variants as next
 use Rattle.phase.specs.declared.Kind.{Kind}
 use Rattle.phase.specs.declared.Kind.the-variants.{Shut, Asked, Change}
-use Rattle.phase.specs.Cases.{isChange, isTotal, isOpenings}
+use Rattle.phase.specs.Cases.{isChange, waits}
 use Rattle.prover.specs.declared.Run.{Run}
 use Rattle.prover.specs.declared.Pass.{Pass}
 use Rattle.prover.specs.declared.Answer.the-variants as answer
@@ -42,7 +43,7 @@ module _ (p : ℕ) (r : Run) (s : Pass) (y : Item) (f g : List ℕ) where
   -- what holds in a pass for the total and in any other
   either : {A : Type 0} (part : Out → A) (a : A) → part (taking true) ≡ a → part (taking false) ≡ a → part (takes p r s y f g) ≡ a
   unfolding takes
-  either part a x y = by (isTotal (r .next))
+  either part a x y = by (waits next.Total (r .next))
     where
       by : (b : Bool) → part (taking b) ≡ a
       by true = x
@@ -70,7 +71,7 @@ module _ (p : ℕ) (r : Run) (s : Pass) (y : Item) (f g : List ℕ) where
   takes-points = either (λ o. o .pass .points) (s .points) refl refl
 
   -- a pass for the total
-  module _ (h : isTotal (r .next) ≡ true) where
+  module _ (h : waits next.Total (r .next) ≡ true) where
     pub takes-total : takes p r s y f g .pass .total ≡ plus (s .total) (y .worth)
     unfolding summedItem
     takes-total = ap (λ o. o .pass .total) (takes-sum p r s y f g h)
@@ -85,7 +86,7 @@ module _ (p : ℕ) (r : Run) (s : Pass) (y : Item) (f g : List ℕ) where
     takes-still = ap (λ o. kernelOf (o .pass)) (takes-sum p r s y f g h)
 
   -- any other
-  module _ (h : isTotal (r .next) ≡ false) where
+  module _ (h : waits next.Total (r .next) ≡ false) where
     pub takes-kernel : isChange (s .kind) ≡ false → kernelOf (takes p r s y f g .pass) ≡ enteredItem p r s (entering p r s y) (y .g)
     takes-kernel k = ap (λ o. kernelOf (o .pass)) (takes-enter p r s y f g h k)
 
@@ -103,7 +104,7 @@ module _ (p : ℕ) (r : Run) (s : Pass) (y : Item) (f g : List ℕ) where
 -- its pass does not depend on the buffers
 pub takes-buffers : (p : ℕ) (r : Run) (s : Pass) (y : Item) (f g f′ g′ : List ℕ) → takes p r s y f g .pass ≡ takes p r s y f′ g′ .pass
 unfolding takes placedItem
-takes-buffers p r s y f g f′ g′ = by (isTotal (r .next))
+takes-buffers p r s y f g f′ g′ = by (waits next.Total (r .next))
   where
     same : (b : Bool) → stacked p r s y f g b .kernel ≡ stacked p r s y f′ g′ b .kernel
     same true =
@@ -119,7 +120,7 @@ module _ (p : ℕ) (r : Run) (b : ℕ) where
   -- what holds of every new pass of a kind holds of the one that is opened
   pub opened-new : {A : Type 0} (part : Pass → A) (a : A) (k : Kind) → ((points : Points) (q : Kernel) → part (newPass k points q) ≡ a) → part (openedPass p r k b) ≡ a
   opened-new part a Shut h = h noPoints emptyKernel
-  opened-new part a Asked h = by (isOpenings (r .next))
+  opened-new part a Asked h = by (waits next.Openings (r .next))
     where
       by : (t : Bool) → part (cond t (newPass Asked (pointsOf p b) (paddedKernel r)) (newPass Asked noPoints (openKernel r))) ≡ a
       by true = h (pointsOf p b) (paddedKernel r)

@@ -11,8 +11,9 @@ use Rattle.refusal.specs.Limit.{maxWorth}
 use Rattle.field.specs.Total.{plus}
 use Rattle.field.proofs.Signed.{natAbs-add, natAbs-mul}
 use Rattle.field.proofs.Totals.{plus-exact}
+use Rattle.phase.specs.declared.Next.the-variants as next
 use Rattle.phase.specs.declared.Kind.{Kind}
-use Rattle.phase.specs.Cases.{isTotal}
+use Rattle.phase.specs.Cases.{waits}
 use Rattle.prover.specs.declared.Run.{Run}
 use Rattle.item.specs.declared.Start.{Start}
 use Rattle.item.specs.declared.Given.{Given}
@@ -42,7 +43,7 @@ module _ (p : ℕ) (r : Run) (k : Kind) (b : ℕ) where
   opened-total = opened-new p r b (λ s. s .total) (pos 0) k (λ points q. refl)
 
   -- READINGS TIMES MINUTES, as long as no more than 32,768 items were taken
-  pub after-total : isTotal (r .next) ≡ true → (xs : List Given) → AllWithin xs → length xs ≤ 32768 → passAfter p r k b xs .total ≡ sumOf xs
+  pub after-total : waits next.Total (r .next) ≡ true → (xs : List Given) → AllWithin xs → length xs ≤ 32768 → passAfter p r k b xs .total ≡ sumOf xs
   unfolding passAfter sumOf AllWithin
   after-total e [] h few = opened-total
   after-total e (x ∷ xs) h few =
@@ -51,14 +52,14 @@ module _ (p : ℕ) (r : Run) (k : Kind) (b : ℕ) where
       ∙ plus-exact (sumOf xs) (worth x) (omega (arith, sum-bound xs (h .1))) (omega (arith, worth-bound x (h .0)))
 
   -- no other pass sums
-  pub after-none : isTotal (r .next) ≡ false → (xs : List Given) → passAfter p r k b xs .total ≡ pos 0
+  pub after-none : waits next.Total (r .next) ≡ false → (xs : List Given) → passAfter p r k b xs .total ≡ pos 0
   unfolding passAfter
   after-none e [] = opened-total
   after-none e (x ∷ xs) = takes-none p r (passAfter p r k b xs) (contributes p (r .start) x) [] [] e ∙ after-none e xs
 
   pub after-bound : (xs : List Given) → AllWithin xs → length xs ≤ 32768 → natAbs (passAfter p r k b xs .total) ≤ length xs * maxWorth
-  after-bound xs h few = by (isTotal (r .next)) refl
+  after-bound xs h few = by (waits next.Total (r .next)) refl
     where
-      by : (t : Bool) → isTotal (r .next) ≡ t → natAbs (passAfter p r k b xs .total) ≤ length xs * maxWorth
+      by : (t : Bool) → waits next.Total (r .next) ≡ t → natAbs (passAfter p r k b xs .total) ≤ length xs * maxWorth
       by true e = rw (after-total e xs h few) (sum-bound xs h)
       by false e = rw (after-none e xs) (omega arith)

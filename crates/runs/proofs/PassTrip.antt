@@ -19,9 +19,10 @@ use Rattle.kernel.proofs.KernelPass.{Taken}
 use Rattle.kernel.proofs.KernelStream.{kernelOf as streamOf, taken-pass}
 use Rattle.kernel.proofs.KernelChangePass.{Changing}
 use Rattle.kernel.proofs.KernelChangeStream.{changeOf, changing-pass}
+use Rattle.phase.specs.declared.Next.the-variants as next
 use Rattle.phase.specs.declared.Kind.{Kind}
 use Rattle.phase.specs.declared.Kind.the-variants.{Asked, Change}
-use Rattle.phase.specs.Cases.{isTotal}
+use Rattle.phase.specs.Cases.{waits}
 use Rattle.prover.specs.declared.Run.{Run}
 use Rattle.prover.specs.Records.{kernelOf}
 use Rattle.prover.specs.Level.{levelOf}
@@ -96,7 +97,7 @@ module _ (p : ℕ) (r : Run) (its : List Given) where
       (pairs-at xs l h q (omega arith) ∙ ap₂ (λ a b. (a, b)) (before itemF i in-trip) (before itemG i in-trip))
 
   -- the products of a pass for the total run from the last item down
-  summed : (k : Kind) (b : ℕ) → isTotal (r .next) ≡ true → r .start .plain ≡ false → (xs : List Given) → length xs ≤ r .start .items → Gives (tripOf r its) xs
+  summed : (k : Kind) (b : ℕ) → waits next.Total (r .next) ≡ true → r .start .plain ≡ false → (xs : List Given) → length xs ≤ r .start .items → Gives (tripOf r its) xs
       → passAfter p r k b xs .dot ≡ residue p (lastSum (λ i. itemF i * itemG i) (r .start .items) (length xs))
   unfolding passAfter lastSum
   summed k b e tw [] l h = opened-new p r b (λ s. s .dot) 0 k (λ points q. refl) ∙ sym (residue-zero p)
@@ -116,7 +117,7 @@ of-trip r T xs Says e h f =
     subst Says (sym (trip-is r T e)) (f (T .items) (subst (λ U. Gives U xs) (trip-is r T e) h))
 
 -- A PASS WITH STACKS
-module _ (p : ℕ) (r : Run) (b : ℕ) (xs : List Given) (formed : runFormed p r ≡ true) (within : length xs ≤ r .start .items) (other : isTotal (r .next) ≡ false) (c : ℕ → ℕ) where
+module _ (p : ℕ) (r : Run) (b : ℕ) (xs : List Given) (formed : runFormed p r ≡ true) (within : length xs ≤ r .start .items) (other : waits next.Total (r .next) ≡ false) (c : ℕ → ℕ) where
   abbrev w : Bounds r
   w = bounds p r formed
 
@@ -172,7 +173,7 @@ module _ (p : ℕ) (r : Run) (b : ℕ) (xs : List Given) (formed : runFormed p r
 
 module _ (p : ℕ) (r : Run) (k : Kind) (b : ℕ) (xs : List Given) (formed : runFormed p r ≡ true) where
   -- A PASS FOR THE TOTAL, all of its items taken
-  module _ (e : isTotal (r .next) ≡ true) (tw : r .start .plain ≡ false) (all : length xs ≡ r .start .items) where
+  module _ (e : waits next.Total (r .next) ≡ true) (tw : r .start .plain ≡ false) (all : length xs ≡ r .start .items) where
     given-dot : (its : List Given) → Gives (tripOf r its) xs
         → passAfter p r k b xs .dot ≡ dot p (2 ^ r .start .rounds) (vectorF p (tripOf r its)) (vectorG p (tripOf r its))
     given-dot its h =
@@ -194,7 +195,7 @@ gives-all T xs h all count =
     (λ q l. h q l ∙ ap (itemOf T) (let e : T .start .items - length xs + q ≡ q = omega arith in e))
 
 -- and a plain run's total is the trip's
-pub after-sum : (p : ℕ) (r : Run) (k : Kind) (b : ℕ) (xs : List Given) → runFormed p r ≡ true → isTotal (r .next) ≡ true → AllWithin xs → length xs ≡ r .start .items
+pub after-sum : (p : ℕ) (r : Run) (k : Kind) (b : ℕ) (xs : List Given) → runFormed p r ≡ true → waits next.Total (r .next) ≡ true → AllWithin xs → length xs ≡ r .start .items
     → (T : Trip) → T .start ≡ r .start → Gives T xs → length (T .items) ≡ T .start .items → passAfter p r k b xs .total ≡ totalOf T
 after-sum p r k b xs formed e good all T same h count =
     let whole : length xs ≡ T .start .items = all ∙ ap (λ s. s .items) (sym same) in
@@ -218,16 +219,16 @@ module _ (r : Run) (xs : List Given) (within : length xs ≤ r .start .items) wh
 
 -- so a pass has taken the items that it was given, whatever they are
 module _ (p : ℕ) (r : Run) (k : Kind) (b : ℕ) (xs : List Given) (formed : runFormed p r ≡ true) where
-  pub own-taken : length xs ≤ r .start .items → isTotal (r .next) ≡ false → (c : ℕ → ℕ) → ((j : ℕ) → j < levelOf r Asked → at (r .challenges) j ≡ c j)
+  pub own-taken : length xs ≤ r .start .items → waits next.Total (r .next) ≡ false → (c : ℕ → ℕ) → ((j : ℕ) → j < levelOf r Asked → at (r .challenges) j ≡ c j)
       → Taken p (r .start .rounds) c (levelOf r Asked) (passAfter p r Asked b xs .points) (vectorF p (ownTrip r xs)) (vectorG p (ownTrip r xs))
       (2 ^ r .start .rounds - r .start .items + length xs) (kernelOf (passAfter p r Asked b xs))
   own-taken within other c agree = after-given p r b xs formed within other c agree (ownTrip r xs) refl (own-gives r xs within)
 
-  pub own-changing : length xs ≤ r .start .items → isTotal (r .next) ≡ false → (c : ℕ → ℕ) → ((j : ℕ) → j < levelOf r Change → at (r .challenges) j ≡ c j)
+  pub own-changing : length xs ≤ r .start .items → waits next.Total (r .next) ≡ false → (c : ℕ → ℕ) → ((j : ℕ) → j < levelOf r Change → at (r .challenges) j ≡ c j)
       → Changing p (r .start .rounds) c (levelOf r Change) (vectorF p (ownTrip r xs)) (vectorG p (ownTrip r xs))
       (2 ^ r .start .rounds - r .start .items + length xs) (kernelOf (passAfter p r Change b xs))
   own-changing within other c agree = after-changing p r b xs formed within other c agree (ownTrip r xs) refl (own-gives r xs within)
 
-  pub own-dot : isTotal (r .next) ≡ true → r .start .plain ≡ false → length xs ≡ r .start .items
+  pub own-dot : waits next.Total (r .next) ≡ true → r .start .plain ≡ false → length xs ≡ r .start .items
       → passAfter p r k b xs .dot ≡ dot p (2 ^ r .start .rounds) (vectorF p (ownTrip r xs)) (vectorG p (ownTrip r xs))
   own-dot e tw all = after-dot p r k b xs formed e tw all (ownTrip r xs) refl (own-gives r xs (omega arith))

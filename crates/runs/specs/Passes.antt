@@ -4,9 +4,10 @@ use mathlib.Core.Path.{_≡_}
 use mathlib.Core.Bool.{cond}
 use mathlib.Core.List.{List, [], _∷_}
 use lib.ListN.{length, getD}
+use Rattle.phase.specs.declared.Next.the-variants as next
 use Rattle.phase.specs.declared.Kind.{Kind}
 use Rattle.phase.specs.declared.Kind.the-variants.{Shut, Asked, Change}
-use Rattle.phase.specs.Cases.{isOpenings}
+use Rattle.phase.specs.Cases.{waits}
 use Rattle.prover.specs.declared.Run.{Run}
 use Rattle.prover.specs.declared.Pass.{Pass}
 use Rattle.prover.specs.Open.{newPass, noPoints, pointsOf, paddedKernel, openKernel}
@@ -21,7 +22,7 @@ use Rattle.runs.specs.Trip.{Trip, itemOf}
 -- the record that an answered opening of a pass hands back: for what is next, at a point for openings, or for a change
 abbrev pub openedPass : ℕ → Run → Kind → ℕ → Pass
 openedPass p r Shut b = shutPass
-openedPass p r Asked b = cond (isOpenings (r .next)) (newPass Asked (pointsOf p b) (paddedKernel r)) (newPass Asked noPoints (openKernel r))
+openedPass p r Asked b = cond (waits next.Openings (r .next)) (newPass Asked (pointsOf p b) (paddedKernel r)) (newPass Asked noPoints (openKernel r))
 openedPass p r Change b = changePass r
 
 -- and after the answered items

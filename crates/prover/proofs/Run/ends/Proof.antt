@@ -12,8 +12,8 @@ use Rattle.prover.proofs.Run.ends.Tie as tie
 modulus-of-requires : tie.Need-modulus-of-requires
 modulus-of-requires c κs = search needs
 
-ends-next-requires : tie.Need-ends-next-requires
-ends-next-requires c κs = search needs
+full-next-requires : tie.Need-full-next-requires
+full-next-requires c κs = search needs
 
 enum-told : tie.Need-enum-told
 enum-told c = search needs
@@ -28,7 +28,7 @@ returns : tie.Need-returns
 unfolding endsCall
 returns c =
     let s = c .before .before .before .before .before .before .before .args in
-    rw (c .refuse .ensures) (sym (read-turn (c .before .before .before .before .modulus-of .result) (s .self) (s .pass) (now (s .f)) (now (s .g)) (endsTurn (c .before .before .before .before .modulus-of .result) (s .self) (s .pass)) (endsGiven (s .self) (s .pass) (now (s .f)) (now (s .g))) (sym (c .before .before .before .ends-next .ensures) ∙ ap passed (c .before .enum-told2 .given .1))) ∙ ap (λ p. leaves (s .self) (s .pass) (now (s .f)) (now (s .g)) (endsCall p (s .self) (s .pass) (now (s .f)) (now (s .g)))) (c .before .before .before .before .modulus-of .ensures))
+    rw (c .refuse .ensures) (sym (read-turn (c .before .before .before .before .modulus-of .result) (s .self) (s .pass) (now (s .f)) (now (s .g)) (endsTurn (c .before .before .before .before .modulus-of .result) (s .self) (s .pass)) (endsGiven (s .self) (s .pass) (now (s .f)) (now (s .g))) (sym (c .before .before .before .full-next .ensures) ∙ ap passed (c .before .enum-told2 .given .1))) ∙ ap (λ p. leaves (s .self) (s .pass) (now (s .f)) (now (s .g)) (endsCall p (s .self) (s .pass) (now (s .f)) (now (s .g)))) (c .before .before .before .before .modulus-of .ensures))
 
 both-long-requires : tie.Need-both-long-requires
 both-long-requires c κs = search needs
@@ -46,7 +46,7 @@ returns-2 : tie.Need-returns-2
 unfolding endsCall
 returns-2 c =
     let s = c .before .before .before .before .before .before .before .before .before .before .args in
-    rw (c .refuse2 .ensures) (sym (read-short (c .before .before .before .before .before .before .before .modulus-of .result) (s .self) (s .pass) (now (s .f)) (now (s .g)) (endsTurn (c .before .before .before .before .before .before .before .modulus-of .result) (s .self) (s .pass)) (endsGiven (s .self) (s .pass) (now (s .f)) (now (s .g))) (sym (c .before .before .before .before .before .before .ends-next .ensures) ∙ ap passed (c .before .before .before .before .enum-told .given .1)) (sym (c .before .before .before .both-long .ensures) ∙ ap passed (c .before .enum-told4 .given .1))) ∙ ap (λ p. leaves (s .self) (s .pass) (now (s .f)) (now (s .g)) (endsCall p (s .self) (s .pass) (now (s .f)) (now (s .g)))) (c .before .before .before .before .before .before .before .modulus-of .ensures))
+    rw (c .refuse2 .ensures) (sym (read-short (c .before .before .before .before .before .before .before .modulus-of .result) (s .self) (s .pass) (now (s .f)) (now (s .g)) (endsTurn (c .before .before .before .before .before .before .before .modulus-of .result) (s .self) (s .pass)) (endsGiven (s .self) (s .pass) (now (s .f)) (now (s .g))) (sym (c .before .before .before .before .before .before .full-next .ensures) ∙ ap passed (c .before .before .before .before .enum-told .given .1)) (sym (c .before .before .before .both-long .ensures) ∙ ap passed (c .before .enum-told4 .given .1))) ∙ ap (λ p. leaves (s .self) (s .pass) (now (s .f)) (now (s .g)) (endsCall p (s .self) (s .pass) (now (s .f)) (now (s .g)))) (c .before .before .before .before .before .before .before .modulus-of .ensures))
 
 both-reduced-requires : tie.Need-both-reduced-requires
 both-reduced-requires c κs = search needs
@@ -64,25 +64,25 @@ returns-3 : tie.Need-returns-3
 unfolding endsCall
 returns-3 c =
     let s = c .before .before .before .before .before .before .before .before .before .before .before .before .before .args in
-    rw (c .refuse3 .ensures) (sym (read-unreduced (c .before .before .before .before .before .before .before .before .before .before .modulus-of .result) (s .self) (s .pass) (now (s .f)) (now (s .g)) (endsTurn (c .before .before .before .before .before .before .before .before .before .before .modulus-of .result) (s .self) (s .pass)) (endsGiven (s .self) (s .pass) (now (s .f)) (now (s .g))) (sym (c .before .before .before .before .before .before .before .before .before .ends-next .ensures) ∙ ap passed (c .before .before .before .before .before .before .before .enum-told .given .1)) (sym (c .before .before .before .before .before .before .both-long .ensures) ∙ ap passed (c .before .before .before .before .enum-told3 .given .1)) (sym (c .before .before .before .both-reduced .ensures) ∙ ap passed (c .before .enum-told6 .given .1))) ∙ ap (λ p. leaves (s .self) (s .pass) (now (s .f)) (now (s .g)) (endsCall p (s .self) (s .pass) (now (s .f)) (now (s .g)))) (c .before .before .before .before .before .before .before .before .before .before .modulus-of .ensures))
+    rw (c .refuse3 .ensures) (sym (read-unreduced (c .before .before .before .before .before .before .before .before .before .before .modulus-of .result) (s .self) (s .pass) (now (s .f)) (now (s .g)) (endsTurn (c .before .before .before .before .before .before .before .before .before .before .modulus-of .result) (s .self) (s .pass)) (endsGiven (s .self) (s .pass) (now (s .f)) (now (s .g))) (sym (c .before .before .before .before .before .before .before .before .before .full-next .ensures) ∙ ap passed (c .before .before .before .before .before .before .before .enum-told .given .1)) (sym (c .before .before .before .before .before .before .both-long .ensures) ∙ ap passed (c .before .before .before .before .enum-told3 .given .1)) (sym (c .before .before .before .both-reduced .ensures) ∙ ap passed (c .before .enum-told6 .given .1))) ∙ ap (λ p. leaves (s .self) (s .pass) (now (s .f)) (now (s .g)) (endsCall p (s .self) (s .pass) (now (s .f)) (now (s .g)))) (c .before .before .before .before .before .before .before .before .before .before .modulus-of .ensures))
 
 give-ends-requires : tie.Need-give-ends-requires
 give-ends-requires c κs =
     let s = c .before .before .before .before .before .before .before .before .before .before .before .before .args in
-    both-there (c .before .before .before .before .before .before .before .before .before .modulus-of .result) (s .self) (s .pass) (now (s .f)) (now (s .g)) (sym (c .before .before .before .before .before .before .before .before .ends-next .ensures) ∙ ap passed (c .before .before .before .before .before .before .enum-told .given .1)) (sym (c .before .before .before .before .before .both-long .ensures) ∙ ap passed (c .before .before .before .enum-told3 .given .1))
+    both-there (c .before .before .before .before .before .before .before .before .before .modulus-of .result) (s .self) (s .pass) (now (s .f)) (now (s .g)) (sym (c .before .before .before .before .before .before .before .before .full-next .ensures) ∙ ap passed (c .before .before .before .before .before .before .enum-told .given .1)) (sym (c .before .before .before .before .before .both-long .ensures) ∙ ap passed (c .before .before .before .enum-told3 .given .1))
 
 returns-4 : tie.Need-returns-4
 unfolding endsCall
 returns-4 c =
     let s = c .before .before .before .before .before .before .before .before .before .before .before .before .before .args in
-    c .give-ends .ensures ∙ sym (read-given (c .before .before .before .before .before .before .before .before .before .before .modulus-of .result) (s .self) (s .pass) (now (s .f)) (now (s .g)) (endsTurn (c .before .before .before .before .before .before .before .before .before .before .modulus-of .result) (s .self) (s .pass)) (endsGiven (s .self) (s .pass) (now (s .f)) (now (s .g))) (sym (c .before .before .before .before .before .before .before .before .before .ends-next .ensures) ∙ ap passed (c .before .before .before .before .before .before .before .enum-told .given .1)) (sym (c .before .before .before .before .before .before .both-long .ensures) ∙ ap passed (c .before .before .before .before .enum-told3 .given .1)) (sym (c .before .before .before .both-reduced .ensures) ∙ ap passed (c .before .enum-told5 .given .1))) ∙ ap (λ p. leaves (s .self) (s .pass) (now (s .f)) (now (s .g)) (endsCall p (s .self) (s .pass) (now (s .f)) (now (s .g)))) (c .before .before .before .before .before .before .before .before .before .before .modulus-of .ensures)
+    c .give-ends .ensures ∙ sym (read-given (c .before .before .before .before .before .before .before .before .before .before .modulus-of .result) (s .self) (s .pass) (now (s .f)) (now (s .g)) (endsTurn (c .before .before .before .before .before .before .before .before .before .before .modulus-of .result) (s .self) (s .pass)) (endsGiven (s .self) (s .pass) (now (s .f)) (now (s .g))) (sym (c .before .before .before .before .before .before .before .before .before .full-next .ensures) ∙ ap passed (c .before .before .before .before .before .before .before .enum-told .given .1)) (sym (c .before .before .before .before .before .before .both-long .ensures) ∙ ap passed (c .before .before .before .before .enum-told3 .given .1)) (sym (c .before .before .before .both-reduced .ensures) ∙ ap passed (c .before .enum-told5 .given .1))) ∙ ap (λ p. leaves (s .self) (s .pass) (now (s .f)) (now (s .g)) (endsCall p (s .self) (s .pass) (now (s .f)) (now (s .g)))) (c .before .before .before .before .before .before .before .before .before .before .modulus-of .ensures)
 
 pub ends-spec : {M : Type 1} → statement M
 ends-spec =
     tie.close
     (tie.spec
     modulus-of-requires
-    ends-next-requires
+    full-next-requires
     enum-told
     enum-told-2
     refuse-requires

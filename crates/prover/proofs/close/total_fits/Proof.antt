@@ -5,14 +5,14 @@ use borrow.Author.Needs.{needs}
 use Rattle.prover.proofs.close.total_fits.Statement.{statement}
 use Rattle.prover.proofs.close.total_fits.Tie as tie
 
-is-total-requires : tie.Need-is-total-requires
-is-total-requires c κs = search needs
+waits-requires : tie.Need-waits-requires
+waits-requires c κs = search needs
 
 returns : tie.Need-returns
-returns c = simp (c .if1 .left, ← c .before .is-total .ensures)
+returns c = simp (c .if1 .left, ← c .before .waits .ensures)
 
 returns-2 : tie.Need-returns-2
-returns-2 c = simp (c .if2 .left, c .before .before .if1 .taken, ← c .before .before .before .is-total .ensures)
+returns-2 c = simp (c .if2 .left, c .before .before .if1 .taken, ← c .before .before .before .waits .ensures)
 
 within-requires : tie.Need-within-requires
 within-requires c κs = search needs
@@ -25,13 +25,13 @@ returns-3 c =
     let z = c .before .before .before .before .before .before .before .args .pass .total in
     let t : toZ w64 (ofZ w64 z) ≡ z = search needs in
     let w = simp t at (c .before .within .ensures) in
-    simp (c .pass-if .ensures, c .before .before .before .if2 .taken, c .before .before .before .before .before .if1 .taken, ← c .before .before .before .before .before .before .is-total .ensures, w)
+    simp (c .pass-if .ensures, c .before .before .before .if2 .taken, c .before .before .before .before .before .if1 .taken, ← c .before .before .before .before .before .before .waits .ensures, w)
 
 pub total-fits-spec : {M : Type 1} → statement M
 total-fits-spec =
     tie.close
     (tie.spec
-    is-total-requires
+    waits-requires
     returns
     returns-2
     within-requires

@@ -8,14 +8,14 @@ well-formed-requires c κs = search needs
 returns : tie.Need-returns
 returns c = simp (c .if1 .left, ← c .before .well-formed .ensures)
 
-is-challenge-requires : tie.Need-is-challenge-requires
-is-challenge-requires c κs = search needs
+waits-requires : tie.Need-waits-requires
+waits-requires c κs = search needs
 
 pass-if-requires : tie.Need-pass-if-requires
 pass-if-requires c κs = search needs
 
 returns-2 : tie.Need-returns-2
-returns-2 c = simp (c .pass-if .ensures, c .before .is-challenge .ensures, c .before .before .if1 .taken, ← c .before .before .before .well-formed .ensures)
+returns-2 c = simp (c .pass-if .ensures, c .before .waits .ensures, c .before .before .if1 .taken, ← c .before .before .before .well-formed .ensures)
 
 pub challenge-next-spec : {M : Type 1} → statement M
 challenge-next-spec =
@@ -23,6 +23,6 @@ challenge-next-spec =
     (tie.spec
     well-formed-requires
     returns
-    is-challenge-requires
+    waits-requires
     pass-if-requires
     returns-2)

@@ -8,17 +8,17 @@ full-formed-requires c κs = search needs
 returns : tie.Need-returns
 returns c = simp (c .if1 .left, ← c .before .full-formed .ensures)
 
-is-openings-requires : tie.Need-is-openings-requires
-is-openings-requires c κs = search needs
+waits-requires : tie.Need-waits-requires
+waits-requires c κs = search needs
 
 returns-2 : tie.Need-returns-2
-returns-2 c = simp (c .if2 .left, ← c .before .is-openings .ensures, c .before .before .if1 .taken, ← c .before .before .before .full-formed .ensures)
+returns-2 c = simp (c .if2 .left, ← c .before .waits .ensures, c .before .before .if1 .taken, ← c .before .before .before .full-formed .ensures)
 
 pass-if-requires : tie.Need-pass-if-requires
 pass-if-requires c κs = search needs
 
 returns-3 : tie.Need-returns-3
-returns-3 c = simp (c .pass-if .ensures, c .before .before .before .if2 .taken, ← c .before .before .before .before .is-openings .ensures, c .before .before .before .before .before .if1 .taken, ← c .before .before .before .before .before .before .full-formed .ensures)
+returns-3 c = simp (c .pass-if .ensures, c .before .before .before .if2 .taken, ← c .before .before .before .before .waits .ensures, c .before .before .before .before .before .if1 .taken, ← c .before .before .before .before .before .before .full-formed .ensures)
 
 pub openings-next-spec : {M : Type 1} → statement M
 openings-next-spec =
@@ -26,7 +26,7 @@ openings-next-spec =
     (tie.spec
     full-formed-requires
     returns
-    is-openings-requires
+    waits-requires
     returns-2
     pass-if-requires
     returns-3)

@@ -20,8 +20,8 @@ sub-twisted-2 c = search needs
 twisted-requires : tie.Need-twisted-requires
 twisted-requires c κs = search needs
 
-is-total-requires : tie.Need-is-total-requires
-is-total-requires c κs = search needs
+waits-requires : tie.Need-waits-requires
+waits-requires c κs = search needs
 
 sum-requires : tie.Need-sum-requires
 sum-requires c κs = search needs
@@ -31,7 +31,7 @@ answered-requires c κs = search needs
 
 returns : tie.Need-returns
 unfolding entering
-returns c = rw (c .answered .ensures, c .before .sum .ensures, c .before .before .before .before .twisted .ensures) (sym (takes-sum _ _ _ _ _ _ (sym (c .before .before .before .is-total .ensures) ∙ c .before .before .if1 .taken)))
+returns c = rw (c .answered .ensures, c .before .sum .ensures, c .before .before .before .before .twisted .ensures) (sym (takes-sum _ _ _ _ _ _ (sym (c .before .before .before .waits .ensures) ∙ c .before .before .if1 .taken)))
 
 level-of-requires : tie.Need-level-of-requires
 level-of-requires c κs = search needs
@@ -82,7 +82,7 @@ returns-2 c =
     rw (c .before .before .before .before .before .before .before .before .before .before .before .before .before .before .before .before .level-of .ensures, c .before .before .before .before .before .before .before .before .before .before .before .before .fold-size .ensures, c .before .before .before .before .before .before .before .before .before .before .before .padding-of .ensures, c .before .before .before .before .before .before .before .before .before .before .before .before .before .before .before .kernel-of .ensures, c .before .before .before .before .before .before .before .before .before .before .before .before .before .before .before .before .before .before .before .before .twisted .ensures) in
     rw (c .answered2 .ensures, c .before .with-kernel .ensures, c .before .before .one-more .ensures)
     (ap (takenItem (s .run) (s .pass)) (c .before .before .before .before .before .before .before .place .ensures ∙ same)
-    ∙ sym (takes-place (s .p) (s .run) (s .pass) (s .x) (now (s .f)) (now (s .g)) (sym (c .before .before .before .before .before .before .before .before .before .before .before .before .before .before .before .before .before .before .before .is-total .ensures) ∙ c .before .before .before .before .before .before .before .before .before .before .before .before .before .before .before .before .before .before .if1 .left) (sym (c .before .before .before .before .before .before .before .before .before .before .before .before .before .before .is-change .ensures) ∙ c .before .before .before .before .before .before .before .before .before .before .before .before .before .if2 .taken)))
+    ∙ sym (takes-place (s .p) (s .run) (s .pass) (s .x) (now (s .f)) (now (s .g)) (sym (c .before .before .before .before .before .before .before .before .before .before .before .before .before .before .before .before .before .before .before .waits .ensures) ∙ c .before .before .before .before .before .before .before .before .before .before .before .before .before .before .before .before .before .before .if1 .left) (sym (c .before .before .before .before .before .before .before .before .before .before .before .before .before .before .is-change .ensures) ∙ c .before .before .before .before .before .before .before .before .before .before .before .before .before .if2 .taken)))
 
 enter-requires : tie.Need-enter-requires
 enter-requires c κs = search needs
@@ -107,7 +107,7 @@ returns-3 c =
     rw (c .before .before .before .before .before .before .before .before .level-of .ensures, c .before .before .before .before .before .before .before .kernel-of .ensures, c .before .before .before .before .before .before .before .before .before .before .before .before .twisted .ensures) in
     rw (c .answered3 .ensures, c .before .with-kernel2 .ensures, c .before .before .one-more2 .ensures)
     (ap (λ k. takenItem (s .run) (s .pass) (placedOf k (now (s .f)) (now (s .g)))) (c .before .before .before .enter .ensures ∙ same)
-    ∙ sym (takes-enter (s .p) (s .run) (s .pass) (s .x) (now (s .f)) (now (s .g)) (sym (c .before .before .before .before .before .before .before .before .before .before .before .is-total .ensures) ∙ c .before .before .before .before .before .before .before .before .before .before .if1 .left) (sym (c .before .before .before .before .before .before .is-change .ensures) ∙ c .before .before .before .before .before .if2 .left)))
+    ∙ sym (takes-enter (s .p) (s .run) (s .pass) (s .x) (now (s .f)) (now (s .g)) (sym (c .before .before .before .before .before .before .before .before .before .before .before .waits .ensures) ∙ c .before .before .before .before .before .before .before .before .before .before .if1 .left) (sym (c .before .before .before .before .before .before .is-change .ensures) ∙ c .before .before .before .before .before .if2 .left)))
 
 pub take-spec : {M : Type 1} → statement M
 take-spec =
@@ -116,7 +116,7 @@ take-spec =
     sub-twisted
     sub-twisted-2
     twisted-requires
-    is-total-requires
+    waits-requires
     sum-requires
     answered-requires
     returns

@@ -6,26 +6,26 @@ use borrow.Author.Needs.{needs}
 use Rattle.prover.proofs.open.open_kernel.Statement.{statement}
 use Rattle.prover.proofs.open.open_kernel.Tie as tie
 
-is-total-requires : tie.Need-is-total-requires
-is-total-requires c κs = search needs
+waits-requires : tie.Need-waits-requires
+waits-requires c κs = search needs
 
 empty-requires : tie.Need-empty-requires
 empty-requires c κs = search needs
 
 returns : tie.Need-returns
-returns c = rw (c .empty .ensures) (sym (ap (λ b. cond b emptyKernel (paddedKernel (c .before .before .before .args .run))) (sym (c .before .before .is-total .ensures) ∙ c .before .if1 .taken)))
+returns c = rw (c .empty .ensures) (sym (ap (λ b. cond b emptyKernel (paddedKernel (c .before .before .before .args .run))) (sym (c .before .before .waits .ensures) ∙ c .before .if1 .taken)))
 
 padded-kernel-requires : tie.Need-padded-kernel-requires
 padded-kernel-requires c κs = search needs
 
 returns-2 : tie.Need-returns-2
-returns-2 c = rw (c .padded-kernel .ensures) (sym (ap (λ b. cond b emptyKernel (paddedKernel (c .before .before .before .args .run))) (sym (c .before .before .is-total .ensures) ∙ c .before .if1 .left)))
+returns-2 c = rw (c .padded-kernel .ensures) (sym (ap (λ b. cond b emptyKernel (paddedKernel (c .before .before .before .args .run))) (sym (c .before .before .waits .ensures) ∙ c .before .if1 .left)))
 
 pub open-kernel-spec : {M : Type 1} → statement M
 open-kernel-spec =
     tie.close
     (tie.spec
-    is-total-requires
+    waits-requires
     empty-requires
     returns
     padded-kernel-requires
