@@ -7,25 +7,18 @@ use super::Next;
 use super::levels::fold_size;
 use vector::Message;
 
-// Half as many places as the current fold has.
-fn half_of(rounds: u32, round: u32, next: Next) -> usize
-    ensures { λ r. ⌜ r ≡ foldAt rounds round next / 2 ⌝ }
-{
-    (fold_size(rounds, round, next) / 2) as usize
-}
-
 // The message of the current fold; all zero where the places are not there.
 pub fn message(p: u32, rounds: u32, round: u32, next: Next, f: &[u32], g: &[u32]) -> Message
     ensures { λ r. ⌜ messageIn r ≡ messageSlice p (foldAt rounds round next / 2) (now (f .entry)) (now (g .entry)) ⌝ }
 {
-    let half = half_of(rounds, round, next);
-    vector::slice::message(p, f, g, half)
+    let pairs = (fold_size(rounds, round, next) / 2) as usize;
+    vector::slice::message(p, f, g, pairs)
 }
 
 // Writes as many places as the new fold is long; nothing where those of the current one are not there.
 pub fn fold(p: u32, c: u32, rounds: u32, round: u32, next: Next, v: &mut [u32])
     ensures { λ r. ⌜ now (v .exit) ≡ foldSlice p c (foldAt rounds round next / 2) (now (v .entry)) ⌝ }
 {
-    let half = half_of(rounds, round, next);
+    let half = (fold_size(rounds, round, next) / 2) as usize;
     vector::slice::fold(p, c, v, half)
 }

@@ -1,3 +1,4 @@
+mod Heard
 pub mod BlockLaws
 pub mod Invariant
 pub mod FileFacts

@@ -5,16 +5,10 @@ use lib.Dec.{eqb}
 use Rattle.algebra.specs.Mod.{mulMod}
 use Rattle.vector.specs.Vector.{at}
 use Rattle.vector.specs.Message.{Message, passes, nextClaim}
+pub use Rattle.claim.specs.Claim.{messageOf3}
 use Rattle.verifier.specs.declared.Verifier.{Verifier}
 use Rattle.verifier.specs.Reply as reply
 use Rattle.verifier.specs.Records.{Replied, Finding, yes, no}
-
-abbrev pub messageOf3 : ℕ → ℕ → ℕ → Message
-messageOf3 even cross odd = record { even = even; cross = cross; odd = odd }
-
--- "the claim becomes even + cross·c + odd·c²"
-abbrev pub nextOf : ℕ → ℕ → ℕ → ℕ → ℕ → ℕ
-nextOf p c even cross odd = nextClaim p (messageOf3 even cross odd) c
 
 -- "Its claim starts as the total"
 unfoldable pub closedWith : Verifier → ℕ → Verifier

@@ -1,6 +1,6 @@
 use borrow.Author.Needs.{needs}
-use Rattle.verifier.proofs.messages.next_claim.Statement.{statement}
-use Rattle.verifier.proofs.messages.next_claim.Tie as tie
+use Rattle.claim.proofs.next_claim.Statement.{statement}
+use Rattle.claim.proofs.next_claim.Tie as tie
 
 add-mul-requires : tie.Need-add-mul-requires
 add-mul-requires c κs = search needs

@@ -1,0 +1,46 @@
+// The equations of a verifier: a message against its claim, and the verdict.
+ghost use mathlib.Core.Path.{_≡_};
+ghost use Rattle.claim.specs.Claim.{messageOf3, nextOf, heardOf, foundOf};
+
+pub enum Heard {
+    // The message passed, and this is the next claim.
+    Passed(u32),
+    Failed,
+}
+
+pub enum Finding {
+    Yes,
+    No(u32),
+}
+
+// even + cross·c + odd·c²
+fn next_claim(p: u32, c: u32, even: u32, cross: u32, odd: u32) -> u32
+    ensures { λ r. ⌜ r ≡ nextOf p c even cross odd ⌝ }
+{
+    let linear = field::modular::add_mul(p, even, cross, c);
+    let square = field::modular::mul(p, c, c);
+    field::modular::add_mul(p, linear, odd, square)
+}
+
+// A message of the round whose challenge is c.
+pub fn hear(p: u32, claim: u32, c: u32, even: u32, cross: u32, odd: u32) -> Heard
+    ensures { λ r. ⌜ r ≡ heardOf p claim c (messageOf3 even cross odd) ⌝ }
+{
+    if field::modular::add(p, even, odd) != claim {
+        return Heard::Failed;
+    }
+    Heard::Passed(next_claim(p, c, even, cross, odd))
+}
+
+// The verdict after the last message, or after the one that failed in this round.
+pub fn find(p: u32, rounds: u32, failed: bool, round: u32, claim: u32, f: u32, g: u32) -> Finding
+    ensures { λ r. ⌜ r ≡ foundOf p rounds failed round claim f g ⌝ }
+{
+    if failed {
+        return Finding::No(round);
+    }
+    if claim == field::modular::mul(p, f, g) {
+        return Finding::Yes;
+    }
+    Finding::No(rounds)
+}
