@@ -20,7 +20,7 @@ use Rattle.phase.specs.declared.Next.{Next}
 use Rattle.phase.specs.declared.Next.the-variants as next
 use Rattle.phase.specs.declared.Kind.{Kind}
 use Rattle.phase.specs.declared.Kind.the-variants.{Shut, Asked, Change}
-use Rattle.phase.specs.Cases.{waits}
+use Rattle.phase.specs.Cases.{waits, isChange, isFull, isOpen}
 use Rattle.phase.specs.Level.{levelAt}
 use Rattle.phase.specs.Order.{roundFits}
 use Rattle.prover.specs.declared.Pass.{Pass}
@@ -30,8 +30,8 @@ use Rattle.item.specs.declared.Given.{Given}
 use Rattle.runs.specs.Trip.{Trip, vectorF, vectorG, totalOf}
 use Rattle.runs.specs.Passes.{passAfter, Gives}
 use Rattle.runs.proofs.PassTrip.{after-given, after-changing}
-use Rattle.calls.specs.State.{isChange, isFull, isOpen, State}
-use Rattle.calls.specs.Table.{waits, long}
+use Rattle.calls.specs.State.{State}
+use Rattle.calls.specs.Table.{long}
 use Rattle.calls.specs.Meaning.{messageAt, messagesTo, foldF, foldG}
 use Rattle.calls.specs.Statement.{known}
 use Rattle.calls.proofs.Records.{Notes, runOf}

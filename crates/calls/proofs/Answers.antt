@@ -11,13 +11,14 @@ use borrow.Author.Tests.{eqb-true}
 use Rattle.refusal.specs.Limit.{maxWeight}
 use Rattle.vector.specs.Vector.{at}
 use Rattle.kernel.proofs.KernelPass.{Taken, taken-first, taken-second}
+use Rattle.phase.proofs.Facts.{waits-for}
 use Rattle.phase.specs.declared.Mode.{Mode}
 use Rattle.phase.specs.declared.Mode.the-variants.{Small, Full}
 use Rattle.phase.specs.declared.Next.{Next}
 use Rattle.phase.specs.declared.Next.the-variants as next
 use Rattle.phase.specs.declared.Kind.{Kind}
 use Rattle.phase.specs.declared.Kind.the-variants.{Shut, Asked, Change}
-use Rattle.phase.specs.Cases.{waits}
+use Rattle.phase.specs.Cases.{waits, isChange, isFull, isOpen, isSmall}
 use Rattle.phase.proofs.Facts.{level-at-most}
 use Rattle.prover.specs.declared.Run.{Run}
 use Rattle.prover.specs.declared.Pass.{Pass}
@@ -39,8 +40,8 @@ use Rattle.runs.proofs.PassRecord.{takes-answer}
 use Rattle.calls.specs.declared.Call.{Call}
 use Rattle.calls.specs.declared.Call.the-variants as call
 use Rattle.calls.specs.Step.{Lent, Result, isAnswered, leaving, step}
-use Rattle.calls.specs.State.{isChange, isFull, isOpen, isSmall, State, fresh, withItem, takesChallenge, buffersIn, goesOn, closed, follow}
-use Rattle.calls.specs.Table.{Refusal, waits, passNext, openingsNext, passLevel, taken, table}
+use Rattle.calls.specs.State.{State, fresh, takesGiven, takesChallenge, buffersIn, goesOn, closed, follow}
+use Rattle.calls.specs.Table.{Refusal, passWaits, openingsNext, passLevel, taken, table}
 use Rattle.calls.specs.Meaning.{meant, closeAsks, foldF, foldG, messagesTo, AsLeft, challengeWrites, Kept}
 use Rattle.calls.specs.Statement.{Sized, HasStacks, Stacks, Holds, Right}
 use Rattle.calls.specs.World.{Made, World, freshWorld, came, onward}
@@ -51,7 +52,7 @@ use Rattle.calls.proofs.Records.{Notes, noNotes, noted, refusal-noted, 
 use Rattle.calls.proofs.Guards.{challengeDoes, totals}
 use Rattle.calls.proofs.Steps.{some-none, row-passed, closeStep, does, refusedResult, settled}
 use Rattle.calls.proofs.Fits.{Fits, few, kind-is}
-use Rattle.calls.proofs.Turns.{both, waits-for}
+use Rattle.calls.proofs.Turns.{both}
 use Rattle.calls.proofs.ItemRows.{Admitted, item-admitted}
 use Rattle.calls.proofs.Refusals.{refused-with, Inv, Faithful, goes, step-is, faithful-on, fresh-faithful, asked-level}
 use Rattle.calls.proofs.Agrees.{tripAt, Agrees, pass-taken, round-most}
@@ -74,7 +75,7 @@ module _ (p : ℕ) (large : maxWeight < p) (through : Bool) (its : List Given) (
   taken-noted b o e r = subst (λ x. Agrees p through its b (noted past x)) (sym e) r
 
   item-next : (x : Given) → Admitted p a x l → ItemKept p T through a x l
-      → (let o : Result = leaving l (takes p R S (contributes p (a .start) x) (l .f) (l .g)) in Agrees p through its (withItem a x (o .lent)) (noted past (o .answer)))
+      → (let o : Result = leaving l (takes p R S (contributes p (a .start) x) (l .f) (l .g)) in Agrees p through its (takesGiven a x (o .lent)) (noted past (o .answer)))
   item-next x q kept =
       let o : Result = leaving l (takes p R S (contributes p (a .start) x) (l .f) (l .g)) in
       let b = item-written-so p large through its a h g whole l x q (kept .0) in
@@ -127,7 +128,7 @@ module _ (p : ℕ) (large : maxWeight < p) (through : Bool) (its : List Given) (
   pub agrees-next : (c : Call) → table p a c l ≡ none → KeptBy p T through a c l → (let o : Result = does p R S c l in Agrees p through its (goesOn a c (o .lent)) (noted past (o .answer)))
   unfolding table openingGiven
   agrees-next call.OpenPass e kept =
-      opened-agrees p large through its a h g whole l 0 (both (isSmall (a .turn .mode)) _ (row-passed (passNext (a .turn .mode) (a .turn .next)) 10 none e .0) .0)
+      opened-agrees p large through its a h g whole l 0 (both (isSmall (a .turn .mode)) _ (row-passed (passWaits (a .turn .mode) (a .turn .next)) 10 none e .0) .0)
   agrees-next (call.OpenAt b) e kept =
       opened-agrees p large through its a h g whole l b (both (isSmall (a .turn .mode)) (openingsNext (a .turn .next) (a .start .rounds)) (row-passed (isSmall (a .turn .mode) && openingsNext (a .turn .next) (a .start .rounds)) 10 _ e .0) .0)
   agrees-next call.ToFull e kept = to-full-agrees p large through its a h g whole l e

@@ -18,6 +18,7 @@ use Rattle.item.specs.Item.{contributes, partsOf}
 use Rattle.block.specs.Block.{Block, count, itemAt, isWhole, tornNumber}
 use Rattle.block.specs.Checks.{isOfKind, passing, blockChecks}
 use Rattle.phase.specs.declared.Kind.{Kind}
+use Rattle.phase.specs.Cases.{isOpen}
 use Rattle.prover.specs.declared.Run.{Run}
 use Rattle.prover.specs.declared.Pass.{Pass}
 use Rattle.prover.specs.Records.{Out}
@@ -25,7 +26,7 @@ use Rattle.prover.specs.WellFormed.{wellFormed}
 use Rattle.prover.specs.Calls.{placesThere}
 use Rattle.prover.specs.Blocks.{takesAll, withBlock, itemsCall}
 use Rattle.calls.specs.Step.{Lent}
-use Rattle.calls.specs.State.{isOpen, State}
+use Rattle.calls.specs.State.{State}
 use Rattle.calls.specs.Table.{Refusal, decided, row, rowAt, givenRows, placeRow}
 use Rattle.calls.specs.Blocks.{itemRows, wholeRow, blockRows, blockTable}
 use Rattle.calls.proofs.Records.{Notes, runOf}

@@ -19,7 +19,7 @@ use Rattle.kernel.specs.Kernel.{fits, climberIn}
 use Rattle.kernel.specs.Change.{Placed, placedOf, placeAfter, putIn, placedAt, placed}
 use Rattle.phase.specs.declared.Next.the-variants as next
 use Rattle.phase.specs.Cases as cases
-use Rattle.phase.specs.Cases.{waits}
+use Rattle.phase.specs.Cases.{waits, isChange, isOpen}
 use Rattle.item.specs.declared.Item.{Item}
 use Rattle.item.specs.declared.Start.{Start}
 use Rattle.item.specs.declared.Given.{Given}
@@ -37,7 +37,7 @@ use Rattle.runs.proofs.PassRecord.{takes-run, takes-answer}
 use Rattle.calls.specs.declared.Call.the-variants as call
 use Rattle.calls.specs.Lists.{after, along}
 use Rattle.calls.specs.Step.{Lent, Result, isAnswered, leaving, step}
-use Rattle.calls.specs.State.{State, Turn, Taking, isOpen, isChange, inPass, withBuffers, buffersIn, withItem, follow}
+use Rattle.calls.specs.State.{State, Turn, Taking, inPass, withBuffers, buffersIn, takesGiven, follow}
 use Rattle.calls.specs.Table.{Refusal, levelNow, row, placeRow, table}
 use Rattle.calls.specs.World.{Made, World, came, onward}
 use Rattle.calls.specs.Statement.{Sized, Decides}
@@ -113,9 +113,9 @@ placeIn s t q m n =
     row (not (isChange (q .kind)) || (leb long m && leb long n)) 9 none
 
 -- one more item, and m of a block
-more-items : (a : State) (b : Block) (m : ℕ) (l k : Lent) → (m ≡ 0 → k ≡ l) → withItems (withItem a (itemAt b m) l) b m k ≡ withItems a b (suc m) k
+more-items : (a : State) (b : Block) (m : ℕ) (l k : Lent) → (m ≡ 0 → k ≡ l) → withItems (takesGiven a (itemAt b m) l) b m k ≡ withItems a b (suc m) k
 unfolding onto
-more-items a b zero l k h = ap (withItem a (itemAt b 0)) (sym (h refl))
+more-items a b zero l k h = ap (takesGiven a (itemAt b 0)) (sym (h refl))
 more-items a b (suc m) l k h = by (isChange (a .pass .kind)) refl
   where
     one : State
@@ -144,7 +144,7 @@ module _ (p : ℕ) (large : maxWeight < p) where
     left = record { f = gave .f; g = gave .g; file = l .file }
 
     abbrev onwardWith : World
-    onwardWith = record { state = withItem (w .state) x left; run = w .run; pass = gave .pass }
+    onwardWith = record { state = takesGiven (w .state) x left; run = w .run; pass = gave .pass }
 
     came-is : came p w gives ≡ leaving l gave
     came-is =
@@ -157,7 +157,7 @@ module _ (p : ℕ) (large : maxWeight < p) where
     moves : _≡_ {A = World × Lent} (onward p w gives, came p w gives .lent) (onwardWith, left)
     moves =
         ap (λ (o : Result). (let v : World = record { state = follow (w .state) (call.Give x) o; run = o .run; pass = o .pass } in (v, o .lent))) came-is
-        ∙ ap₂ (λ (c : Bool) (r : Run). (let v : World = record { state = cond c (withItem (w .state) x left) (w .state); run = r; pass = gave .pass } in (v, left)))
+        ∙ ap₂ (λ (c : Bool) (r : Run). (let v : World = record { state = cond c (takesGiven (w .state) x left) (w .state); run = r; pass = gave .pass } in (v, left)))
         (ap isAnswered (takes-answer p (w .run) (w .pass) (contributes p (w .run .start) x) (l .f) (l .g)))
         (takes-run p (w .run) (w .pass) (contributes p (w .run .start) x) (l .f) (l .g))
 
@@ -191,13 +191,13 @@ module _ (p : ℕ) (large : maxWeight < p) where
         let less : length (a .pass .items) < a .start .items = omega (arith, h .wanted) in
         row-free _ 10 _ (h .opened) (row-free _ 8 _ (lt-ltb _ _ less) (h .each m (omega arith) _ _ ∙ place))
 
-    still-admits : (a : State) (m : ℕ) (l : Lent) → AdmitsHere a (suc m) → AdmitsHere (withItem a (itemAt b m) l) m
+    still-admits : (a : State) (m : ℕ) (l : Lent) → AdmitsHere a (suc m) → AdmitsHere (takesGiven a (itemAt b m) l) m
     still-admits a m l h =
         in-buffers (λ s t q. Admits p s (q .kind) (length (q .items)) b m) (isChange (a .pass .kind))
         (inPass a (a .pass .kind) (a .pass .point) (itemAt b m ∷ a .pass .items)) l
         (record { opened = h .opened; wanted = omega (arith, h .wanted); each = λ j u. h .each j (omega arith) })
 
-    still-place : (a : State) (x : Given) (l k : Lent) → length (k .f) ≡ length (l .f) → length (k .g) ≡ length (l .g) → placeRow a l ≡ none → placeRow (withItem a x k) k ≡ none
+    still-place : (a : State) (x : Given) (l k : Lent) → length (k .f) ≡ length (l .f) → length (k .g) ≡ length (l .g) → placeRow a l ≡ none → placeRow (takesGiven a x k) k ≡ none
     still-place a x l k ef eg place =
         in-buffers (λ s t q. placeIn s t q (length (k .f)) (length (k .g)) ≡ none) (isChange (a .pass .kind)) (inPass a (a .pass .kind) (a .pass .point) (x ∷ a .pass .items)) k
         (ap₂ (λ m n. placeIn (a .start) (a .turn) (a .pass) m n) ef eg ∙ place)
@@ -262,7 +262,7 @@ module _ (p : ℕ) (large : maxWeight < p) where
         let here = item-rows a (itemAt b m) l (was-free w i (itemAt b m) (z m (omega arith)) l (e .0)) in
         let there = let-through m (onward p w (single p b m l)) (faithful-on p large w i (single p b m l) (z m (omega arith))) (λ j u. z j (omega arith)) k (e .1) in
         let next = out-of-buffers (Let m) (isChange (a .pass .kind)) (inPass a (a .pass .kind) (a .pass .point) (itemAt b m ∷ a .pass .items)) k
-        (subst (λ c. Held (Let m) (cond c (withItem a (itemAt b m) k) a)) (e .0) there) in
+        (subst (λ c. Held (Let m) (cond c (takesGiven a (itemAt b m) k) a)) (e .0) there) in
         (omega (arith, next .0), λ j u. ⊎-elim (λ (q : j ≡ m). rw q (here .1)) (λ (q : j < m). next .1 j q) (eq-or-lt-of-le (at-most j m u)))
       where
         at-most : (j m : ℕ) → j < suc m → j ≤ m

@@ -14,15 +14,15 @@ use Rattle.refusal.specs.Limit.{maxWeight}
 use Rattle.wire.specs.Proof.{proofSize}
 use Rattle.vector.specs.Slice.{isNonzero}
 use Rattle.phase.specs.declared.Next.the-variants as next
+use Rattle.phase.specs.Cases.{waits}
 use Rattle.verifier.specs.declared.Verifier.{Verifier}
 use Rattle.verifier.specs.Starts.{verifierOf}
-use Rattle.runs.specs.Trip.{Trip, itemOf}
+use Rattle.runs.specs.Trip.{Trip, tripItem}
 use Rattle.calls.specs.declared.Call.the-variants as call
-use Rattle.calls.specs.Lists.{after, along, always, somewhere, gathered}
+use Rattle.calls.specs.Lists.{after, along, always, somewhere, collected}
 use Rattle.calls.specs.Step.{Lent, Result, isAnswered}
 use Rattle.calls.specs.State.{State, goesOn}
 use Rattle.calls.specs.World.{Made, World, freshWorld, came, onward}
-use Rattle.calls.specs.Table.{waits}
 use Rattle.calls.specs.Meaning.{Question, total, roundMessage, ends, openingAt, proof, done, question, Answer, meant, proofOfTrip, Kept}
 use Rattle.calls.specs.Statement.{Sized}
 use Rattle.calls.specs.QueryState.{VerifierState, freshVerifierState, Posed, Hearing, freshHearing}
@@ -99,7 +99,7 @@ module _ (p : ℕ) (large : maxWeight < p) (prime : Prime p) (odd : p % 2 ≡ 1)
 
     all-agreed : (w : World) {past : Notes} → G w past → (ms : List Made) → AllSized p w ms → AllKept p through T w ms → AllTake p cs w ms → Within w ms
         → (b : VerifierState) (v : Verifier) → F b v → Beside (w .state) b → Agrees b v (carriedOver p T w ms what)
-    unfolding along always gathered somewhere
+    unfolding along always collected somewhere
     all-agreed w g [] z kept takes within b v f beside = tt
     all-agreed w g (m ∷ ms) z kept takes within b v f beside =
         one-call w g (takes .0) m (z .0) (kept .0) (λ y. within _ _ (inl ((y, refl), refl))) b v f beside _
@@ -211,7 +211,7 @@ module _ (p : ℕ) (large : maxWeight < p) (prime : Prime p) (odd : p % 2 ≡ 1)
         → Told (itemsOf (T .items) ++ qs)
     items-first qs on =
         agrees-along p T w₀ ms₀ (freshHearing (T .start) cs) (itemsOf (T .items) ++ qs)
-        (items-agreed p large prime odd word T valid cs listed w₀ ms₀ (T .items) 0 (zero-add (length (T .items)) ∙ valid .whole .items) (λ j. ap (itemOf T) (sym (zero-add j)))
+        (items-agreed p large prime odd word T valid cs listed w₀ ms₀ (T .items) 0 (zero-add (length (T .items)) ∙ valid .whole .items) (λ j. ap (tripItem T) (sym (zero-add j)))
         (freshVerifierState (T .start) cs) (verifierOf (T .start) cs) (fresh-follows p large prime odd word T (valid .whole) cs listed) refl refl qs on)
 
     pub messages-agreed : Told (byMessages p T fresh ms)

@@ -30,7 +30,7 @@ use Rattle.verifier.specs.declared.Verifier.{Verifier}
 use Rattle.item.specs.declared.Start.{Start}
 use Rattle.item.specs.declared.Given.{Given}
 use Rattle.item.specs.declared.Given.the-variants.{Reading, Numbers}
-use Rattle.runs.specs.Trip.{Trip, itemOf, vectorF, vectorG, totalOf}
+use Rattle.runs.specs.Trip.{Trip, tripItem, vectorF, vectorG, totalOf}
 use Rattle.runs.proofs.CloseLaws.{residue-below}
 use Rattle.calls.specs.declared.query.Query.{Query}
 use Rattle.calls.specs.declared.query.Query.the-variants as query
@@ -39,7 +39,7 @@ use Rattle.calls.specs.World.{Made, World}
 use Rattle.calls.specs.Meaning.{total, roundMessage, says, messageAt, proofOfTrip}
 use Rattle.calls.specs.QueryStep.{Shown, Said, Spoken, ask}
 use Rattle.calls.specs.Lists.{along}
-use Rattle.calls.specs.QueryState.{VerifierState, hears, followHeard, closeRows, isWhole, fileRows, verifierTable, Posed, plainly, Hearing, heard, hearsOn}
+use Rattle.calls.specs.QueryState.{VerifierState, goesOnHeard, followHeard, closeRows, hasAll, fileRows, verifierTable, Posed, plainly, Hearing, heard, hearsOn}
 use Rattle.calls.specs.Given.{Gave, Wrote, BringsRun, agreed}
 use Rattle.calls.specs.Proper.{ItemFits, Valid}
 use Rattle.calls.specs.Carried.{itemsOf, claims}
@@ -79,7 +79,7 @@ below : (p : ℕ) {x y : ℕ} → x ≡ y → y < p → x < p
 below p e h = subst (λ z. z < p) (sym e) h
 
 -- THE ROWS
-pass-free : (b : VerifierState) (kind : Bool) (rest : Option Refusal) → b .closed ≡ false → isWhole b ≡ true → kind ≡ true → rest ≡ none → closeRows b kind rest ≡ none
+pass-free : (b : VerifierState) (kind : Bool) (rest : Option Refusal) → b .closed ≡ false → hasAll b ≡ true → kind ≡ true → rest ≡ none → closeRows b kind rest ≡ none
 pass-free b kind rest unclosed c k r = row-free _ 10 _ (ap not unclosed) (row-free _ 8 _ c (row-free kind 10 rest k r))
 
 given-free : (p : ℕ) (s : Start) (i : ℕ) (x : Given) → ItemFits p (s .plain) x → givenRows p s i x none ≡ none
@@ -92,11 +92,11 @@ module _ (p : ℕ) (b : VerifierState) (l : Shown) where
   unfolding verifierTable
   item-free x unclosed more fits = row-free _ 10 _ (ap not unclosed) (row-free _ 8 _ (lt-ltb _ _ more) (given-free p (b .start) _ x fits))
 
-  close-free : (t : ℤ) → b .closed ≡ false → isWhole b ≡ true → b .start .plain ≡ true → inLimits p t ≡ true → verifierTable p b (query.Close t) l ≡ none
+  close-free : (t : ℤ) → b .closed ≡ false → hasAll b ≡ true → b .start .plain ≡ true → inLimits p t ≡ true → verifierTable p b (query.Close t) l ≡ none
   unfolding verifierTable
   close-free t unclosed whole plain fits = pass-free b _ _ unclosed whole plain (row-free _ 7 none fits refl)
 
-  claim-free : (c : ℕ) → b .closed ≡ false → isWhole b ≡ true → b .start .plain ≡ false → c < p → verifierTable p b (query.CloseClaim c) l ≡ none
+  claim-free : (c : ℕ) → b .closed ≡ false → hasAll b ≡ true → b .start .plain ≡ false → c < p → verifierTable p b (query.CloseClaim c) l ≡ none
   unfolding verifierTable
   claim-free c unclosed whole twisted fits = pass-free b _ _ unclosed whole (ap not twisted) (row-free _ 11 none (lt-ltb c p fits) refl)
 
@@ -111,7 +111,7 @@ module _ (p : ℕ) (b : VerifierState) (l : Shown) where
   unfolding verifierTable
   verdict-free closed going last = row-free _ 12 none (ap₂ _&&_ closed (ap₂ _||_ going (eq-eqb _ _ last))) refl
 
-  proof-free : b .closed ≡ false → isWhole b ≡ true → b .start .plain ≡ true → fileRows p (b .start .rounds) (l .file) ≡ none → verifierTable p b query.Proof l ≡ none
+  proof-free : b .closed ≡ false → hasAll b ≡ true → b .start .plain ≡ true → fileRows p (b .start .rounds) (l .file) ≡ none → verifierTable p b query.Proof l ≡ none
   unfolding verifierTable
   proof-free unclosed whole plain rows = pass-free b _ _ unclosed whole plain rows
 
@@ -140,7 +140,7 @@ module _ (p : ℕ) (large : maxWeight < p) (prime : Prime p) (odd : p % 2 ≡ 1)
 
   -- an answered call
   one-agreed : (b : VerifierState) (v : Verifier) → F b v → (q : Query) (l : Shown) → verifierTable p b q l ≡ none → BringsTrip p T b q l → BringsRun p T w ms b q l
-      → ((t : Said) → SaysTrip p T b q l t → t ≡ agreed q) → (qs : List Posed) → ((v : Verifier) → F (hears b q (agreed q)) v → Agrees (hears b q (agreed q)) v qs)
+      → ((t : Said) → SaysTrip p T b q l t → t ≡ agreed q) → (qs : List Posed) → ((v : Verifier) → F (goesOnHeard b q (agreed q)) v → Agrees (goesOnHeard b q (agreed q)) v qs)
       → Agrees b v (record { query = q; shown = l } ∷ qs)
   unfolding along
   one-agreed b v f q l free brought given so qs on =
@@ -151,8 +151,8 @@ module _ (p : ℕ) (large : maxWeight < p) (prime : Prime p) (odd : p % 2 ≡ 1)
         (told, given),
         subst (λ t. Agrees (followHeard b q t) (ask p v q l .verifier) qs) (sym told)
             (on _
-            (subst (λ (o : Spoken). F (hears b q (agreed q)) (o .verifier)) (sym same)
-            (subst (λ t. F (hears b q t) (goesTo p v q l)) said (right .1)))),
+            (subst (λ (o : Spoken). F (goesOnHeard b q (agreed q)) (o .verifier)) (sym same)
+            (subst (λ t. F (goesOnHeard b q t) (goesTo p v q l)) said (right .1)))),
       )
 
   module _ (b : VerifierState) (v : Verifier) (f : F b v) where
@@ -162,11 +162,11 @@ module _ (p : ℕ) (large : maxWeight < p) (prime : Prime p) (odd : p % 2 ≡ 1)
     rounds-so : b .start .rounds ≡ n
     rounds-so = ap (λ s. s .rounds) (f .start)
 
-    whole-so : length (b .items) ≡ L → isWhole b ≡ true
+    whole-so : length (b .items) ≡ L → hasAll b ≡ true
     whole-so e = eq-eqb _ _ (e ∙ ap (λ s. s .items) (sym (f .start)))
 
     -- AN ITEM
-    item-agreed : (x : Given) → x ≡ itemOf T (length (b .items)) → ItemFits p (T .start .plain) x → b .closed ≡ false → length (b .items) < L → (qs : List Posed)
+    item-agreed : (x : Given) → x ≡ tripItem T (length (b .items)) → ItemFits p (T .start .plain) x → b .closed ≡ false → length (b .items) < L → (qs : List Posed)
         → ((b′ : VerifierState) (v : Verifier) → F b′ v → b′ .closed ≡ false → length (b′ .items) ≡ suc (length (b .items)) → Agrees b′ v qs)
         → Agrees b v (plainly (query.Give x) ∷ qs)
     item-agreed x e fits unclosed more qs on =
@@ -232,12 +232,12 @@ module _ (p : ℕ) (large : maxWeight < p) (prime : Prime p) (odd : p % 2 ≡ 1)
         (λ v g. on _ v g)
 
   -- THE ITEMS, first to last
-  pub items-agreed : (xs : List Given) (k : ℕ) → k + length xs ≡ L → ((j : ℕ) → getD xs j (Numbers 0 0) ≡ itemOf T (k + j)) → (b : VerifierState) (v : Verifier) → F b v
+  pub items-agreed : (xs : List Given) (k : ℕ) → k + length xs ≡ L → ((j : ℕ) → getD xs j (Numbers 0 0) ≡ tripItem T (k + j)) → (b : VerifierState) (v : Verifier) → F b v
       → b .closed ≡ false → length (b .items) ≡ k → (qs : List Posed) → ((b : VerifierState) (v : Verifier) → F b v → b .closed ≡ false → length (b .items) ≡ L → Agrees b v qs)
       → Agrees b v (itemsOf xs ++ qs)
   items-agreed [] k all same b v f unclosed count qs on = on b v f unclosed (omega (arith, count, all))
   items-agreed (x ∷ xs) k all same b v f unclosed count qs on =
       let less : k < L = omega arith in
-      let here : x ≡ itemOf T k = same 0 ∙ ap (itemOf T) (add-zero k) in
-      item-agreed b v f x (here ∙ ap (itemOf T) (sym count)) (subst (ItemFits p (T .start .plain)) (sym here) (valid .items k less)) unclosed (omega (arith, count)) (itemsOf xs ++ qs)
-      (λ c v g still count′. items-agreed xs (suc k) (omega arith) (λ j. same (suc j) ∙ ap (itemOf T) (add-suc k j ∙ sym (suc-add k j))) c v g still (count′ ∙ ap suc count) qs on)
+      let here : x ≡ tripItem T k = same 0 ∙ ap (tripItem T) (add-zero k) in
+      item-agreed b v f x (here ∙ ap (tripItem T) (sym count)) (subst (ItemFits p (T .start .plain)) (sym here) (valid .items k less)) unclosed (omega (arith, count)) (itemsOf xs ++ qs)
+      (λ c v g still count′. items-agreed xs (suc k) (omega arith) (λ j. same (suc j) ∙ ap (tripItem T) (add-suc k j ∙ sym (suc-add k j))) c v g still (count′ ∙ ap suc count) qs on)

@@ -8,20 +8,22 @@ use native.Mathlib.Omega.{arith}
 use lib.Dec.{ltb}
 use lib.ListN.{length, length-append}
 use borrow.Author.Tests.{eqb-true, ltb-true}
+use Rattle.phase.proofs.Facts.{waits-for}
 use Rattle.phase.specs.declared.Next.{Next}
 use Rattle.phase.specs.declared.Next.the-variants as next
 use Rattle.phase.specs.declared.Kind.{Kind}
 use Rattle.phase.specs.declared.Kind.the-variants.{Shut, Asked, Change}
-use Rattle.phase.specs.Order.{roundFits}
+use Rattle.phase.specs.Cases.{isChange, isFull, waits}
+use Rattle.phase.specs.Order.{roundFits, roundOrEnds}
 use Rattle.calls.specs.declared.Call.{Call}
 use Rattle.calls.specs.declared.Call.the-variants as call
 use Rattle.calls.specs.Step.{Lent, Result, isAnswered}
-use Rattle.calls.specs.State.{State, takesChallenge, roundOrEnds, goesOn, closed, follow, isChange, isFull}
-use Rattle.calls.specs.Table.{waits, readRows, table}
+use Rattle.calls.specs.State.{State, takesChallenge, goesOn, closed, follow}
+use Rattle.calls.specs.Table.{readRows, table}
 use Rattle.calls.specs.Meaning.{Question, total, roundMessage, ends, openingAt, proof, done, closeAsks, question}
 use Rattle.calls.specs.Carried.{claims}
 use Rattle.calls.proofs.Steps.{row-passed}
-use Rattle.calls.proofs.Turns.{both, waits-for}
+use Rattle.calls.proofs.Turns.{both}
 use Rattle.calls.proofs.LiveWorld.{buffers-same}
 
 -- 0 before the total, then one more than the messages given

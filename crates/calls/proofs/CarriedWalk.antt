@@ -11,11 +11,13 @@ use Rattle.phase.specs.declared.Next.{Next}
 use Rattle.phase.specs.declared.Next.the-variants as next
 use Rattle.phase.specs.declared.Kind.{Kind}
 use Rattle.phase.specs.declared.Kind.the-variants.{Shut, Asked, Change}
-use Rattle.runs.specs.Trip.{Trip, itemOf}
+use Rattle.phase.specs.Order.{roundOrEnds}
+use Rattle.phase.specs.Cases.{isChange, isFull}
+use Rattle.runs.specs.Trip.{Trip, tripItem}
 use Rattle.calls.specs.declared.Call.{Call}
 use Rattle.calls.specs.declared.Call.the-variants as call
 use Rattle.calls.specs.Step.{Lent, Result, isAnswered}
-use Rattle.calls.specs.State.{State, roundOrEnds, takesChallenge, goesOn, closed, follow, isChange, isFull}
+use Rattle.calls.specs.State.{State, takesChallenge, goesOn, closed, follow}
 use Rattle.calls.specs.Meaning.{Question, total, roundMessage, ends, openingAt, proof, done, closeAsks, question}
 use Rattle.calls.specs.Proper.{itemsBelow, wholePass, answerBy, changeBefore, roundsFrom, openingsAt, endCalls, openingCalls, wholeRun}
 use Rattle.calls.proofs.LiveWorld.{buffers-same}
@@ -154,7 +156,7 @@ module _ (T : Trip) where
   pass-on : (m : ℕ) (w : Place) (cs : List Call) (qs : List Question) (v : Place) → Leads w cs qs v → Leads w (itemsBelow T m ++ cs) qs v
   unfolding itemsBelow
   pass-on zero w cs qs v h = h
-  pass-on (suc m) w cs qs v h = first w (call.Give (itemOf T m)) (itemsBelow T m ++ cs) qs v (pass-on m w cs qs v h)
+  pass-on (suc m) w cs qs v h = first w (call.Give (tripItem T m)) (itemsBelow T m ++ cs) qs v (pass-on m w cs qs v h)
 
   closing : (t : Next) (i : ℕ) (opening : Call) (w v : Place) (qs : List Question) → leads n (between t i) opening ≡ ([], w) → leads n w call.Close ≡ (qs, v)
       → Leads (between t i) (wholePass T opening) qs v

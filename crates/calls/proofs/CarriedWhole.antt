@@ -12,7 +12,7 @@ use Rattle.prover.specs.Reply as reply
 use Rattle.runs.specs.Trip.{Trip}
 use Rattle.calls.specs.declared.Call.{Call}
 use Rattle.calls.specs.declared.query.Query.the-variants as query
-use Rattle.calls.specs.Lists.{along, always, each, gathered}
+use Rattle.calls.specs.Lists.{along, always, each, collected}
 use Rattle.calls.specs.Step.{Lent, Result}
 use Rattle.calls.specs.State.{State, follow}
 use Rattle.calls.specs.World.{Made, World, freshWorld, came}
@@ -21,7 +21,7 @@ use Rattle.calls.specs.QueryState.{Posed, plainly}
 use Rattle.calls.specs.Given.{replyOf}
 use Rattle.calls.specs.Proper.{Valid, Host, makes, hostOn, wholeRun, Brings, properRun}
 use Rattle.calls.specs.Carried.{itemsOf, claims, claimsIn, checks, carriedOver, byMessages, byFile}
-use Rattle.calls.specs.WholeList.{closing, bringsMessage, messagesFrom, checkAt, allChecks, wholeByMessages, wholeByFile}
+use Rattle.calls.specs.WholeList.{bringsTotal, bringsMessage, messagesFrom, checkAt, allChecks, wholeByMessages, wholeByFile}
 use Rattle.calls.specs.Demand3.{AllAnswered, AllSized, AllKept, AllTake}
 use Rattle.calls.proofs.Records.{Notes}
 use Rattle.calls.proofs.Answers.{Going, goes-on, fresh-going}
@@ -49,7 +49,7 @@ module _ (p : ℕ) (T : Trip) (cs : List ℕ) where
 
   -- BY MESSAGES
   abbrev byMessage : Question → List Posed
-  byMessage total = plainly (closing p T) ∷ []
+  byMessage total = plainly (bringsTotal p T) ∷ []
   byMessage (roundMessage i) = plainly (bringsMessage (messageAt p T cs i)) ∷ []
   byMessage ends = plainly query.Verdict ∷ []
   byMessage (openingAt b) = checkAt p T cs b ∷ []
@@ -100,11 +100,11 @@ module _ (p : ℕ) (T : Trip) (cs : List ℕ) where
         ∙ ap (λ xs. xs ++ carriedAs form rest) (carried-append form (total ∷ roundsAsked 0 m) (ends ∷ []))
 
     messages-whole : carriedAs byMessage (((total ∷ roundsAsked 0 m) ++ (ends ∷ [])) ++ rest)
-        ≡ (plainly (closing p T) ∷ messagesFrom p T cs 0 m) ++ (plainly query.Verdict ∷ allChecks p T cs bs)
+        ≡ (plainly (bringsTotal p T) ∷ messagesFrom p T cs 0 m) ++ (plainly query.Verdict ∷ allChecks p T cs bs)
     messages-whole =
         split byMessage
-        ∙ ap₂ (λ xs ys. ((plainly (closing p T) ∷ xs) ++ (plainly query.Verdict ∷ [])) ++ ys) (messages-so m 0) (openings-so byMessage (λ b. refl) bs)
-        ∙ append-assoc (plainly (closing p T) ∷ messagesFrom p T cs 0 m) (plainly query.Verdict ∷ []) (allChecks p T cs bs)
+        ∙ ap₂ (λ xs ys. ((plainly (bringsTotal p T) ∷ xs) ++ (plainly query.Verdict ∷ [])) ++ ys) (messages-so m 0) (openings-so byMessage (λ b. refl) bs)
+        ∙ append-assoc (plainly (bringsTotal p T) ∷ messagesFrom p T cs 0 m) (plainly query.Verdict ∷ []) (allChecks p T cs bs)
 
     checks-whole : carriedAs byCheck (((total ∷ roundsAsked 0 m) ++ (ends ∷ [])) ++ rest) ≡ allChecks p T cs bs
     checks-whole = split byCheck ∙ ap₂ (λ xs ys. (xs ++ []) ++ ys) (no-messages m 0) (openings-so byCheck (λ b. refl) bs)
@@ -122,7 +122,7 @@ module _ (p : ℕ) (large : maxWeight < p) (through : Bool) (T : Trip) (whole : 
         → (let ms : List Made = each (hostOn p T) (makes p T) w calls in
         AllAnswered p (w .world) ms → AllSized p (w .world) ms → AllKept p through T (w .world) ms → AllTake p cs (w .world) ms
         → carriedOver p T (w .world) ms what ≡ carriedAs form (askedBy (T .start .rounds) (placeOf (w .world .state)) calls))
-    unfolding each along always gathered carriedAs askedBy hit-here
+    unfolding each along always collected carriedAs askedBy hit-here
     gathered-so [] w g y z kept takes = refl
     gathered-so (c ∷ calls) w g y z kept takes =
         let a : State = w .world .state in

@@ -17,7 +17,7 @@ use Rattle.prover.specs.Close.{closeCall, leavesStep}
 use Rattle.prover.specs.Full.{messageCall, endsCall}
 use Rattle.prover.specs.Challenge.{challengeCall}
 use Rattle.prover.specs.Opening.{openingCall}
-use Rattle.prover.specs.Written.{writeCall, writtenStep, proofOf}
+use Rattle.prover.specs.Written.{writeCall, writtenStep, runProof}
 use Rattle.calls.specs.declared.Call.{Call}
 use Rattle.calls.specs.declared.Call.the-variants as call
 use Rattle.calls.specs.Step.{keeping, leaving, step}
@@ -75,6 +75,6 @@ module _ (p : ℕ) (r : Run) (s : Pass) (f g file : List ℕ) where
   unfolding step
   made-opening o c b e h = at-call o f g file c (call.Opening b) e (ap (leaving (lending f g file)) h)
 
-  pub made-write-proof : (o : Step) (file′ : List ℕ) (c : Call) → c ≡ call.WriteProof → out o [] [] ≡ out (writtenStep r s (writeCall p r s file)) [] [] → file′ ≡ writtenIn (writeCall p r s file) (proofOf r) file → result o f g file′ ≡ step p r s c (lending f g file)
+  pub made-write-proof : (o : Step) (file′ : List ℕ) (c : Call) → c ≡ call.WriteProof → out o [] [] ≡ out (writtenStep r s (writeCall p r s file)) [] [] → file′ ≡ writtenIn (writeCall p r s file) (runProof r) file → result o f g file′ ≡ step p r s c (lending f g file)
   unfolding step
   made-write-proof o file′ c e h h′ = at-call o f g file′ c call.WriteProof e (ap (keeping (lending f g file′)) h ∙ ap (result (writtenStep r s (writeCall p r s file)) f g) h′)

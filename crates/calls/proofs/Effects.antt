@@ -25,7 +25,7 @@ use Rattle.prover.specs.Challenge.{challengeTurn, challengedFull}
 use Rattle.prover.proofs.FullLaws as full
 use Rattle.item.specs.declared.Given.{Given}
 use Rattle.item.specs.Item.{contributes}
-use Rattle.runs.specs.Trip.{Trip, itemOf, entersAs, vectorF, vectorG}
+use Rattle.runs.specs.Trip.{Trip, tripItem, entersAs, vectorF, vectorG}
 use Rattle.runs.specs.Passes.{passAfter, Gives}
 use Rattle.runs.specs.Buffers.{Written}
 use Rattle.runs.proofs.RunFacts.{change-level}
@@ -68,7 +68,7 @@ module _ (p : ℕ) (its : List Given) (a : State) {past : Notes} (h : Fits p a p
 
   -- AN ITEM OF A CHANGE
   module _ (gives : Gives T (a .pass .items)) (more : length (a .pass .items) < a .start .items) (change : a .pass .kind ≡ Change) (later : waits next.Total (a .turn .next) ≡ false)
-      (x : Given) (next-item : x ≡ itemOf T (a .start .items - 1 - length (a .pass .items))) (fs gs : List ℕ) (lf : long a ≤ length fs) (lg : long a ≤ length gs) where
+      (x : Given) (next-item : x ≡ tripItem T (a .start .items - 1 - length (a .pass .items))) (fs gs : List ℕ) (lf : long a ≤ length fs) (lg : long a ≤ length gs) where
     abbrev S : Pass
     S = passAfter p R Change (a .pass .point) (a .pass .items)
 
@@ -88,12 +88,12 @@ module _ (p : ℕ) (its : List Given) (a : State) {past : Notes} (h : Fits p a p
     first =
         after-entering p R Change (a .pass .point) (a .pass .items) x
         ∙ ap (λ y. entersAs p (a .start) (a .start .items - 1 - length (a .pass .items)) (contributes p (a .start) y .f)) next-item
-        ∙ sym (ap (vectorF p T) index ∙ ap (λ b. cond b (entersAs p (a .start) (a .start .items - 1 - length (a .pass .items)) (contributes p (a .start) (itemOf T (a .start .items - 1 - length (a .pass .items))) .f)) 0) inside)
+        ∙ sym (ap (vectorF p T) index ∙ ap (λ b. cond b (entersAs p (a .start) (a .start .items - 1 - length (a .pass .items)) (contributes p (a .start) (tripItem T (a .start .items - 1 - length (a .pass .items))) .f)) 0) inside)
 
     second : contributes p (a .start) x .g ≡ vectorG p T (2 ^ n - 1 - t)
     second =
         ap (λ y. contributes p (a .start) y .g) next-item
-        ∙ sym (ap (vectorG p T) index ∙ ap (λ b. cond b (contributes p (a .start) (itemOf T (a .start .items - 1 - length (a .pass .items))) .g) 0) inside)
+        ∙ sym (ap (vectorG p T) index ∙ ap (λ b. cond b (contributes p (a .start) (tripItem T (a .start .items - 1 - length (a .pass .items))) .g) 0) inside)
 
     count : 2 ^ n - a .start .items + S .taken ≡ t
     count = ap (λ k. 2 ^ n - a .start .items + k) (after-taken p R Change (a .pass .point) (a .pass .items))

@@ -7,18 +7,19 @@ use lib.Dec.{eqb, leb}
 use lib.IntN.{ℤ, pos, negsuc}
 use lib.ListN.{length}
 use borrow.Author.Tests.{eqb-true, leb-true}
+use Rattle.phase.specs.Cases.{isFull}
 use Rattle.vector.specs.Vector.{Vector, at}
 use Rattle.vector.specs.Slice.{every}
 use Rattle.vector.proofs.Every.{every-at}
 use Rattle.prover.proofs.Facts.{holds}
 use Rattle.item.specs.declared.Given.{Given}
 use Rattle.item.specs.declared.Given.the-variants.{Reading, Numbers}
-use Rattle.runs.specs.Trip.{Trip, itemOf, vectorF, vectorG}
+use Rattle.runs.specs.Trip.{Trip, tripItem, vectorF, vectorG}
 use Rattle.calls.specs.declared.Call.{Call}
 use Rattle.calls.specs.declared.Call.the-variants as call
 use Rattle.calls.specs.Lists.{along, each}
 use Rattle.calls.specs.Step.{Lent, isAnswered}
-use Rattle.calls.specs.State.{isFull, State}
+use Rattle.calls.specs.State.{State}
 use Rattle.calls.specs.World.{Made, World, came, onward}
 use Rattle.calls.specs.Table.{long}
 use Rattle.calls.specs.Meaning.{bindsItem, AsLeft}
@@ -48,7 +49,7 @@ module _ (p : ℕ) (through : Bool) (T : Trip) where
 
   abbrev pub itemTest : State → Given → Lent → Bool
   itemTest a x l =
-      cond (sameItem x (itemOf T (T .start .items - 1 - length (a .pass .items)))) (cond (bindsItem through a) (leftTest a l) true) false
+      cond (sameItem x (tripItem T (T .start .items - 1 - length (a .pass .items)))) (cond (bindsItem through a) (leftTest a l) true) false
 
   abbrev pub keptTest : State → Call → Lent → Bool
   keptTest a call.OpenPass l = true
@@ -116,8 +117,8 @@ module _ (p : ℕ) (through : Bool) (T : Trip) where
 
   item : (a : State) (x : Given) (l : Lent) → itemTest p through T a x l ≡ true → ItemKept p T through a x l
   item a x l e =
-      let h = holds (sameItem x (itemOf T (T .start .items - 1 - length (a .pass .items)))) (cond (bindsItem through a) (leftTest p through T a l) true) e in
-      (same-item x (itemOf T (T .start .items - 1 - length (a .pass .items))) (h .0), λ b. left a l (implied (bindsItem through a) (leftTest p through T a l) (h .1) b))
+      let h = holds (sameItem x (tripItem T (T .start .items - 1 - length (a .pass .items)))) (cond (bindsItem through a) (leftTest p through T a l) true) e in
+      (same-item x (tripItem T (T .start .items - 1 - length (a .pass .items))) (h .0), λ b. left a l (implied (bindsItem through a) (leftTest p through T a l) (h .1) b))
 
   kept : (a : State) (c : Call) (l : Lent) → keptTest p through T a c l ≡ true → KeptBy p T through a c l
   kept a call.OpenPass l e = tt

@@ -21,13 +21,14 @@ use Rattle.vector.specs.Message.{Message}
 use Rattle.vector.specs.Slice.{allReduced, messageSlice}
 use Rattle.vector.proofs.Rounds.{rounds-enough, size-last}
 use Rattle.vector.proofs.Every.{all-reduced-iff}
+use Rattle.phase.proofs.Facts.{waits-for}
 use Rattle.phase.specs.declared.Mode.{Mode}
 use Rattle.phase.specs.declared.Mode.the-variants.{Small, Full}
 use Rattle.phase.specs.declared.Next.{Next}
 use Rattle.phase.specs.declared.Next.the-variants as next
 use Rattle.phase.specs.declared.Kind.{Kind}
 use Rattle.phase.specs.declared.Kind.the-variants.{Shut, Asked, Change}
-use Rattle.phase.specs.Cases.{waits}
+use Rattle.phase.specs.Cases.{waits, isChange, isFull, isOpen}
 use Rattle.phase.specs.Level.{levelAt}
 use Rattle.phase.specs.Order.{roundOrEnds, roundFits, kindFits}
 use Rattle.prover.specs.declared.Run.{Run}
@@ -52,14 +53,14 @@ use Rattle.runs.proofs.PassTotal.{after-total}
 use Rattle.runs.proofs.PassRecord.{takes-run, after-item}
 use Rattle.calls.specs.declared.Call.the-variants as call
 use Rattle.calls.specs.Step.{Lent, Result, leaving}
-use Rattle.calls.specs.State.{isChange, isFull, isOpen, State, inPass, goesTo, withBuffers, takesChallenge, buffersIn, goesOn, closed}
-use Rattle.calls.specs.Table.{waits, levelNow, long, bothLong, totalFits, table}
+use Rattle.calls.specs.State.{State, inPass, goesTo, withBuffers, takesChallenge, buffersIn, goesOn, closed}
+use Rattle.calls.specs.Table.{levelNow, long, bothLong, totalFits, table}
 use Rattle.calls.proofs.Records.{Notes, noted, inArray, runOf, passOf}
 use Rattle.calls.proofs.Arrays as arrays
 use Rattle.calls.proofs.Arrays.{array-next}
 use Rattle.calls.proofs.Guards.{challengeDoes}
 use Rattle.calls.proofs.Steps.{row-passed, keepingStep, closeStep, does}
-use Rattle.calls.proofs.Turns.{both, pass-kind, openings-kind, change-kind, waits-for, full-shut, challenge-shut}
+use Rattle.calls.proofs.Turns.{both, pass-kind, openings-kind, change-kind, full-shut, challenge-shut}
 use Rattle.calls.proofs.ItemRows.{Limits, item-admitted}
 use Rattle.calls.proofs.Fits.{Fine, givenAt, RunFits, PassFits, Fits, few, run-formed, kind-is}
 use Rattle.calls.proofs.Numbers.{own-message, own-ends, slice-below}

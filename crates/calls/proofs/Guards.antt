@@ -20,7 +20,7 @@ use Rattle.phase.specs.declared.Next.the-variants as next
 use Rattle.phase.specs.declared.Kind.{Kind}
 use Rattle.phase.specs.declared.Kind.the-variants.{Shut, Asked, Change}
 use Rattle.phase.specs.Cases as cases
-use Rattle.phase.specs.Cases.{waits}
+use Rattle.phase.specs.Cases.{waits, isChange, isFull, isOpen, isSmall}
 use Rattle.phase.specs.Level.{levelAt}
 use Rattle.phase.specs.Order.{openNext, changeAt}
 use Rattle.prover.specs.declared.Run.{Run}
@@ -43,8 +43,8 @@ use Rattle.item.specs.declared.Given.the-variants.{Reading, Numbers}
 use Rattle.item.specs.Item.{contributes, partsOf}
 use Rattle.runs.specs.Trip.{sumOf}
 use Rattle.calls.specs.Step.{Lent}
-use Rattle.calls.specs.State.{isChange, isFull, isOpen, isSmall, State}
-use Rattle.calls.specs.Table.{Refusal, decided, row, rowAt, waits, passNext, openingsNext, changeNext, levelNow, long, bothLong, readRows, givenRows, placeRow, totalFits, table}
+use Rattle.calls.specs.State.{State}
+use Rattle.calls.specs.Table.{Refusal, decided, row, rowAt, passWaits, openingsNext, changeWaits, levelNow, long, bothLong, readRows, givenRows, placeRow, totalFits, table}
 use Rattle.calls.specs.declared.Call.the-variants as call
 use Rattle.calls.proofs.Records.{Notes, runOf}
 
@@ -83,7 +83,7 @@ changing Asked = refl
 changing Change = refl
 
 -- the tests of what is next, one against the other
-pass-next : (m : Mode) (t : Next) → cond (cases.isSmall m) (openNext t) false ≡ passNext m t
+pass-next : (m : Mode) (t : Next) → cond (cases.isSmall m) (openNext t) false ≡ passWaits m t
 pass-next Full t = refl
 pass-next Small next.Total = refl
 pass-next Small next.Message = refl
@@ -99,7 +99,7 @@ openings-next true next.Challenge n = refl
 openings-next true next.Ends n = refl
 openings-next true next.Openings n = refl
 
-change-next : (m : Mode) (t : Next) (n : ℕ) → cond (cases.isSmall m) (changeAt t n) false ≡ changeNext m t n
+change-next : (m : Mode) (t : Next) (n : ℕ) → cond (cases.isSmall m) (changeAt t n) false ≡ changeWaits m t n
 change-next Full t n = refl
 change-next Small next.Total n = refl
 change-next Small next.Message n = refl

@@ -29,12 +29,12 @@ use Rattle.verifier.specs.Openings.{openingFinds}
 use Rattle.verifier.specs.ProofFile.{fileMessage, hearsNext, hearsFirst, endsAgree, compares, afterFile}
 use Rattle.verifier.proofs.TrueOpenings.{true-opening-holds}
 use Rattle.item.specs.declared.Start.{Start}
-use Rattle.runs.specs.Trip.{Trip, itemOf, vectorF, vectorG}
+use Rattle.runs.specs.Trip.{Trip, tripItem, vectorF, vectorG}
 use Rattle.calls.specs.declared.query.Query.{Query}
 use Rattle.calls.specs.declared.query.Query.the-variants as query
 use Rattle.calls.specs.QueryStep.{Shown, replies}
 use Rattle.calls.specs.QueryStep as said
-use Rattle.calls.specs.QueryState.{VerifierState, atRound, hearing, hears as goesOn, isWhole, verifierTable}
+use Rattle.calls.specs.QueryState.{VerifierState, atRound, hearing, goesOnHeard, hasAll, verifierTable}
 use Rattle.calls.specs.Meaning.{messageAt, proofOfTrip}
 use Rattle.calls.proofs.HeardMeaning.{BringsTrip, SaysTrip}
 use Rattle.calls.proofs.QueryStands.{Carries, verdict-turn}
@@ -82,11 +82,11 @@ module _ (p : ℕ) (large : maxWeight < p) (prime : Prime p) (odd : p % 2 ≡ 1)
     kind e = ap (λ s. s .plain) (sym (f .start)) ∙ e
 
     -- every item was given
-    module _ (whole : isWhole a ≡ true) where
+    module _ (whole : hasAll a ≡ true) where
       whole-length : length (a .items) ≡ T .start .items
       whole-length = eqb-true (length (a .items)) (a .start .items) whole ∙ ap (λ s. s .items) (f .start)
 
-      whole-fine : (i : ℕ) → i < T .start .items → Fine p (T .start .plain) (itemOf T i)
+      whole-fine : (i : ℕ) → i < T .start .items → Fine p (T .start .plain) (tripItem T i)
       whole-fine i l = f .fine i (omega (arith, whole-length))
 
       -- THE RUN'S FILE
@@ -139,7 +139,7 @@ module _ (p : ℕ) (large : maxWeight < p) (prime : Prime p) (odd : p % 2 ≡ 1)
 
     -- THE ANSWER, and the state after it
     pub answers-right : (c : Query) (l : Shown) → verifierTable p a c l ≡ none → BringsTrip p T a c l
-        → SaysTrip p T a c l (saysSo p v c l) × Follows p T cs (goesOn a c (saysSo p v c l)) (goesTo p v c l)
+        → SaysTrip p T a c l (saysSo p v c l) × Follows p T cs (goesOnHeard a c (saysSo p v c l)) (goesTo p v c l)
     answers-right (query.Give x) l e brings =
         let rows = item-rows p a l x e in (
           refl,

@@ -19,7 +19,7 @@ use Rattle.vector.specs.Message.{Message}
 use Rattle.verifier.specs.Claims.{messageOf3}
 use Rattle.verifier.specs.ProofFile.{fileMessage}
 use Rattle.verifier.proofs.PlainFiles.{Lists}
-use Rattle.runs.specs.Trip.{Trip, itemOf, vectorF, vectorG, totalOf}
+use Rattle.runs.specs.Trip.{Trip, tripItem, vectorF, vectorG, totalOf}
 use Rattle.runs.proofs.CloseLaws.{residue-below}
 use Rattle.calls.specs.Meaning.{messageAt, messagesTo, proofOfTrip}
 use Rattle.calls.proofs.HeardTrip.{Fine, below-suc, end-f, end-g}
@@ -73,7 +73,7 @@ module _ (p : ℕ) (T : Trip) (cs : List ℕ) where
       r h
 
   module _ (large : maxWeight < p) (word : p ≤ 2 ^ 32) (few : T .start .rounds ≤ 15) (enough : T .start .items ≤ 2 ^ T .start .rounds)
-      (listed : length cs ≡ T .start .rounds) (fine : (i : ℕ) → i < T .start .items → Fine p (T .start .plain) (itemOf T i))
+      (listed : length cs ≡ T .start .rounds) (fine : (i : ℕ) → i < T .start .items → Fine p (T .start .plain) (tripItem T i))
       (limits : inLimits p (totalOf T) ≡ true) where
     abbrev n : ℕ
     n = T .start .rounds

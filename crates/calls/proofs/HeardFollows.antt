@@ -29,11 +29,11 @@ use Rattle.verifier.proofs.Invariant.{parts-of, formed-of, open-turn, closed-ta
 use Rattle.item.specs.declared.Start.{Start}
 use Rattle.item.specs.declared.Given.{Given}
 use Rattle.item.specs.Item.{contributes}
-use Rattle.runs.specs.Trip.{Trip, itemOf, entersAs, vectorF, vectorG}
+use Rattle.runs.specs.Trip.{Trip, tripItem, entersAs, vectorF, vectorG}
 use Rattle.calls.specs.Meaning.{messageAt}
 use Rattle.calls.specs.QueryStep.{replies}
 use Rattle.calls.specs.QueryStep as said
-use Rattle.calls.specs.QueryState.{VerifierState, takesItem, atRound, hearing, isWhole}
+use Rattle.calls.specs.QueryState.{VerifierState, takesItem, atRound, hearing, hasAll}
 use Rattle.calls.proofs.QueryStands.{Carries, Stands}
 use Rattle.calls.proofs.QuerySteps.{heardAs}
 use Rattle.calls.proofs.QueryKeeps.{close-stands, message-stands, verdict-stands}
@@ -52,7 +52,7 @@ pub record Follows (p : ℕ) (T : Trip) (cs : List ℕ) (a : VerifierState) (v :
   pub stands : Stands p a v
   pub start : a .start ≡ T .start
   pub challenges : a .challenges ≡ cs
-  pub fine : (i : ℕ) → i < length (a .items) → Fine p (T .start .plain) (itemOf T i)
+  pub fine : (i : ℕ) → i < length (a .items) → Fine p (T .start .plain) (tripItem T i)
   pub fsum : v .fsum ≡ weighted p (kept T cs) (T .start .rounds) (entersF p T) (length (a .items))
   pub gsum : v .gsum ≡ weighted p (kept T cs) (T .start .rounds) (entersG p T) (length (a .items))
   pub going : a .refuted ≡ false
@@ -111,7 +111,7 @@ module _ (p : ℕ) (T : Trip) (cs : List ℕ) where
     carries = rw (f .start, f .challenges) at (f .stands .carries)
 
     -- AN ITEM
-    pub item-follows : (x : Given) → x ≡ itemOf T (length (a .items)) → Fine p (T .start .plain) x → a .closed ≡ false
+    pub item-follows : (x : Given) → x ≡ tripItem T (length (a .items)) → Fine p (T .start .plain) x → a .closed ≡ false
         → Stands p (takesItem a x) (oneMore p v (contributes p (v .start) x .f) (contributes p (v .start) x .g))
         → Follows p T cs (takesItem a x) (oneMore p v (contributes p (v .start) x .f) (contributes p (v .start) x .g))
     unfolding oneMore entering
@@ -122,7 +122,7 @@ module _ (p : ℕ) (T : Trip) (cs : List ℕ) where
           stands = stands;
           start = f .start;
           challenges = f .challenges;
-          fine = below-suc (λ i. Fine p (T .start .plain) (itemOf T i)) k (f .fine) (subst (Fine p (T .start .plain)) e fits);
+          fine = below-suc (λ i. Fine p (T .start .plain) (tripItem T i)) k (f .fine) (subst (Fine p (T .start .plain)) e fits);
           fsum =
               more-f p (T .start) cs k (contributes p (v .start) x .f) (v .fsum) _ (v .start) (v .challenges) (v .taken) (f .fsum) (c .start) (c .challenges) (c .taken)
               ∙ ap₂ (λ st y. addMod p (weighted p (kept T cs) n (entersF p T) k) (mulMod p (entersAs p (T .start) k (contributes p st y .f)) (weight p (kept T cs) n k))) (c .start) e
@@ -157,7 +157,7 @@ module _ (p : ℕ) (T : Trip) (cs : List ℕ) where
         sym (s .going (f .going) .1) ∙ open-turn v (parts-of v (s .carries .formed) .turn) (s .closed ∙ unclosed) .first
 
     -- A CLOSE with the run's total
-    pub close-follows : (claim : ℕ) → claim ≡ dot p (2 ^ n) (vectorF p T) (vectorG p T) → a .closed ≡ false → isWhole a ≡ true
+    pub close-follows : (claim : ℕ) → claim ≡ dot p (2 ^ n) (vectorF p T) (vectorG p T) → a .closed ≡ false → hasAll a ≡ true
         → Follows p T cs (atRound a 0 false) (closedWith v claim)
     unfolding closedWith
     close-follows claim e unclosed whole =
@@ -205,7 +205,7 @@ module _ (p : ℕ) (T : Trip) (cs : List ℕ) where
         pub ends-own : length (a .items) ≡ T .start .items
             → (v .fsum ≡ endValue p (at cs) n (vectorF p T)) × (v .gsum ≡ endValue p (at cs) n (vectorG p T))
         ends-own all =
-            let fine : (i : ℕ) → i < T .start .items → Fine p (T .start .plain) (itemOf T i) = λ i l. f .fine i (omega arith) in (
+            let fine : (i : ℕ) → i < T .start .items → Fine p (T .start .plain) (tripItem T i) = λ i l. f .fine i (omega arith) in (
               f .fsum ∙ ap (weighted p (kept T cs) n (entersF p T)) all ∙ end-f p large T enough fine few cs listed,
               f .gsum ∙ ap (weighted p (kept T cs) n (entersG p T)) all ∙ end-g p large T enough fine few cs listed,
             )

@@ -16,7 +16,7 @@ use Rattle.verifier.specs.Starts.{freshVerifier, verifierOf}
 use Rattle.runs.specs.Trip.{Trip}
 use Rattle.calls.specs.Step.{isAnswered}
 use Rattle.calls.specs.QueryStep.{Said, Spoken}
-use Rattle.calls.specs.QueryState.{VerifierState, freshVerifierState, hears, verifierTable, Posed, Hearing, heard, hearsOn}
+use Rattle.calls.specs.QueryState.{VerifierState, freshVerifierState, goesOnHeard, verifierTable, Posed, Hearing, heard, hearsOn}
 use Rattle.calls.specs.Starts.{Whole}
 use Rattle.calls.proofs.HeardMeaning.{BringsTrip, SaysTrip}
 use Rattle.calls.proofs.QueryStands.{fresh-stands}
@@ -46,7 +46,7 @@ module _ (p : ℕ) (large : maxWeight < p) (prime : Prime p) (odd : p % 2 ≡ 1)
 
     -- an answered call brings the trip's
     right : verifierTable p a (q .query) (q .shown) ≡ none
-        → SaysTrip p T a (q .query) (q .shown) said × Follows p T cs (hears a (q .query) said) (did .verifier)
+        → SaysTrip p T a (q .query) (q .shown) said × Follows p T cs (goesOnHeard a (q .query) said) (did .verifier)
     right e =
         answers-right p large prime odd word T (whole .start .most) (whole .start .rounds) (whole .items) cs listed a (h .verifier) f (q .query) (q .shown) e
         (brings (ap (λ (o : Spoken). isAnswered (o .told)) (let-through e)))

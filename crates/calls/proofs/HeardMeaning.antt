@@ -8,7 +8,7 @@ use Rattle.vector.specs.Vector.{at, dot}
 use Rattle.vector.specs.Opening.{opening}
 use Rattle.verifier.specs.Reply as reply
 use Rattle.verifier.specs.Records.{yes, holds}
-use Rattle.runs.specs.Trip.{Trip, itemOf, vectorF, vectorG, totalOf}
+use Rattle.runs.specs.Trip.{Trip, tripItem, vectorF, vectorG, totalOf}
 use Rattle.calls.specs.declared.query.Query.{Query}
 use Rattle.calls.specs.declared.query.Query.the-variants as query
 use Rattle.calls.specs.Meaning.{messageAt, proofOfTrip}
@@ -18,7 +18,7 @@ use Rattle.calls.specs.Given.{agreed, OpensTrip}
 
 -- "the trip's items first to last, the run's total, and the run's messages in order or its proof file"
 abbrev pub BringsTrip : ℕ → Trip → VerifierState → Query → Shown → Type 0
-BringsTrip p T a (query.Give x) l = x ≡ itemOf T (length (a .items))
+BringsTrip p T a (query.Give x) l = x ≡ tripItem T (length (a .items))
 BringsTrip p T a (query.Close t) l = t ≡ totalOf T
 BringsTrip p T a (query.CloseClaim c) l = c ≡ dot p (2 ^ T .start .rounds) (vectorF p T) (vectorG p T)
 BringsTrip p T a (query.Message even cross odd) l =

@@ -27,7 +27,7 @@ use Rattle.item.specs.declared.Start.{Start}
 use Rattle.item.specs.declared.Given.{Given}
 use Rattle.item.specs.declared.Given.the-variants.{Reading, Numbers}
 use Rattle.item.specs.Item.{contributes}
-use Rattle.runs.specs.Trip.{Trip, itemOf, entersAs, vectorF, vectorG, worth, sumOf, totalOf}
+use Rattle.runs.specs.Trip.{Trip, tripItem, entersAs, vectorF, vectorG, worth, sumOf, totalOf}
 
 -- an item of the run's kind within its limits
 abbrev pub Fine : ℕ → Bool → Given → Type 0
@@ -45,10 +45,10 @@ below-suc P k below here i h = ⊎-elim (λ e. subst P (sym e) here) (below i) (
 
 -- the numbers that enter the sums
 abbrev pub entersF : ℕ → Trip → Vector
-entersF p T i = entersAs p (T .start) i (contributes p (T .start) (itemOf T i) .f)
+entersF p T i = entersAs p (T .start) i (contributes p (T .start) (tripItem T i) .f)
 
 abbrev pub entersG : ℕ → Trip → Vector
-entersG p T i = contributes p (T .start) (itemOf T i) .g
+entersG p T i = contributes p (T .start) (tripItem T i) .g
 
 module _ (p : ℕ) (large : maxWeight < p) (s : Start) where
   fine-f : (kind : Bool) (k : ℕ) (x : Given) → Fine p kind x
@@ -83,7 +83,7 @@ module _ (p : ℕ) (large : maxWeight < p) (s : Start) where
       ∙ ap (residue p) (add-comm (sum (length xs) (product xs)) (product (x ∷ xs) 0) ∙ sym (sum-first (length xs) (product (x ∷ xs))))
 
 module _ (p : ℕ) (large : maxWeight < p) (T : Trip) (enough : T .start .items ≤ 2 ^ T .start .rounds)
-    (fine : (i : ℕ) → i < T .start .items → Fine p (T .start .plain) (itemOf T i)) where
+    (fine : (i : ℕ) → i < T .start .items → Fine p (T .start .plain) (tripItem T i)) where
   abbrev L : ℕ
   L = T .start .items
 
@@ -99,11 +99,11 @@ module _ (p : ℕ) (large : maxWeight < p) (T : Trip) (enough : T .start .items 
       (sum-same L (product p large (T .start) (T .items)) (λ i. entersF p T i * entersG p T i) (λ i l. ap (λ x. x * entersG p T i) (sym (untwisted i))))
       ∙ sym (dot-padded p L (2 ^ n) enough (entersF p T) (entersG p T))
     where
-      plain-fine : (i : ℕ) → i < L → Fine p true (itemOf T i)
+      plain-fine : (i : ℕ) → i < L → Fine p true (tripItem T i)
       plain-fine i l = rw plain at (fine i l)
 
-      untwisted : (i : ℕ) → entersF p T i ≡ contributes p (T .start) (itemOf T i) .f
-      untwisted i = ap (λ b. cond b (contributes p (T .start) (itemOf T i) .f) (mulMod p (contributes p (T .start) (itemOf T i) .f) (weight p (at (T .start .twists)) n i))) plain
+      untwisted : (i : ℕ) → entersF p T i ≡ contributes p (T .start) (tripItem T i) .f
+      untwisted i = ap (λ b. cond b (contributes p (T .start) (tripItem T i) .f) (mulMod p (contributes p (T .start) (tripItem T i) .f) (weight p (at (T .start .twists)) n i))) plain
 
   -- THE SUMS ARE THE END VALUES
   module _ (few : n ≤ 15) (cs : List ℕ) (listed : length cs ≡ n) where
@@ -113,10 +113,10 @@ module _ (p : ℕ) (large : maxWeight < p) (T : Trip) (enough : T .start .items 
     pub end-f : weighted p (at (fifteen n cs)) n (entersF p T) L ≡ endValue p (at cs) n (vectorF p T)
     end-f =
         sym (end-padded p (at (fifteen n cs)) n L (entersF p T) enough
-        (λ i l. fine-f p large (T .start) (T .start .plain) (weight p (at (T .start .twists)) n i) (itemOf T i) (fine i l)))
+        (λ i l. fine-f p large (T .start) (T .start .plain) (weight p (at (T .start .twists)) n i) (tripItem T i) (fine i l)))
         ∙ fold-challenges (combine p) (at (fifteen n cs)) (at cs) (vectorF p T) n agree 0
 
     pub end-g : weighted p (at (fifteen n cs)) n (entersG p T) L ≡ endValue p (at cs) n (vectorG p T)
     end-g =
-        sym (end-padded p (at (fifteen n cs)) n L (entersG p T) enough (λ i l. fine-g p large (T .start) (T .start .plain) (itemOf T i) (fine i l)))
+        sym (end-padded p (at (fifteen n cs)) n L (entersG p T) enough (λ i l. fine-g p large (T .start) (T .start .plain) (tripItem T i) (fine i l)))
         ∙ fold-challenges (combine p) (at (fifteen n cs)) (at cs) (vectorG p T) n agree 0

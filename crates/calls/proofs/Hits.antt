@@ -10,19 +10,21 @@ use lib.ListN.{length}
 use borrow.Author.Tests.{eqb-true}
 use Rattle.refusal.specs.Limit.{maxWeight}
 use Rattle.vector.specs.Vector.{at}
+use Rattle.phase.proofs.Facts.{waits-for}
 use Rattle.phase.specs.declared.Next.{Next}
 use Rattle.phase.specs.declared.Next.the-variants as next
 use Rattle.phase.specs.declared.Kind.{Kind}
 use Rattle.phase.specs.declared.Kind.the-variants.{Shut, Asked, Change}
+use Rattle.phase.specs.Cases.{isFull, waits}
 use Rattle.phase.specs.Order.{roundFits}
 use Rattle.runs.specs.Trip.{Trip}
 use Rattle.calls.specs.declared.Call.{Call}
 use Rattle.calls.specs.declared.Call.the-variants as call
 use Rattle.calls.specs.Lists.{along, always, somewhere}
 use Rattle.calls.specs.Step.{Lent, isAnswered}
-use Rattle.calls.specs.State.{isFull, State}
+use Rattle.calls.specs.State.{State}
 use Rattle.calls.specs.World.{Made, World, came, onward}
-use Rattle.calls.specs.Table.{waits, openingsNext, table}
+use Rattle.calls.specs.Table.{openingsNext, table}
 use Rattle.calls.specs.Meaning.{Question, total, roundMessage, ends, openingAt, proof, done, closeAsks, question, meant, Kept}
 use Rattle.calls.specs.Statement.{Sized, Right}
 use Rattle.calls.specs.Given.{replyOf, Answered}
@@ -30,7 +32,7 @@ use Rattle.calls.specs.Demand3.{AllSized, AllKept, AllTake}
 use Rattle.calls.proofs.Records.{Notes}
 use Rattle.calls.proofs.Steps.{row-passed}
 use Rattle.calls.proofs.Fits.{Fits}
-use Rattle.calls.proofs.Turns.{both, waits-for}
+use Rattle.calls.proofs.Turns.{both}
 use Rattle.calls.proofs.Refusals.{decide-step}
 use Rattle.calls.proofs.Answers.{Going, right-here, goes-on}
 use Rattle.calls.proofs.Alike.{answered-none}

@@ -39,7 +39,7 @@ use Rattle.verifier.specs.Calls.{passOpen, give, close, verdictTurn, verdict}
 use Rattle.verifier.specs.ProofFile.{hearsNext, hearsFirst, endsAgree, compares, afterFile, proof}
 use Rattle.item.specs.declared.Given.the-variants.{Reading}
 use Rattle.item.specs.Item.{partsOf}
-use Rattle.runs.specs.Trip.{Trip, itemOf, sumOf}
+use Rattle.runs.specs.Trip.{Trip, tripItem, sumOf}
 use Rattle.calls.specs.declared.query.Query.the-variants as query
 use Rattle.calls.specs.Lists.{after, each}
 use Rattle.calls.specs.Step.{Lent, step}
@@ -77,7 +77,7 @@ single-valid : Valid P single
 unfolding powers firstFrom inLimits sumOf
 single-valid = record { whole = single-whole; items = fits; total = λ e. refl }
   where
-    fits : (i : ℕ) → i < 1 → ItemFits P true (itemOf single i)
+    fits : (i : ℕ) → i < 1 → ItemFits P true (tripItem single i)
     fits zero h = (refl, omega arith, omega arith)
     fits (suc i) h = absurd (omega arith)
 

@@ -39,7 +39,7 @@ use Rattle.verifier.specs.Openings.{firstFault, openingFinds}
 use Rattle.verifier.specs.Calls.{passOpen, give, closeClaim, messageTurn, allReduced3, message, verdictTurn, verdict, hasRounds, checkOpening}
 use Rattle.item.specs.declared.Given.the-variants.{Numbers}
 use Rattle.item.specs.Item.{partsOf}
-use Rattle.runs.specs.Trip.{Trip, itemOf}
+use Rattle.runs.specs.Trip.{Trip, tripItem}
 use Rattle.calls.specs.declared.query.Query.the-variants as query
 use Rattle.calls.specs.Lists.{after, each}
 use Rattle.calls.specs.Step.{Lent, step}
@@ -82,7 +82,7 @@ twisted-valid : Valid P twisted
 unfolding powers firstFrom
 twisted-valid = record { whole = twisted-whole; items = fits; total = λ e. absurd (true≢false (sym e)) }
   where
-    fits : (i : ℕ) → i < 3 → ItemFits P false (itemOf twisted i)
+    fits : (i : ℕ) → i < 3 → ItemFits P false (tripItem twisted i)
     fits zero h = (refl, omega arith, omega arith)
     fits (suc zero) h = (refl, omega arith, omega arith)
     fits (suc (suc zero)) h = (refl, omega arith, omega arith)

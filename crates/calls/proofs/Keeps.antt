@@ -20,6 +20,7 @@ use Rattle.phase.specs.declared.Next.{Next}
 use Rattle.phase.specs.declared.Next.the-variants as next
 use Rattle.phase.specs.declared.Kind.{Kind}
 use Rattle.phase.specs.declared.Kind.the-variants.{Shut, Asked, Change}
+use Rattle.phase.specs.Cases.{isChange, isFull, isOpen, isSmall, waits}
 use Rattle.phase.specs.Order.{roundOrEnds, roundFits, kindFits}
 use Rattle.prover.specs.declared.Run.{Run}
 use Rattle.prover.specs.declared.Pass.{Pass}
@@ -28,13 +29,13 @@ use Rattle.refusal.specs.Outcome.{Outcome, answered}
 use Rattle.prover.specs.Reply.{Reply, answerIn}
 use Rattle.prover.specs.Reply as reply
 use Rattle.item.specs.declared.Given.{Given}
-use Rattle.runs.specs.Trip.{Trip, itemOf, vectorF, vectorG, totalOf}
+use Rattle.runs.specs.Trip.{Trip, tripItem, vectorF, vectorG, totalOf}
 use Rattle.runs.specs.Passes.{passAfter, Gives}
 use Rattle.runs.specs.Buffers.{Written}
 use Rattle.calls.specs.declared.Call.the-variants as call
 use Rattle.calls.specs.Step.{Lent, Result}
-use Rattle.calls.specs.State.{isChange, isFull, isOpen, isSmall, State, inPass, goesTo, withBuffers, inFullMode, takesChallenge, buffersIn, closed}
-use Rattle.calls.specs.Table.{waits, changeNext, levelNow, level, long, taken, completed, table}
+use Rattle.calls.specs.State.{State, inPass, goesTo, withBuffers, inFullMode, takesChallenge, buffersIn, closed}
+use Rattle.calls.specs.Table.{changeWaits, levelNow, level, long, taken, completed, table}
 use Rattle.calls.specs.Meaning.{meant, roundMessage, ends, closeAsks, messagesTo, foldF, foldG, AsLeft, itemWrites}
 use Rattle.calls.specs.Statement.{known}
 use Rattle.calls.proofs.Records.{Notes, noted, runOf, passOf}
@@ -92,10 +93,10 @@ no-items-given : (T : Trip) → Gives T []
 no-items-given T q h = absurd (omega arith)
 
 -- one item more of the trip
-one-given : (T : Trip) (x : Given) (xs : List Given) → length xs < T .start .items → x ≡ itemOf T (T .start .items - 1 - length xs) → Gives T xs → Gives T (x ∷ xs)
-one-given T x xs l e gives zero h = e ∙ ap (itemOf T) (let q : T .start .items - 1 - length xs ≡ T .start .items - suc (length xs) + 0 = omega arith in q)
+one-given : (T : Trip) (x : Given) (xs : List Given) → length xs < T .start .items → x ≡ tripItem T (T .start .items - 1 - length xs) → Gives T xs → Gives T (x ∷ xs)
+one-given T x xs l e gives zero h = e ∙ ap (tripItem T) (let q : T .start .items - 1 - length xs ≡ T .start .items - suc (length xs) + 0 = omega arith in q)
 one-given T x xs l e gives (suc q) h =
-    gives q (omega arith) ∙ ap (itemOf T) (let r : T .start .items - length xs + q ≡ T .start .items - suc (length xs) + suc q = omega arith in r)
+    gives q (omega arith) ∙ ap (tripItem T) (let r : T .start .items - length xs + q ≡ T .start .items - suc (length xs) + suc q = omega arith in r)
 
 module _ (p : ℕ) (large : maxWeight < p) (through : Bool) (its : List Given) (a : State) {past : Notes} (h : Fits p a past) (g : Agrees p through its a past)
     (whole : length its ≡ a .start .items) (l : Lent) where
@@ -120,7 +121,7 @@ module _ (p : ℕ) (large : maxWeight < p) (through : Bool) (its : List Given) (
   to-full-agrees e =
       let o : Result = does p (runOf a past) (passOf p a past) call.ToFull l in
       let b : State = withBuffers (inPass a Change 0 []) (o .lent) in
-      let s = both (isSmall (a .turn .mode)) _ (row-passed (changeNext (a .turn .mode) (a .turn .next) (a .start .rounds)) 10 _ e .0) .0 in
+      let s = both (isSmall (a .turn .mode)) _ (row-passed (changeWaits (a .turn .mode) (a .turn .next) (a .start .rounds)) 10 _ e .0) .0 in
       let r = right p large through its a h g whole l call.ToFull e tt in
       let k = small-change (long a) (taken b / 2 ^ level a) (a .turn .mode) (waits next.Openings (a .turn .next)) through s in
       let low : long a - taken b / 2 ^ level a ≡ long a - completed a (2 ^ a .start .rounds - a .start .items) =
@@ -144,7 +145,7 @@ module _ (p : ℕ) (large : maxWeight < p) (through : Bool) (its : List Given) (
       by true e = w .wrote j lo (ltb-true j to e)
       by false e = w .above j (ltb-false j to e) ∙ left j hi ∙ known j (ltb-false j to e) hi
 
-  pub item-agrees : (x : Given) (o : Lent) (k : Kind) → a .pass .kind ≡ k → isOpen k ≡ true → length (a .pass .items) < a .start .items → x ≡ itemOf T (a .start .items - 1 - length (a .pass .items))
+  pub item-agrees : (x : Given) (o : Lent) (k : Kind) → a .pass .kind ≡ k → isOpen k ≡ true → length (a .pass .items) < a .start .items → x ≡ tripItem T (a .start .items - 1 - length (a .pass .items))
       → kindFits k (a .turn .mode) (a .turn .next) ≡ true → ((isChange k && (through || not (waits next.Openings (a .turn .next)))) ≡ true → AsLeft a l)
       → Written (foldF p T a) (itemWrites a k .0) (itemWrites a k .1) (l .f) (o .f)
       → Written (foldG p T a) (itemWrites a k .0) (itemWrites a k .1) (l .g) (o .g)

@@ -3,18 +3,19 @@ use Prim.Native.Nat.{ℕ, _-_, _^_, _<_}
 use mathlib.Core.Path.{_≡_, refl, subst}
 use mathlib.Core.Bool.{Bool, true}
 use lib.ListN.{length}
+use Rattle.phase.specs.Cases.{isFull}
 use Rattle.vector.specs.Vector.{at}
 use Rattle.item.specs.declared.Given.{Given}
-use Rattle.runs.specs.Trip.{Trip, itemOf, vectorF, vectorG}
+use Rattle.runs.specs.Trip.{Trip, tripItem, vectorF, vectorG}
 use Rattle.calls.specs.declared.Call.{Call}
 use Rattle.calls.specs.declared.Call.the-variants as call
 use Rattle.calls.specs.Step.{Lent}
-use Rattle.calls.specs.State.{isFull, State}
+use Rattle.calls.specs.State.{State}
 use Rattle.calls.specs.Meaning.{AsLeft, bindsItem, Kept}
 
 module _ (p : ℕ) (T : Trip) (through : Bool) (a : State) where
   abbrev pub ItemKept : Given → Lent → Type 0
-  ItemKept x l = (x ≡ itemOf T (T .start .items - 1 - length (a .pass .items))) × (bindsItem through a ≡ true → AsLeft a l)
+  ItemKept x l = (x ≡ tripItem T (T .start .items - 1 - length (a .pass .items))) × (bindsItem through a ≡ true → AsLeft a l)
 
   abbrev pub KeptBy : Call → Lent → Type 0
   KeptBy call.OpenPass l = Unit {0}

@@ -24,6 +24,7 @@ use Rattle.phase.specs.declared.Next.{Next}
 use Rattle.phase.specs.declared.Next.the-variants as next
 use Rattle.phase.specs.declared.Kind.{Kind}
 use Rattle.phase.specs.declared.Kind.the-variants.{Shut, Asked, Change}
+use Rattle.phase.specs.Cases.{waits}
 use Rattle.prover.specs.Reply as reply
 use Rattle.prover.specs.Values.{inNinety}
 use Rattle.prover.proofs.OpeningValues.{triples-length, triples-same}
@@ -31,7 +32,7 @@ use Rattle.runs.specs.Trip.{Trip, vectorF, vectorG, totalOf}
 use Rattle.calls.specs.declared.Call.{Call}
 use Rattle.calls.specs.declared.Call.the-variants as call
 use Rattle.calls.specs.State.{State}
-use Rattle.calls.specs.Table.{waits, table}
+use Rattle.calls.specs.Table.{table}
 use Rattle.calls.specs.Meaning.{Question, total, roundMessage, ends, openingAt, proof, done, closeAsks, question, Answer, meant, says, messageAt, messagesTo, proofOfTrip}
 use Rattle.calls.specs.World.{came}
 use Rattle.calls.proofs.Steps.{row-passed}

@@ -16,13 +16,13 @@ use Rattle.phase.specs.declared.Mode.the-variants.{Small, Full}
 use Rattle.phase.specs.declared.Next.{Next}
 use Rattle.phase.specs.declared.Next.the-variants as next
 use Rattle.phase.specs.declared.Kind.the-variants.{Shut}
+use Rattle.phase.specs.Cases.{isFull, waits}
 use Rattle.phase.specs.Order.{roundOrEnds}
 use Rattle.runs.specs.Trip.{Trip}
-use Rattle.calls.specs.State.{isFull}
 use Rattle.calls.specs.declared.Call.{Call}
 use Rattle.calls.specs.declared.Call.the-variants as call
 use Rattle.calls.specs.Step.{Lent}
-use Rattle.calls.specs.Table.{waits, changeNext}
+use Rattle.calls.specs.Table.{changeWaits}
 use Rattle.calls.specs.Lists.{after}
 use Rattle.calls.specs.World.{World, freshWorld, onward}
 use Rattle.calls.specs.Proper.{Valid, AllNonzero, wholePass, answerBy, changeBefore, roundsFrom, openingsAt, endCalls, openingCalls, wholeRun, Host, Brings, properRun}
@@ -65,7 +65,7 @@ module _ (p : ℕ) (large : maxWeight < p) (through : Bool) (T : Trip) (valid : 
     Then full t i = (w : Host) → Before full t i w → Lives p T through w ys
 
     -- A CHANGE before step j, or none
-    change-live : (j : ℕ) → j ≤ suc n → (t : Next) → changeNext Small t n ≡ true → (i : ℕ) (w : Host) → Before (ltb k j) t i w → Then (leb k j) t i
+    change-live : (j : ℕ) → j ≤ suc n → (t : Next) → changeWaits Small t n ≡ true → (i : ℕ) (w : Host) → Before (ltb k j) t i w → Then (leb k j) t i
         → Lives p T through w (changeBefore T k j ++ ys)
     change-live j most t turn i w st on = by (eqb k j) refl
       where

@@ -10,7 +10,7 @@ use lib.ListN.{replicate, take}
 use Rattle.field.specs.Total.{inLimits}
 use Rattle.vector.specs.Rounds.{powers, firstFrom}
 use Rattle.item.specs.declared.Given.the-variants.{Reading}
-use Rattle.runs.specs.Trip.{Trip, itemOf, sumOf}
+use Rattle.runs.specs.Trip.{Trip, tripItem, sumOf}
 use Rattle.calls.specs.Step.{Lent}
 use Rattle.calls.specs.Lists.{after}
 use Rattle.calls.specs.World.{Made, World, freshWorld, came, onward}
@@ -34,7 +34,7 @@ valid : Valid P trip
 unfolding powers firstFrom inLimits sumOf
 valid = record { whole = record { start = record { least = omega arith; most = omega arith; rounds = refl }; items = refl }; items = fits; total = λ e. refl }
   where
-    fits : (i : ℕ) → i < 3 → ItemFits P true (itemOf trip i)
+    fits : (i : ℕ) → i < 3 → ItemFits P true (tripItem trip i)
     fits zero h = (refl, omega arith, omega arith)
     fits (suc zero) h = (refl, omega arith, omega arith)
     fits (suc (suc zero)) h = (refl, omega arith, omega arith)

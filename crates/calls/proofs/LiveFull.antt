@@ -19,14 +19,15 @@ use Rattle.phase.specs.declared.Next.{Next}
 use Rattle.phase.specs.declared.Next.the-variants as next
 use Rattle.phase.specs.declared.Kind.{Kind}
 use Rattle.phase.specs.declared.Kind.the-variants.{Shut}
+use Rattle.phase.specs.Cases.{isFull, waits}
 use Rattle.phase.specs.Order.{roundOrEnds}
 use Rattle.runs.specs.Trip.{Trip, vectorF, vectorG}
 use Rattle.runs.specs.Buffers.{Written}
 use Rattle.calls.specs.declared.Call.{Call}
 use Rattle.calls.specs.declared.Call.the-variants as call
 use Rattle.calls.specs.Step.{Lent}
-use Rattle.calls.specs.State.{isFull, State, takesChallenge, buffersIn}
-use Rattle.calls.specs.Table.{waits, openingsNext, levelNow, long, readRows}
+use Rattle.calls.specs.State.{State, takesChallenge, buffersIn}
+use Rattle.calls.specs.Table.{openingsNext, levelNow, long, readRows}
 use Rattle.calls.specs.Meaning.{challengeWrites, AsLeft}
 use Rattle.calls.specs.Proper.{Valid, Host, foldZero}
 use Rattle.calls.proofs.LiveStep.{other-sized}

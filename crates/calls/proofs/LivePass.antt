@@ -16,17 +16,18 @@ use Rattle.phase.specs.declared.Next.{Next}
 use Rattle.phase.specs.declared.Next.the-variants as next
 use Rattle.phase.specs.declared.Kind.{Kind}
 use Rattle.phase.specs.declared.Kind.the-variants.{Shut, Asked, Change}
+use Rattle.phase.specs.Cases.{isChange, isOpen, isSmall, waits}
 use Rattle.phase.specs.Order.{roundOrEnds}
 use Rattle.item.specs.declared.Given.{Given}
 use Rattle.item.specs.declared.Given.the-variants.{Reading, Numbers}
-use Rattle.runs.specs.Trip.{Trip, itemOf, sumOf}
+use Rattle.runs.specs.Trip.{Trip, tripItem, sumOf}
 use Rattle.runs.specs.Buffers.{Written}
 use Rattle.runs.proofs.PassTrip.{gives-all}
 use Rattle.calls.specs.declared.Call.{Call}
 use Rattle.calls.specs.declared.Call.the-variants as call
 use Rattle.calls.specs.Step.{Lent}
-use Rattle.calls.specs.State.{isChange, isOpen, isSmall, State, inPass, buffersIn, closed, goesOn}
-use Rattle.calls.specs.Table.{waits, passNext, openingsNext, changeNext, bothLong, totalFits}
+use Rattle.calls.specs.State.{State, inPass, buffersIn, closed, goesOn}
+use Rattle.calls.specs.Table.{passWaits, openingsNext, changeWaits, bothLong, totalFits}
 use Rattle.calls.specs.Meaning.{itemWrites}
 use Rattle.calls.specs.Statement.{Sized}
 use Rattle.calls.specs.Proper.{ItemFits, Valid, itemsBelow, wholePass, Host, hostOn}
@@ -59,9 +60,9 @@ module _ (p : ℕ) (large : maxWeight < p) (through : Bool) (T : Trip) (due : Ty
     rounds-so : w .world .state .start .rounds ≡ n
     rounds-so = ap (λ s. s .rounds) (st .going .start)
 
-    open-lives : passNext Small t ≡ true → ((w : Host) → Stands Small t i Asked 0 w → Lives p T through w cs) → Lives p T through w (call.OpenPass ∷ cs)
+    open-lives : passWaits Small t ≡ true → ((w : Host) → Stands Small t i Asked 0 w → Lives p T through w cs) → Lives p T through w (call.OpenPass ∷ cs)
     open-lives turn on =
-        let free = open-free p (w .world .state) (w .lent) (ap₂ passNext (st .mode) (st .next) ∙ turn) in
+        let free = open-free p (w .world .state) (w .lent) (ap₂ passWaits (st .mode) (st .next) ∙ turn) in
         call-lives p large through T due valid Small t i k q w st call.OpenPass (other-sized _ refl) false refl free tt cs
         (λ v r. on _ (stands p large through T due valid Small t i k q w st call.OpenPass v Small t i Asked 0 (st .mode) (st .next) (st .round) refl refl
         (λ y. still (w .world .state) (inPass (w .world .state) Asked 0 []) (w .lent) (made p T w call.OpenPass .lent) _ _ refl refl (r .f) (r .g) (st .left refl))))
@@ -74,10 +75,10 @@ module _ (p : ℕ) (large : maxWeight < p) (through : Bool) (T : Trip) (due : Ty
         (λ v r. on _ (stands p large through T due valid Small t i k q w st (call.OpenAt b) v Small t i Asked 0 (st .mode) (st .next) (st .round) refl refl
         (λ y. still (w .world .state) (inPass (w .world .state) Asked b []) (w .lent) (made p T w (call.OpenAt b) .lent) _ _ refl refl (r .f) (r .g) (st .left refl))))
 
-    to-full-lives : changeNext Small t n ≡ true → due → ((w : Host) → Stands Small t i Change 0 w → Lives p T through w cs) → Lives p T through w (call.ToFull ∷ cs)
+    to-full-lives : changeWaits Small t n ≡ true → due → ((w : Host) → Stands Small t i Change 0 w → Lives p T through w cs) → Lives p T through w (call.ToFull ∷ cs)
     to-full-lives turn d on =
-        let now : changeNext (w .world .state .turn .mode) (w .world .state .turn .next) (w .world .state .start .rounds) ≡ true
-        = ap₂ (λ m t. changeNext m t (w .world .state .start .rounds)) (st .mode) (st .next) ∙ ap (changeNext Small t) rounds-so ∙ turn in
+        let now : changeWaits (w .world .state .turn .mode) (w .world .state .turn .next) (w .world .state .start .rounds) ≡ true
+        = ap₂ (λ m t. changeWaits m t (w .world .state .start .rounds)) (st .mode) (st .next) ∙ ap (changeWaits Small t) rounds-so ∙ turn in
         let free = to-full-free p (w .world .state) (w .lent) now (fits-long p large through T due valid Small t i k q w st (w .lent) (st .room d)) in
         call-lives p large through T due valid Small t i k q w st call.ToFull (other-sized _ refl) false refl free tt cs
         (λ v r. on _ (stands p large through T due valid Small t i k q w st call.ToFull v Small t i Change 0 (st .mode) (st .next) (st .round) refl refl
@@ -88,8 +89,8 @@ module _ (p : ℕ) (large : maxWeight < p) (through : Bool) (T : Trip) (due : Ty
     abbrev a : State
     a = w .world .state
 
-    kept-item : (x : Given) → x ≡ itemOf T (L - 1 - q) → ItemKept p T through a x (w .lent)
-    kept-item x e = (e ∙ ap (λ q. itemOf T (L - 1 - q)) (sym (st .taken)), λ y j h. st .left refl j)
+    kept-item : (x : Given) → x ≡ tripItem T (L - 1 - q) → ItemKept p T through a x (w .lent)
+    kept-item x e = (e ∙ ap (λ q. tripItem T (L - 1 - q)) (sym (st .taken)), λ y j h. st .left refl j)
 
     more-so : length (a .pass .items) < a .start .items
     more-so = omega (arith, st .taken, ap (λ s. s .items) (st .going .start))
@@ -117,7 +118,7 @@ module _ (p : ℕ) (large : maxWeight < p) (through : Bool) (T : Trip) (due : Ty
     item-sized (Reading r m) fits = small-sized (call.Give (Reading r m)) (fits .1)
     item-sized (Numbers x y) fits = other-sized (call.Give (Numbers x y)) refl
 
-    item-lives : (x : Given) → ItemFits p (T .start .plain) x → x ≡ itemOf T (L - 1 - q) → (cs : List Call)
+    item-lives : (x : Given) → ItemFits p (T .start .plain) x → x ≡ tripItem T (L - 1 - q) → (cs : List Call)
         → ((w : Host) → Stands Small t i k (suc q) w → Lives p T through w cs) → Lives p T through w (call.Give x ∷ cs)
     item-lives x fits e cs on =
         let c : Call = call.Give x in
@@ -133,7 +134,7 @@ module _ (p : ℕ) (large : maxWeight < p) (through : Bool) (T : Trip) (due : Ty
   items-live t i k op may zero q e w st cs on = on w (subst (λ q. Stands Small t i k q w) (let z : q ≡ L = omega arith in z) st)
   items-live t i k op may (suc rest) q e w st cs on =
       let at-rest : rest ≡ L - 1 - q = omega arith in
-      item-lives t i k op may q w st (omega arith) (itemOf T rest) (valid .items rest (omega arith)) (ap (itemOf T) at-rest) (itemsBelow T rest ++ cs)
+      item-lives t i k op may q w st (omega arith) (tripItem T rest) (valid .items rest (omega arith)) (ap (tripItem T) at-rest) (itemsBelow T rest ++ cs)
       (λ w st. items-live t i k op may rest (suc q) (omega arith) w st cs on)
 
   -- CLOSED: what follows
@@ -221,7 +222,7 @@ module _ (p : ℕ) (large : maxWeight < p) (through : Bool) (T : Trip) (due : Ty
         (λ w st. rest-lives next.Openings i Asked refl asked-free Small next.Openings
         (λ a es em et. record { mode = em; next = refl; challenges = refl; kind = refl; items = refl; f = refl; g = refl }) w st cs on)
 
-    pub change-lives : (t : Next) → changeNext Small t n ≡ true → due → Stands Small t i k q w → ((w : Host) → Stands Full t i Shut 0 w → Lives p T through w cs)
+    pub change-lives : (t : Next) → changeWaits Small t n ≡ true → due → Stands Small t i k q w → ((w : Host) → Stands Full t i Shut 0 w → Lives p T through w cs)
         → Lives p T through w (wholePass T call.ToFull ++ cs)
     change-lives t turn d st on =
         to-full-lives t i k q w st _ turn d

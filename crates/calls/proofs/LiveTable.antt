@@ -11,16 +11,17 @@ use Rattle.vector.specs.Vector.{at}
 use Rattle.vector.specs.Slice.{isNonzero}
 use Rattle.vector.proofs.Every.{reduced-all}
 use Rattle.phase.specs.declared.Next.the-variants as next
+use Rattle.phase.specs.Cases.{isChange, isFull, isOpen, isSmall, waits}
 use Rattle.prover.specs.declared.Run.{Run}
 use Rattle.prover.specs.declared.Pass.{Pass}
 use Rattle.calls.specs.declared.Call.{Call}
 use Rattle.calls.specs.declared.Call.the-variants as call
 use Rattle.calls.specs.Step.{Lent, isAnswered, step}
-use Rattle.calls.specs.State.{isChange, isFull, isOpen, isSmall, State}
+use Rattle.calls.specs.State.{State}
 use Rattle.item.specs.declared.Given.{Given}
 use Rattle.item.specs.declared.Given.the-variants.{Reading, Numbers}
 use Rattle.calls.specs.Proper.{ItemFits}
-use Rattle.calls.specs.Table.{Refusal, row, rowAt, waits, passNext, openingsNext, changeNext, long, bothLong, readRows, givenRows, placeRow, totalFits, table}
+use Rattle.calls.specs.Table.{Refusal, row, rowAt, passWaits, openingsNext, changeWaits, long, bothLong, readRows, givenRows, placeRow, totalFits, table}
 use Rattle.calls.specs.Statement.{Sized, Decides}
 use Rattle.calls.proofs.Records.{Notes}
 use Rattle.calls.proofs.Refusals.{Inv, decide-step}
@@ -42,7 +43,7 @@ module _ (p : ℕ) (a : State) (l : Lent) where
       row-free _ 9 _ (long-enough f g)
       (row-free _ 16 none (ap₂ _&&_ (sym (reduced-all p (long a) (l .f) (λ j h. below j h .0))) (sym (reduced-all p (long a) (l .g) (λ j h. below j h .1)))) refl)
 
-  pub open-free : passNext (a .turn .mode) (a .turn .next) ≡ true → table p a call.OpenPass l ≡ none
+  pub open-free : passWaits (a .turn .mode) (a .turn .next) ≡ true → table p a call.OpenPass l ≡ none
   unfolding table
   open-free turn = row-free _ 10 none turn refl
 
@@ -50,7 +51,7 @@ module _ (p : ℕ) (a : State) (l : Lent) where
   unfolding table
   open-at-free b small turn ok = row-free _ 10 _ (ap₂ _&&_ small turn) (row-free _ 6 none ok refl)
 
-  pub to-full-free : changeNext (a .turn .mode) (a .turn .next) (a .start .rounds) ≡ true → bothLong a l ≡ true → table p a call.ToFull l ≡ none
+  pub to-full-free : changeWaits (a .turn .mode) (a .turn .next) (a .start .rounds) ≡ true → bothLong a l ≡ true → table p a call.ToFull l ≡ none
   unfolding table
   to-full-free turn long = row-free _ 10 _ turn (row-free _ 9 none long refl)
 

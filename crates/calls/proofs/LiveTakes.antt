@@ -10,12 +10,13 @@ use Rattle.phase.specs.declared.Next.{Next}
 use Rattle.phase.specs.declared.Next.the-variants as next
 use Rattle.phase.specs.declared.Kind.{Kind}
 use Rattle.phase.specs.declared.Kind.the-variants.{Shut, Asked, Change}
+use Rattle.phase.specs.Cases.{isChange, isFull}
 use Rattle.runs.specs.Trip.{Trip}
 use Rattle.calls.specs.declared.Call.{Call}
 use Rattle.calls.specs.declared.Call.the-variants as call
 use Rattle.calls.specs.Lists.{along, always, each}
 use Rattle.calls.specs.Step.{Lent, Result, isAnswered}
-use Rattle.calls.specs.State.{State, takesChallenge, closed, goesOn, follow, isChange, isFull}
+use Rattle.calls.specs.State.{State, takesChallenge, closed, goesOn, follow}
 use Rattle.calls.specs.World.{World, freshWorld, came}
 use Rattle.calls.specs.Proper.{itemsBelow, wholePass, answerBy, changeBefore, roundsFrom, openingsAt, endCalls, openingCalls, wholeRun, Host, makes, hostOn, properRun}
 use Rattle.calls.specs.Demand3.{AllAnswered, AllTake}

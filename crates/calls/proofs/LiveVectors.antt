@@ -10,7 +10,7 @@ use Rattle.algebra.proofs.Congruence.{base-of}
 use Rattle.field.proofs.Integers.{image-lt}
 use Rattle.item.specs.declared.Given.{Given}
 use Rattle.item.specs.declared.Given.the-variants.{Reading, Numbers}
-use Rattle.runs.specs.Trip.{Trip, itemOf, vectorF, vectorG}
+use Rattle.runs.specs.Trip.{Trip, tripItem, vectorF, vectorG}
 use Rattle.calls.specs.Proper.{ItemFits, Valid}
 use Rattle.calls.proofs.Follows.{positive}
 use Rattle.calls.proofs.Fits.{Fine}
@@ -25,8 +25,8 @@ module _ (p : ℕ) (large : maxWeight < p) (T : Trip) (valid : Valid p T) where
   padded-below j true x h = h refl
   padded-below j false x h = positive p large
 
-  fits-at : (j : ℕ) → ltb j (T .start .items) ≡ true → Fine p (T .start) (itemOf T j)
-  fits-at j e = item-below (T .start .plain) (itemOf T j) (valid .items j (ltb-true j (T .start .items) e))
+  fits-at : (j : ℕ) → ltb j (T .start .items) ≡ true → Fine p (T .start) (tripItem T j)
+  fits-at j e = item-below (T .start .plain) (tripItem T j) (valid .items j (ltb-true j (T .start .items) e))
 
   pub f-below : (j : ℕ) → vectorF p T j < p
   f-below j = padded-below j (ltb j (T .start .items)) _ (λ e. enters-below p (positive p large) (T .start) j _ (fits-at j e .0))

@@ -16,15 +16,16 @@ use Rattle.phase.specs.declared.Next.{Next}
 use Rattle.phase.specs.declared.Next.the-variants as next
 use Rattle.phase.specs.declared.Kind.{Kind}
 use Rattle.phase.specs.declared.Kind.the-variants.{Shut, Asked, Change}
+use Rattle.phase.specs.Cases.{isFull, waits}
 use Rattle.runs.specs.Trip.{Trip, vectorF, vectorG}
 use Rattle.runs.specs.Buffers.{Written}
 use Rattle.runs.proofs.CloseLaws.{fold-below}
 use Rattle.calls.specs.declared.Call.{Call}
 use Rattle.calls.specs.Lists.{after, along, each}
 use Rattle.calls.specs.Step.{Lent, Result, isAnswered}
-use Rattle.calls.specs.State.{isFull, State, withBuffers, buffersIn, goesOn}
+use Rattle.calls.specs.State.{State, withBuffers, buffersIn, goesOn}
 use Rattle.calls.specs.World.{Made, World, came, onward}
-use Rattle.calls.specs.Table.{waits, long, taken, completed, bothLong, readRows, table}
+use Rattle.calls.specs.Table.{long, taken, completed, bothLong, readRows, table}
 use Rattle.calls.specs.Meaning.{foldF, foldG}
 use Rattle.calls.specs.Statement.{Sized, Right, known}
 use Rattle.calls.specs.Proper.{Valid, Host, foldZero, lends, makes, hostOn}

@@ -17,7 +17,7 @@ use Rattle.phase.specs.declared.Next.{Next}
 use Rattle.phase.specs.declared.Next.the-variants as next
 use Rattle.phase.specs.declared.Kind.{Kind}
 use Rattle.phase.specs.declared.Kind.the-variants.{Shut, Asked, Change}
-use Rattle.phase.specs.Cases.{waits}
+use Rattle.phase.specs.Cases.{waits, isFull, isOpen}
 use Rattle.phase.specs.Order.{roundOrEnds, roundFits, kindFits}
 use Rattle.prover.specs.declared.Run.{Run}
 use Rattle.prover.specs.declared.Pass.{Pass}
@@ -31,7 +31,7 @@ use Rattle.prover.specs.Open.{newPass, noPoints, pointsOf, openKernel, paddedKe
 use Rattle.prover.specs.Close.{withTotal, goneTo, shutPass}
 use Rattle.prover.specs.Full.{messageTurn, endsTurn, openingTurn, bothReduced, messageGiven, endsGiven}
 use Rattle.prover.specs.Opening.{openingGiven}
-use Rattle.prover.specs.Written.{proofOf}
+use Rattle.prover.specs.Written.{runProof}
 use Rattle.prover.proofs.FullLaws as full
 use Rattle.prover.proofs.FullLaws.{message-law, ends-law}
 use Rattle.prover.proofs.OpeningLaws.{opening-law}
@@ -43,8 +43,8 @@ use Rattle.runs.proofs.PassTrip.{after-dot, after-sum}
 use Rattle.runs.proofs.CloseLaws.{closed-message, closed-ends, closed-opening}
 use Rattle.calls.specs.declared.Call.the-variants as call
 use Rattle.calls.specs.Step.{Lent}
-use Rattle.calls.specs.State.{isFull, isOpen, State}
-use Rattle.calls.specs.Table.{decided, waits, long, bothLong, readRows, table}
+use Rattle.calls.specs.State.{State}
+use Rattle.calls.specs.Table.{decided, long, bothLong, readRows, table}
 use Rattle.calls.specs.Meaning.{Answer, meant, roundMessage, ends, openingAt, closeAsks, foldF, foldG, messagesTo, proofOfTrip}
 use Rattle.calls.proofs.Records.{Notes, runOf, passOf}
 use Rattle.calls.proofs.Arrays.{array-take}
@@ -183,7 +183,7 @@ module _ (p : ℕ) (large : maxWeight < p) (through : Bool) (its : List Given) (
         ap repliedOut (same-out (sym here ∙ law))
 
   -- THE PROOF FILE
-  pub file-meant : (g : Agrees p through its a past) → a .start .plain ≡ true → a .turn .next ≡ next.Openings → proofOf R ≡ proofOfTrip p T (a .turn .challenges)
+  pub file-meant : (g : Agrees p through its a past) → a .start .plain ≡ true → a .turn .next ≡ next.Openings → runProof R ≡ proofOfTrip p T (a .turn .challenges)
   file-meant g plain et =
       let full : length (a .turn .challenges) ≡ n = eqb-true _ _ (subst (λ t. roundFits t (length (a .turn .challenges)) n ≡ true) et (h .run .round)) in
       let count : length (past .messages) ≡ 3 * n = h .run .given ∙ ap (λ t. 3 * givenAt (length (a .turn .challenges)) t) et ∙ ap (λ k. 3 * k) full in

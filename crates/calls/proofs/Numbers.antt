@@ -27,7 +27,7 @@ use Rattle.item.specs.declared.Start.{Start}
 use Rattle.item.specs.declared.Given.{Given}
 use Rattle.item.specs.declared.Given.the-variants.{Numbers}
 use Rattle.item.specs.Item.{contributes}
-use Rattle.runs.specs.Trip.{Trip, itemOf, entersAs, vectorF, vectorG}
+use Rattle.runs.specs.Trip.{Trip, tripItem, entersAs, vectorF, vectorG}
 use Rattle.runs.specs.Passes.{passAfter}
 use Rattle.runs.specs.Items.{ownTrip}
 use Rattle.runs.proofs.PassRecord.{after-kind}
@@ -60,11 +60,11 @@ module _ (p : ℕ) (some : 0 < p) where
     abbrev T : Trip
     T = ownTrip r xs
 
-    item-fine : (j : ℕ) → Fine p (r .start) (itemOf T j)
+    item-fine : (j : ℕ) → Fine p (r .start) (tripItem T j)
     item-fine = own-fine (r .start) (r .start .items - length xs) xs h
 
     f-below : (j : ℕ) → vectorF p T j < p
-    f-below = padded-below (r .start .items) _ (λ j. enters-below (T .start) j (contributes p (r .start) (itemOf T j) .f) (item-fine j .0))
+    f-below = padded-below (r .start .items) _ (λ j. enters-below (T .start) j (contributes p (r .start) (tripItem T j) .f) (item-fine j .0))
 
     g-below : (j : ℕ) → vectorG p T j < p
     g-below = padded-below (r .start .items) _ (λ j. item-fine j .1)

@@ -14,12 +14,13 @@ use Rattle.phase.specs.declared.Next.{Next}
 use Rattle.phase.specs.declared.Next.the-variants as next
 use Rattle.phase.specs.declared.Kind.{Kind}
 use Rattle.phase.specs.declared.Kind.the-variants.{Shut, Asked, Change}
+use Rattle.phase.specs.Cases.{isChange, isFull, isSmall, waits}
 use Rattle.calls.specs.declared.Call.{Call}
 use Rattle.calls.specs.declared.Call.the-variants as call
 use Rattle.calls.specs.Lists.{along, somewhere}
 use Rattle.calls.specs.Step.{Lent, Result, isAnswered}
-use Rattle.calls.specs.State.{State, takesChallenge, goesOn, closed, follow, isChange, isFull, isSmall}
-use Rattle.calls.specs.Table.{row, waits, passNext, openingsNext, table}
+use Rattle.calls.specs.State.{State, takesChallenge, goesOn, closed, follow}
+use Rattle.calls.specs.Table.{row, passWaits, openingsNext, table}
 use Rattle.calls.specs.Meaning.{Question, total, roundMessage, ends, openingAt, proof, done, closeAsks, question, Answer}
 use Rattle.calls.specs.World.{Made, World, came, onward}
 use Rattle.calls.specs.Given.{Gave}
@@ -71,7 +72,7 @@ module _ (p : ℕ) where
   close-pointed a next.Openings Asked h = refl
   close-pointed a t Change h = refl
 
-  open-pointed : (n : ℕ) (m : Mode) (t : Next) → passNext m t ≡ true → pointFits p n 0 t Asked ≡ true
+  open-pointed : (n : ℕ) (m : Mode) (t : Next) → passWaits m t ≡ true → pointFits p n 0 t Asked ≡ true
   open-pointed n Full t e = absurd (true≢false (sym e))
   open-pointed n Small next.Total e = refl
   open-pointed n Small next.Message e = refl
@@ -88,7 +89,7 @@ module _ (p : ℕ) where
 
   goes-pointed : (a : State) (c : Call) (l m : Lent) → table p a c l ≡ none → pointed p a ≡ true → pointed p (goesOn a c m) ≡ true
   unfolding table
-  goes-pointed a call.OpenPass l m e h = open-pointed (a .start .rounds) (a .turn .mode) (a .turn .next) (row-passed (passNext (a .turn .mode) (a .turn .next)) 10 none e .0)
+  goes-pointed a call.OpenPass l m e h = open-pointed (a .start .rounds) (a .turn .mode) (a .turn .next) (row-passed (passWaits (a .turn .mode) (a .turn .next)) 10 none e .0)
   goes-pointed a (call.OpenAt b) l m e h =
       let r = row-passed (isSmall (a .turn .mode) && openingsNext (a .turn .next) (a .start .rounds)) 10 (row (isNonzero p b) 6 none) e in
       at-pointed (a .start .rounds) b (a .turn .next) (row-passed (isNonzero p b) 6 none (r .1) .0) (both (isSmall (a .turn .mode)) (openingsNext (a .turn .next) (a .start .rounds)) (r .0) .1)

@@ -22,7 +22,7 @@ use Rattle.verifier.specs.Sums.{takes}
 use Rattle.verifier.specs.Claims.{messageOf3, closes, hears, finds}
 use Rattle.verifier.specs.Openings.{openingFinds}
 use Rattle.verifier.specs.Calls.{passOpen, withParts, give, close, closeClaim, allReduced3, message, verdict, hasRounds, checkOpening}
-use Rattle.verifier.specs.ProofFile.{Judgement, judges, withTotal, proof}
+use Rattle.verifier.specs.ProofFile.{Judgement, judges, readTotal, proof}
 use Rattle.verifier.proofs.Invariant.{formed-says}
 use Rattle.item.specs.declared.Start.{Start}
 use Rattle.item.specs.declared.Given.{Given}
@@ -30,7 +30,7 @@ use Rattle.item.specs.declared.Given.the-variants.{Reading, Numbers}
 use Rattle.item.specs.Item.{contributes, partsOf}
 use Rattle.calls.specs.declared.query.Query.the-variants as query
 use Rattle.calls.specs.QueryStep.{Shown}
-use Rattle.calls.specs.QueryState.{VerifierState, closeRows, isWanted, isWhole, fileRows, verifierTable}
+use Rattle.calls.specs.QueryState.{VerifierState, closeRows, isWanted, hasAll, fileRows, verifierTable}
 use Rattle.calls.specs.Table.{Refusal, decided, row, rowAt, givenRows}
 use Rattle.calls.proofs.Guards.{same-row, like-row}
 use Rattle.calls.proofs.QueryStands.{Stands, message-turn, verdict-turn}
@@ -69,7 +69,7 @@ module _ (p n : ℕ) (few : n ≤ 15) (file : List ℕ) where
       ∙ same-row (eqb (length file) (proofSize n)) 4 _ _ _
       (same-row (inLimits p (proofTotal file)) 7 _ _ _ (same-row (allBelow p (proofNumber file) (3 * n + 2)) 11 _ none _ refl)))))
 
-with-total : (t : Option Refusal) (h : Head) (rest : ℤ → Judgement) → withTotal (decided t (answered h)) rest ≡ decided t (answered (rest (h .total)))
+with-total : (t : Option Refusal) (h : Head) (rest : ℤ → Judgement) → readTotal (decided t (answered h)) rest ≡ decided t (answered (rest (h .total)))
 with-total none h rest = refl
 with-total (some (k, none)) h rest = refl
 with-total (some (k, some i)) h rest = refl
@@ -91,7 +91,7 @@ module _ (p : ℕ) (a : VerifierState) (v : Verifier) (s : Stands p a v) where
   unfolding passOpen
   open-test = formed-and _ _ (ap not (s .closed))
 
-  whole-test : eqb (v .taken) (v .start .items) ≡ isWhole a
+  whole-test : eqb (v .taken) (v .start .items) ≡ hasAll a
   whole-test = rw (s .carries .taken, s .carries .start)
 
   turn : {A : Type 0} (kind same : Bool) (rest : Outcome A) (t : Option Refusal) (o : Outcome A) → kind ≡ same
@@ -159,11 +159,11 @@ module _ (p : ℕ) (a : VerifierState) (v : Verifier) (s : Stands p a v) where
   verdict-decided l = formed-row _ _ (like-row _ _ 12 _ none _ (verdict-turn p a v s) refl)
 
   file-rows : (file : List ℕ)
-      → withTotal (readProofOf p (v .start .rounds) file) (λ total. judges p v total file)
+      → readTotal (readProofOf p (v .start .rounds) file) (λ total. judges p v total file)
       ≡ decided (fileRows p (a .start .rounds) file) (answered (judges p v (proofTotal file) file))
   file-rows file =
       let few = formed-says v (s .carries .formed) .few in
-      ap (λ o. withTotal o (λ total. judges p v total file)) (read-rows p (v .start .rounds) few file)
+      ap (λ o. readTotal o (λ total. judges p v total file)) (read-rows p (v .start .rounds) few file)
       ∙ with-total (fileRows p (v .start .rounds) file) (record { rounds = v .start .rounds; total = proofTotal file }) (λ total. judges p v total file)
       ∙ ap (λ n. decided (fileRows p n file) (answered (judges p v (proofTotal file) file))) (ap (λ s. s .rounds) (s .carries .start))
 

@@ -30,7 +30,7 @@ use Rattle.calls.specs.declared.query.Query.{Query}
 use Rattle.calls.specs.declared.query.Query.the-variants as query
 use Rattle.calls.specs.QueryStep.{Shown, replies, Spoken, ask}
 use Rattle.calls.specs.QueryStep as said
-use Rattle.calls.specs.QueryState.{VerifierState, takesItem, atRound, hearing, hears as goesOn, verifierTable}
+use Rattle.calls.specs.QueryState.{VerifierState, takesItem, atRound, hearing, goesOnHeard, verifierTable}
 use Rattle.calls.specs.Table.{decided}
 use Rattle.calls.proofs.QueryStands.{Carries, Stands, verdict-closed, verdict-turn}
 use Rattle.calls.proofs.QueryGuards.{proof-decided}
@@ -208,7 +208,7 @@ module _ (p : ℕ) (a : VerifierState) (v : Verifier) (s : Stands p a v) where
       verdict-stands p a w (carries-as v w (s .carries) (file-base p v (l .file)) (f .0)) (t .0)
 
   -- THE STATE AFTER AN ANSWERED CALL
-  pub stands-after : (c : Query) (l : Shown) → verifierTable p a c l ≡ none → Stands p (goesOn a c (saysSo p v c l)) (goesTo p v c l)
+  pub stands-after : (c : Query) (l : Shown) → verifierTable p a c l ≡ none → Stands p (goesOnHeard a c (saysSo p v c l)) (goesTo p v c l)
   stands-after (query.Give x) l e = item-stands _ _ _ (item-rows p a l x e .unclosed) (formed-answered (query.Give x) l e)
   stands-after (query.Close t) l e = close-stands (image p t) (close-rows p a l t e .unclosed) (formed-answered (query.Close t) l e)
   stands-after (query.CloseClaim c) l e = close-stands c (claim-rows p a l c e .unclosed) (formed-answered (query.CloseClaim c) l e)

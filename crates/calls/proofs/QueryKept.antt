@@ -6,7 +6,7 @@ use Rattle.verifier.specs.Records.{yes, no}
 use Rattle.calls.specs.declared.query.Query.{Query}
 use Rattle.calls.specs.declared.query.Query.the-variants as query
 use Rattle.calls.specs.QueryStep.{Said, replies, finds, opens}
-use Rattle.calls.specs.QueryState.{VerifierState, hearing, hears, followHeard}
+use Rattle.calls.specs.QueryState.{VerifierState, hearing, goesOnHeard, followHeard}
 
 heard-kept : (b : VerifierState) (t : Said) → (hearing b t .start ≡ b .start) × (hearing b t .challenges ≡ b .challenges)
 heard-kept b (replies reply.started) = (refl, refl)
@@ -18,7 +18,7 @@ heard-kept b (finds yes) = (refl, refl)
 heard-kept b (finds (no k)) = (refl, refl)
 heard-kept b (opens x) = (refl, refl)
 
-pub hears-kept : (b : VerifierState) (q : Query) (t : Said) → (hears b q t .start ≡ b .start) × (hears b q t .challenges ≡ b .challenges)
+pub hears-kept : (b : VerifierState) (q : Query) (t : Said) → (goesOnHeard b q t .start ≡ b .start) × (goesOnHeard b q t .challenges ≡ b .challenges)
 hears-kept b (query.Give x) t = (refl, refl)
 hears-kept b (query.Close z) t = heard-kept b t
 hears-kept b (query.CloseClaim c) t = heard-kept b t

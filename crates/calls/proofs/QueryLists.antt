@@ -8,7 +8,7 @@ use Rattle.item.specs.declared.Start.{Start}
 use Rattle.calls.specs.declared.query.Query.{Query}
 use Rattle.calls.specs.Step.{isAnswered}
 use Rattle.calls.specs.QueryStep.{Shown, Spoken, ask}
-use Rattle.calls.specs.QueryState.{VerifierState, hears, followHeard, verifierTable, Posed, Hearing, freshHearing, hearsOn, DecidesHeard}
+use Rattle.calls.specs.QueryState.{VerifierState, goesOnHeard, followHeard, verifierTable, Posed, Hearing, freshHearing, hearsOn, DecidesHeard}
 use Rattle.calls.specs.Lists.{along}
 use Rattle.calls.specs.Starts.{Startable}
 use Rattle.calls.specs.Demand3.{AllDecidedHeard}
@@ -29,7 +29,7 @@ module _ (p : ℕ) (a : VerifierState) (v : Verifier) (c : Query) (l : Shown) wh
 
   -- what holds of the state and the verifier after a call
   pub follows : (P : VerifierState → Verifier → Type 0) (t : Option Refusal) (x : Spoken) → x ≡ settledHeard v t (answers p v c l)
-      → P a v → (t ≡ none → P (hears a c (saysSo p v c l)) (goesTo p v c l)) → P (followHeard a c (x .told)) (x .verifier)
+      → P a v → (t ≡ none → P (goesOnHeard a c (saysSo p v c l)) (goesTo p v c l)) → P (followHeard a c (x .told)) (x .verifier)
   follows P none x e before after = subst (λ (h : Spoken). P (followHeard a c (h .told)) (h .verifier)) (sym e) (after refl)
   follows P (some k) x e before after =
       subst (λ (h : Spoken). P (followHeard a c (h .told)) (h .verifier)) (sym e)

@@ -16,7 +16,7 @@ use Rattle.item.specs.declared.Given.{Given}
 use Rattle.item.specs.declared.Given.the-variants.{Reading, Numbers}
 use Rattle.calls.specs.declared.query.Query.the-variants as query
 use Rattle.calls.specs.QueryStep.{Shown}
-use Rattle.calls.specs.QueryState.{VerifierState, closeRows, isWanted, isWhole, fileRows, verifierTable}
+use Rattle.calls.specs.QueryState.{VerifierState, closeRows, isWanted, hasAll, fileRows, verifierTable}
 use Rattle.calls.specs.Table.{Refusal, row, givenRows}
 use Rattle.calls.proofs.Steps.{row-passed}
 use Rattle.calls.proofs.Turns.{row-at-passed}
@@ -25,14 +25,14 @@ use Rattle.calls.proofs.HeardTrip.{Fine}
 -- a close while the pass is open, of all items and of the run's kind
 pub record InPass (a : VerifierState) (kind : Bool) (rows : Option Refusal) : Type 0 where
   pub unclosed : a .closed ≡ false
-  pub counted : isWhole a ≡ true
+  pub counted : hasAll a ≡ true
   pub same : kind ≡ true
   pub rest : rows ≡ none
 
 in-pass : (a : VerifierState) (kind : Bool) (rest : Option Refusal) → closeRows a kind rest ≡ none → InPass a kind rest
 in-pass a kind rest e =
-    let x = row-passed (not (a .closed)) 10 (row (isWhole a) 8 (row kind 10 rest)) e in
-    let y = row-passed (isWhole a) 8 (row kind 10 rest) (x .1) in
+    let x = row-passed (not (a .closed)) 10 (row (hasAll a) 8 (row kind 10 rest)) e in
+    let y = row-passed (hasAll a) 8 (row kind 10 rest) (x .1) in
     let z = row-passed kind 10 rest (y .1) in
     record { unclosed = not-true (a .closed) (x .0); counted = y .0; same = z .0; rest = z .1 }
 

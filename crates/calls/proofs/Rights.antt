@@ -18,13 +18,14 @@ use Rattle.vector.specs.Fold.{fold, foldWith}
 use Rattle.vector.specs.Slice.{isNonzero}
 use Rattle.vector.proofs.Rounds.{size-all}
 use Rattle.vector.proofs.Padding.{padded-zero}
+use Rattle.phase.proofs.Facts.{waits-for}
 use Rattle.phase.specs.declared.Mode.{Mode}
 use Rattle.phase.specs.declared.Mode.the-variants.{Small, Full}
 use Rattle.phase.specs.declared.Next.{Next}
 use Rattle.phase.specs.declared.Next.the-variants as next
 use Rattle.phase.specs.declared.Kind.{Kind}
 use Rattle.phase.specs.declared.Kind.the-variants.{Shut, Asked, Change}
-use Rattle.phase.specs.Cases.{waits}
+use Rattle.phase.specs.Cases.{waits, isChange, isFull, isOpen}
 use Rattle.phase.specs.Order.{roundFits, kindFits}
 use Rattle.prover.specs.declared.Run.{Run}
 use Rattle.prover.specs.declared.Pass.{Pass}
@@ -36,7 +37,7 @@ use Rattle.prover.specs.Challenge.{challengeTurn, challengedFull}
 use Rattle.prover.specs.Opening.{openingGiven}
 use Rattle.item.specs.declared.Given.{Given}
 use Rattle.item.specs.Item.{contributes}
-use Rattle.runs.specs.Trip.{Trip, itemOf, vectorF, vectorG}
+use Rattle.runs.specs.Trip.{Trip, tripItem, vectorF, vectorG}
 use Rattle.runs.specs.Passes.{passAfter}
 use Rattle.runs.specs.Buffers.{Written}
 use Rattle.runs.proofs.PassRecord.{takes-answer, takes-values, after-kind}
@@ -44,8 +45,8 @@ use Rattle.runs.proofs.ChangeLaws.{asked-leaves}
 use Rattle.calls.specs.declared.Call.{Call}
 use Rattle.calls.specs.declared.Call.the-variants as call
 use Rattle.calls.specs.Step.{Lent, Result, leaving}
-use Rattle.calls.specs.State.{isChange, isFull, isOpen, State, inPass, withItem, takesChallenge, buffersIn, goesOn}
-use Rattle.calls.specs.Table.{waits, openingsNext, changeNext, levelNow, level, long, taken, completed, bothLong, readRows, table}
+use Rattle.calls.specs.State.{State, inPass, takesGiven, takesChallenge, buffersIn, goesOn}
+use Rattle.calls.specs.Table.{openingsNext, changeWaits, levelNow, level, long, taken, completed, bothLong, readRows, table}
 use Rattle.calls.specs.Meaning.{meaning, foldF, foldG, AsLeft, itemWrites, challengeWrites}
 use Rattle.calls.specs.Statement.{known, Right}
 use Rattle.calls.proofs.Records.{Notes, runOf, passOf}
@@ -53,7 +54,7 @@ use Rattle.calls.proofs.Arrays.{array-at}
 use Rattle.calls.proofs.Guards.{challengeDoes}
 use Rattle.calls.proofs.Steps.{row-passed, closeStep, does}
 use Rattle.calls.proofs.Fits.{Fits, formed, kind-is}
-use Rattle.calls.proofs.Turns.{both, waits-for}
+use Rattle.calls.proofs.Turns.{both}
 use Rattle.calls.proofs.ItemRows.{Admitted, item-admitted}
 use Rattle.calls.proofs.Agrees.{tripAt, knownIn, Agrees}
 use Rattle.calls.proofs.KeptCalls.{ItemKept, KeptBy}
@@ -100,7 +101,7 @@ module _ (p : ℕ) (large : maxWeight < p) (through : Bool) (its : List Given) (
   to-full-right : table p a call.ToFull l ≡ none → Right p T a call.ToFull l (does p R S call.ToFull l)
   unfolding table
   to-full-right e =
-      let b = both-long (row-passed (bothLong a l) 9 none (row-passed (changeNext (a .turn .mode) (a .turn .next) (a .start .rounds)) 10 _ e .1) .0) in
+      let b = both-long (row-passed (bothLong a l) 9 none (row-passed (changeWaits (a .turn .mode) (a .turn .next) (a .start .rounds)) 10 _ e .1) .0) in
       record {
         answer = refl;
         values = refl;
@@ -119,7 +120,7 @@ module _ (p : ℕ) (large : maxWeight < p) (through : Bool) (its : List Given) (
   refolded v w from to xs ys e r = record { size = r .size; wrote = λ j lo hi. r .wrote j lo hi ∙ e j; below = r .below; above = r .above }
 
   item-buffers : (x : Given) (k : Kind) → a .pass .kind ≡ k → isOpen k ≡ true → length (a .pass .items) < a .start .items → kindFits k (a .turn .mode) (a .turn .next) ≡ true
-      → (not (isChange k) || bothLong a l) ≡ true → x ≡ itemOf T (a .start .items - 1 - length (a .pass .items))
+      → (not (isChange k) || bothLong a l) ≡ true → x ≡ tripItem T (a .start .items - 1 - length (a .pass .items))
       → (let o : Out = takes p R (passAfter p R k (a .pass .point) (a .pass .items)) (contributes p (a .start) x) (l .f) (l .g) in
       Written (foldF p T a) (itemWrites a k .0) (itemWrites a k .1) (l .f) (o .f) × Written (foldG p T a) (itemWrites a k .0) (itemWrites a k .1) (l .g) (o .g))
   item-buffers x Shut ek op more fit there e = absurd (true≢false (sym op))
@@ -141,7 +142,7 @@ module _ (p : ℕ) (large : maxWeight < p) (through : Bool) (its : List Given) (
       later Small next.Ends e = refl
       later Small next.Openings e = refl
 
-  pub item-written-so : (x : Given) → Admitted p a x l → x ≡ itemOf T (a .start .items - 1 - length (a .pass .items))
+  pub item-written-so : (x : Given) → Admitted p a x l → x ≡ tripItem T (a .start .items - 1 - length (a .pass .items))
       → (let o : Out = takes p R S (contributes p (a .start) x) (l .f) (l .g) in
       Written (foldF p T a) (itemWrites a (a .pass .kind) .0) (itemWrites a (a .pass .kind) .1) (l .f) (o .f)
       × Written (foldG p T a) (itemWrites a (a .pass .kind) .0) (itemWrites a (a .pass .kind) .1) (l .g) (o .g))
@@ -162,7 +163,7 @@ module _ (p : ℕ) (large : maxWeight < p) (through : Bool) (its : List Given) (
   item-leaves : (x : Given) → Admitted p a x l → ItemKept p T through a x l
       → (let o : Result = leaving l (takes p R S (contributes p (a .start) x) (l .f) (l .g)) in
       let z : ℕ × ℕ = itemWrites a (a .pass .kind) in
-      let b : State = withItem a x (o .lent) in
+      let b : State = takesGiven a x (o .lent) in
       (o .answer ≡ answered reply.taken) × (o .values ≡ noValues) × Written (foldF p T b) (z .0) (z .1) (l .f) (o .lent .f) × Written (foldG p T b) (z .0) (z .1) (l .g) (o .lent .g))
   item-leaves x q kept =
       let o : Result = leaving l (takes p R S (contributes p (a .start) x) (l .f) (l .g)) in

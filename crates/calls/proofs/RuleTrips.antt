@@ -14,7 +14,7 @@ use Rattle.vector.proofs.TwistPowers.{twists-weight}
 use Rattle.prover.specs.Reply as reply
 use Rattle.item.specs.declared.Given.the-variants.{Numbers}
 use Rattle.item.specs.Item.{contributes}
-use Rattle.runs.specs.Trip.{Trip, itemOf, vectorF, vectorG}
+use Rattle.runs.specs.Trip.{Trip, tripItem, vectorF, vectorG}
 use Rattle.r1cs.specs.Check.{ruleFirst, ruleSecond, ruleTotal, ruleMessage}
 use Rattle.r1cs.proofs.RuleTotals.{padded-same, rule-first}
 use Rattle.calls.specs.Meaning.{meant, says, total, messageAt}
@@ -42,7 +42,7 @@ module _ (p v n : ℕ) (few : n ≤ 15) (a b : Vector) where
       let most : 2 ^ n ≤ 2 ^ 15 = pow-mono few in
       record { start = record { least = pow-pos n; most = most; rounds = sym (rounds-power n few) }; items = pairs-length a b 0 (2 ^ n) }
 
-  item-at : (i : ℕ) → i < 2 ^ n → itemOf T i ≡ Numbers (a i) (b i)
+  item-at : (i : ℕ) → i < 2 ^ n → tripItem T i ≡ Numbers (a i) (b i)
   item-at i less = pairs-at a b 0 (2 ^ n) i less ∙ ap (λ k. Numbers (a k) (b k)) (zero-add i)
 
   pub rule-vector-f : vectorF p T ≡ ruleFirst p v n a

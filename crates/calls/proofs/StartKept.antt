@@ -47,7 +47,7 @@ use Rattle.verifier.specs.Claims.{messageOf3, closedWith, closes, passedWith, f
 use Rattle.verifier.specs.WellFormed.{wellFormed}
 use Rattle.verifier.specs.Calls as calls
 use Rattle.verifier.specs.Calls.{withParts, give, close, closeClaim, allReduced3, message}
-use Rattle.verifier.specs.ProofFile.{fileMessage, hearsNext, hearsFirst, endsAgree, compares, afterFile, Judgement, judges, withTotal as withFile, proof, leavesJudged}
+use Rattle.verifier.specs.ProofFile.{fileMessage, hearsNext, hearsFirst, endsAgree, compares, afterFile, Judgement, judges, readTotal, proof, leavesJudged}
 use Rattle.wire.specs.Proof.{Head, readProofOf}
 use lib.IntN.{ℤ}
 use Rattle.calls.specs.declared.Call.{Call}
@@ -231,7 +231,7 @@ module _ (p : ℕ) (v : Verifier) where
   judged-check true k rest h = h
   judged-check false k rest h = record { so-judged = refl }
 
-  judged : (o : Outcome Head) (file : List ℕ) → Judges (withFile o (λ total. judges p v total file))
+  judged : (o : Outcome Head) (file : List ℕ) → Judges (readTotal o (λ total. judges p v total file))
   judged (answered x) file = record { so-judged = file-start p v (x .total) file }
   judged (refused k) file = record { so-judged = refl }
   judged (refusedAt k i) file = record { so-judged = refl }

@@ -17,7 +17,7 @@ use Rattle.phase.specs.declared.Next.{Next}
 use Rattle.phase.specs.declared.Next.the-variants as next
 use Rattle.phase.specs.declared.Kind.{Kind}
 use Rattle.phase.specs.declared.Kind.the-variants.{Shut, Asked, Change}
-use Rattle.phase.specs.Cases.{waits}
+use Rattle.phase.specs.Cases.{waits, isOpen}
 use Rattle.phase.specs.Order.{kindFits}
 use Rattle.prover.specs.declared.Run.{Run}
 use Rattle.prover.specs.declared.Pass.{Pass}
@@ -31,14 +31,14 @@ use Rattle.prover.specs.Change.{changes}
 use Rattle.prover.specs.Close.{totalStep, messageStep, endsStep, openingStep, changedStep, finished, closing, leavesStep}
 use Rattle.prover.specs.Full.{messageGiven, endsGiven}
 use Rattle.prover.specs.Opening.{openingGiven}
-use Rattle.prover.specs.Written.{mayWrite, writeCall, writtenStep, proofOf}
+use Rattle.prover.specs.Written.{mayWrite, writeCall, writtenStep, runProof}
 use Rattle.item.specs.Item.{contributes}
 use Rattle.runs.specs.Trip.{sumOf}
 use Rattle.calls.specs.declared.Call.{Call}
 use Rattle.calls.specs.declared.Call.the-variants as call
 use Rattle.calls.specs.Step.{Lent, Result, keeping, leaving, step}
-use Rattle.calls.specs.State.{isOpen, State}
-use Rattle.calls.specs.Table.{Refusal, refusedWith, decided, row, waits, table}
+use Rattle.calls.specs.State.{State}
+use Rattle.calls.specs.Table.{Refusal, refusedWith, decided, row, table}
 use Rattle.calls.proofs.Records.{Notes, runOf}
 use Rattle.calls.proofs.Guards.{challengeDoes, same-row, like-row, proof-next, open-decided, open-at-decided, to-full-decided, message-decided, ends-decided, opening-decided, challenge-decided, item-decided, close-decided}
 
@@ -74,7 +74,7 @@ does p r s call.WriteProof l =
       pass = s;
       answer = answered (reply.written (proofSize (r .start .rounds)));
       values = noValues;
-      lent = record { f = l .f; g = l .g; file = proofOf r ++ drop (proofSize (r .start .rounds)) (l .file) };
+      lent = record { f = l .f; g = l .g; file = runProof r ++ drop (proofSize (r .start .rounds)) (l .file) };
     }
 
 abbrev pub refusedResult : Run → Pass → Lent → Refusal → Result
@@ -152,7 +152,7 @@ module _ (p : ℕ) (a : State) (past : Notes) (few : a .start .rounds ≤ 15) (s
     write-so l = like-row _ _ 10 _ _ _ write-turn (file-rows (l .file))
 
     write-settled : (l : Lent) (t : Option Refusal) (o : Outcome ℕ) → o ≡ decided t (answered (proofSize (a .start .rounds)))
-        → keepingStep (record { f = l .f; g = l .g; file = writtenIn o (proofOf R) (l .file) }) (writtenStep R s o)
+        → keepingStep (record { f = l .f; g = l .g; file = writtenIn o (runProof R) (l .file) }) (writtenStep R s o)
         ≡ settled R s l t (does p R s call.WriteProof l)
     unfolding writtenIn
     write-settled l none o e = rw e

@@ -9,10 +9,9 @@ use Rattle.phase.specs.declared.Next.{Next}
 use Rattle.phase.specs.declared.Next.the-variants as next
 use Rattle.phase.specs.declared.Kind.{Kind}
 use Rattle.phase.specs.declared.Kind.the-variants.{Shut, Asked, Change}
-use Rattle.phase.specs.Cases.{waits}
+use Rattle.phase.specs.Cases.{waits, isFull, isSmall}
 use Rattle.phase.specs.Order.{kindFits}
-use Rattle.calls.specs.State.{isFull, isSmall}
-use Rattle.calls.specs.Table.{Refusal, rowAt, waits, openingsNext}
+use Rattle.calls.specs.Table.{Refusal, rowAt, openingsNext}
 use Rattle.calls.proofs.Steps.{some-none}
 
 -- tests that hold
@@ -53,34 +52,6 @@ change-kind Small next.Message n e = refl
 change-kind Small next.Challenge n e = absurd (true≢false (sym e))
 change-kind Small next.Ends n e = refl
 change-kind Small next.Openings n e = refl
-
--- the test of what is next
-pub waits-for : (t now : Next) → waits t now ≡ true → now ≡ t
-waits-for next.Total next.Total e = refl
-waits-for next.Total next.Message e = absurd (true≢false (sym e))
-waits-for next.Total next.Challenge e = absurd (true≢false (sym e))
-waits-for next.Total next.Ends e = absurd (true≢false (sym e))
-waits-for next.Total next.Openings e = absurd (true≢false (sym e))
-waits-for next.Message next.Total e = absurd (true≢false (sym e))
-waits-for next.Message next.Message e = refl
-waits-for next.Message next.Challenge e = absurd (true≢false (sym e))
-waits-for next.Message next.Ends e = absurd (true≢false (sym e))
-waits-for next.Message next.Openings e = absurd (true≢false (sym e))
-waits-for next.Challenge next.Total e = absurd (true≢false (sym e))
-waits-for next.Challenge next.Message e = absurd (true≢false (sym e))
-waits-for next.Challenge next.Challenge e = refl
-waits-for next.Challenge next.Ends e = absurd (true≢false (sym e))
-waits-for next.Challenge next.Openings e = absurd (true≢false (sym e))
-waits-for next.Ends next.Total e = absurd (true≢false (sym e))
-waits-for next.Ends next.Message e = absurd (true≢false (sym e))
-waits-for next.Ends next.Challenge e = absurd (true≢false (sym e))
-waits-for next.Ends next.Ends e = refl
-waits-for next.Ends next.Openings e = absurd (true≢false (sym e))
-waits-for next.Openings next.Total e = absurd (true≢false (sym e))
-waits-for next.Openings next.Message e = absurd (true≢false (sym e))
-waits-for next.Openings next.Challenge e = absurd (true≢false (sym e))
-waits-for next.Openings next.Ends e = absurd (true≢false (sym e))
-waits-for next.Openings next.Openings e = refl
 
 -- IN FULL MODE no pass is open
 pub full-shut : (k : Kind) (m : Mode) (t : Next) → isFull m ≡ true → kindFits k m t ≡ true → k ≡ Shut

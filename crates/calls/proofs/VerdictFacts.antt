@@ -22,7 +22,7 @@ use Rattle.verifier.proofs.Verdicts.{claim-of-same}
 use Rattle.verifier.proofs.FileVerdicts.{FileSays, fileClaim}
 use Rattle.item.specs.declared.Start.{Start}
 use Rattle.calls.specs.QueryStep.{Said, replies, finds}
-use Rattle.calls.specs.Verdict.{Brought, messageBrought, fileMessages, fileBrought, endF, endG, messageIn, claimIn, Passes, AllPass, Meets, FailsFirst, FailsLast, VerdictJudged, MessageJudged}
+use Rattle.calls.specs.Verdict.{Brought, messageBrought, fileMessages, fileBrought, endF, endG, broughtMessage, claimIn, Passes, AllPass, Meets, FailsFirst, FailsLast, VerdictJudged, MessageJudged}
 use Rattle.calls.proofs.HeardTrip.{below-suc}
 
 -- what is said
@@ -112,14 +112,14 @@ module _ (p : ℕ) (s : Start) (cs : List ℕ) (b : Brought) (m : Message) where
   pub more-count : length (more .messages) ≡ suc k
   more-count = length-append (b .messages) (m ∷ []) ∙ add-one k
 
-  earlier : (i : ℕ) → i < k → messageIn p s cs more i ≡ messageIn p s cs b i
+  earlier : (i : ℕ) → i < k → broughtMessage p s cs more i ≡ broughtMessage p s cs b i
   earlier i h = List·getD-append (b .messages) (m ∷ []) (messageOf3 0 0 0) i h
 
-  pub newest : messageIn p s cs more k ≡ m
+  pub newest : broughtMessage p s cs more k ≡ m
   newest = getD-append-seam (b .messages) m [] (messageOf3 0 0 0)
 
   claims : (i : ℕ) → i ≤ k → claimIn p s cs more i ≡ claimIn p s cs b i
-  claims i h = claim-of-same p k (at cs) (b .claim) (messageIn p s cs more) (messageIn p s cs b) earlier i h
+  claims i h = claim-of-same p k (at cs) (b .claim) (broughtMessage p s cs more) (broughtMessage p s cs b) earlier i h
 
   kept : AllPass p s cs b k → AllPass p s cs more k
   kept all i h = ap (passes p) (earlier i h) ∙ all i h ∙ sym (claims i (omega arith))
@@ -161,11 +161,11 @@ module _ (p : ℕ) (s : Start) (cs : List ℕ) (b : Brought) (file : List ℕ) w
   abbrev filed : Brought
   filed = fileBrought p n b file
 
-  own : (i : ℕ) → i < n → messageIn p s cs filed i ≡ fileMessage file i
+  own : (i : ℕ) → i < n → broughtMessage p s cs filed i ≡ fileMessage file i
   own i h = file-at file (messageOf3 0 0 0) n i h
 
   file-claims : (i : ℕ) → i ≤ n → claimIn p s cs filed i ≡ claimAt p (at cs) (fileClaim p file) (fileMessage file) i
-  file-claims i h = claim-of-same p n (at cs) (fileClaim p file) (messageIn p s cs filed) (fileMessage file) own i h
+  file-claims i h = claim-of-same p n (at cs) (fileClaim p file) (broughtMessage p s cs filed) (fileMessage file) own i h
 
   pub found-file : (d : Finding) → FileSays p (at cs) file n (endF p s cs b) (endG p s cs b) d → Found p s cs filed d
   found-file yes h =

@@ -34,7 +34,7 @@ use Rattle.item.specs.declared.Start.{Start}
 use Rattle.calls.specs.declared.query.Query.{Query}
 use Rattle.calls.specs.declared.query.Query.the-variants as query
 use Rattle.calls.specs.QueryStep.{Shown, replies}
-use Rattle.calls.specs.QueryState.{VerifierState, hearing, hears as goesOn, verifierTable}
+use Rattle.calls.specs.QueryState.{VerifierState, hearing, goesOnHeard, verifierTable}
 use Rattle.calls.specs.Table.{decided}
 use Rattle.calls.specs.Starts.{Startable}
 use Rattle.calls.specs.Verdict.{Brought, messageBrought, fileBrought, broughtWith, endF, endG, claimIn, AllPass, EndsOwn, FailsFirst, MessageJudged, Judges}
@@ -228,8 +228,8 @@ module _ (p : ℕ) (s : Start) (cs : List ℕ) (large : maxWeight < p) (fits : S
 
   -- AN ANSWERED CALL, and the verifier after it
   bears-with : (c : Query) (l : Shown) → verifierTable p a c l ≡ none
-      → Phase p s cs (broughtWith p n b c l) (goesOn a c (saysSo p v c l)) (goesTo p v c l)
-      → Bears p s cs (broughtWith p n b c l) (goesOn a c (saysSo p v c l)) (goesTo p v c l)
+      → Phase p s cs (broughtWith p n b c l) (goesOnHeard a c (saysSo p v c l)) (goesTo p v c l)
+      → Bears p s cs (broughtWith p n b c l) (goesOnHeard a c (saysSo p v c l)) (goesTo p v c l)
   bears-with c l e phase =
       let kept = hears-kept a c (saysSo p v c l) in
       record {
@@ -241,7 +241,7 @@ module _ (p : ℕ) (s : Start) (cs : List ℕ) (large : maxWeight < p) (fits : S
 
   pub answers-judged : (c : Query) (l : Shown) → verifierTable p a c l ≡ none
       → Judges p s cs (broughtWith p n b c l) c (answers p v c l .told)
-      × Bears p s cs (broughtWith p n b c l) (goesOn a c (saysSo p v c l)) (goesTo p v c l)
+      × Bears p s cs (broughtWith p n b c l) (goesOnHeard a c (saysSo p v c l)) (goesTo p v c l)
   unfolding hears
   answers-judged (query.Give x) l e =
       let rows = item-rows p a l x e in (

@@ -26,7 +26,7 @@ use Rattle.item.specs.declared.Start.{Start}
 use Rattle.item.specs.declared.Given.{Given}
 use Rattle.item.specs.declared.Given.the-variants.{Numbers}
 use Rattle.item.specs.Item.{contributes}
-use Rattle.runs.specs.Trip.{itemOf, entersAs}
+use Rattle.runs.specs.Trip.{tripItem, entersAs}
 use Rattle.calls.specs.QueryState.{VerifierState, takesItem, atRound}
 use Rattle.calls.specs.Starts.{Startable}
 use Rattle.calls.specs.Verdict.{Brought, itemBrought, claimBrought, tripOf, endF, endG, claimIn, AllPass}
@@ -50,7 +50,7 @@ module _ (p : ℕ) (s : Start) (cs : List ℕ) where
   -- the running sums of the items brought
   pub record Sums (b : Brought) (v : Verifier) : Type 0 where
     pub taken : v .taken ≡ length (b .items)
-    pub fine : (i : ℕ) → i < length (b .items) → Fine p (s .plain) (itemOf (tripOf p s cs b) i)
+    pub fine : (i : ℕ) → i < length (b .items) → Fine p (s .plain) (tripItem (tripOf p s cs b) i)
     pub fsum : v .fsum ≡ weighted p held n (entersF p (tripOf p s cs b)) (length (b .items))
     pub gsum : v .gsum ≡ weighted p held n (entersG p (tripOf p s cs b)) (length (b .items))
 
@@ -90,7 +90,7 @@ module _ (p : ℕ) (s : Start) (cs : List ℕ) where
     pub ends-own : (b : Brought) (v : Verifier) → Sums b v → length (b .items) ≡ s .items → (v .fsum ≡ endF p s cs b) × (v .gsum ≡ endG p s cs b)
     ends-own b v h all =
         let T = tripOf p s cs b in
-        let fine : (i : ℕ) → i < s .items → Fine p (s .plain) (itemOf T i) = λ i l. h .fine i (omega arith) in (
+        let fine : (i : ℕ) → i < s .items → Fine p (s .plain) (tripItem T i) = λ i l. h .fine i (omega arith) in (
           h .fsum ∙ ap (weighted p held n (entersF p T)) all ∙ end-f p large T enough fine few cs listed,
           h .gsum ∙ ap (weighted p held n (entersG p T)) all ∙ end-g p large T enough fine few cs listed,
         )
@@ -121,10 +121,10 @@ module _ (p : ℕ) (s : Start) (cs : List ℕ) where
       items-more : length (more .items) ≡ suc k
       items-more = length-append (b .items) (x ∷ []) ∙ add-one k
 
-      item-same : (i : ℕ) → i < k → itemOf (tripOf p s cs more) i ≡ itemOf (tripOf p s cs b) i
+      item-same : (i : ℕ) → i < k → tripItem (tripOf p s cs more) i ≡ tripItem (tripOf p s cs b) i
       item-same i l = List·getD-append (b .items) (x ∷ []) (Numbers 0 0) i l
 
-      item-newest : itemOf (tripOf p s cs more) k ≡ x
+      item-newest : tripItem (tripOf p s cs more) k ≡ x
       item-newest = getD-append-seam (b .items) x [] (Numbers 0 0)
 
       sums-more : Sums b v → Fine p (s .plain) x → Sums more (oneMore p v (contributes p (v .start) x .f) (contributes p (v .start) x .g))
@@ -136,8 +136,8 @@ module _ (p : ℕ) (s : Start) (cs : List ℕ) where
           record {
             taken = add-one (v .taken) ∙ ap suc (m .taken) ∙ sym items-more;
             fine =
-                subst (λ j. (i : ℕ) → i < j → Fine p (s .plain) (itemOf U i)) (sym items-more)
-                (below-suc (λ i. Fine p (s .plain) (itemOf U i)) k
+                subst (λ j. (i : ℕ) → i < j → Fine p (s .plain) (tripItem U i)) (sym items-more)
+                (below-suc (λ i. Fine p (s .plain) (tripItem U i)) k
                 (λ i l. subst (Fine p (s .plain)) (sym (item-same i l)) (m .fine i l))
                 (subst (Fine p (s .plain)) (sym item-newest) fine));
             fsum =

@@ -6,6 +6,7 @@ use mathlib.Core.List.{List, [], _∷_, _++_}
 use mathlib.Core.Option.{Option, none, some}
 use lib.Dec.{eqb, leb}
 use lib.ListN.{length}
+use Rattle.phase.specs.Cases.{isChange, isOpen}
 use Rattle.refusal.specs.Outcome.{answered}
 use Rattle.item.specs.declared.Start.{Start}
 use Rattle.item.specs.declared.Given.{Given}
@@ -21,7 +22,7 @@ use Rattle.calls.specs.declared.query.Query.the-variants as query
 use Rattle.calls.specs.Lists.{after, along, somewhere}
 use Rattle.calls.specs.Step.{Lent, Result, isAnswered, leaving}
 use Rattle.calls.specs.QueryStep.{Spoken, replies, replying}
-use Rattle.calls.specs.State.{State, isOpen, isChange, inPass, buffersIn}
+use Rattle.calls.specs.State.{State, inPass, buffersIn}
 use Rattle.calls.specs.Table.{Refusal, row, givenRows, placeRow}
 use Rattle.calls.specs.World.{Made, World, came, onward}
 use Rattle.calls.specs.Statement.{Sized, Decides}

@@ -10,7 +10,7 @@ use Rattle.prover.specs.Reply as reply
 use Rattle.runs.specs.Trip.{Trip}
 use Rattle.calls.specs.declared.Call.the-variants as call
 use Rattle.calls.specs.declared.query.Query.the-variants as query
-use Rattle.calls.specs.Lists.{gathered}
+use Rattle.calls.specs.Lists.{collected}
 use Rattle.calls.specs.Step.{Lent, isAnswered}
 use Rattle.calls.specs.World.{Made, World, came, onward}
 use Rattle.calls.specs.Meaning.{Question, total, roundMessage, ends, openingAt, proof, done, question, Answer}
@@ -53,7 +53,7 @@ checks n (done x) values = []
 module _ (p : ℕ) (T : Trip) (w : World) (ms : List Made) where
   abbrev pub carriedOver : (Question → Answer → List Posed) → List Posed
   carriedOver what =
-      gathered (onward p) (λ w m. cond (isAnswered (came p w m .answer)) (what (question (w .state) (m .call)) (replyOf (came p w m))) []) w ms
+      collected (onward p) (λ w m. cond (isAnswered (came p w m .answer)) (what (question (w .state) (m .call)) (replyOf (came p w m))) []) w ms
 
   -- the items, then the total, the messages, the verdict and the checks as the run answered
   abbrev pub byMessages : List Posed

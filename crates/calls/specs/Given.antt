@@ -12,7 +12,7 @@ use Rattle.vector.specs.Opening.{opening}
 use Rattle.prover.specs.Reply as reply
 use Rattle.verifier.specs.Reply as verifier
 use Rattle.verifier.specs.Records.{yes, holds}
-use Rattle.runs.specs.Trip.{Trip, itemOf, vectorF, vectorG}
+use Rattle.runs.specs.Trip.{Trip, tripItem, vectorF, vectorG}
 use Rattle.calls.specs.declared.query.Query.{Query}
 use Rattle.calls.specs.declared.query.Query.the-variants as query
 use Rattle.calls.specs.Lists.{somewhere}
@@ -42,7 +42,7 @@ module _ (p : ℕ) where
   -- A VERIFIER'S CALL beside a run's list
   module _ (T : Trip) (w : World) (ms : List Made) where
     abbrev pub BringsRun : VerifierState → Query → Shown → Type 0
-    BringsRun b (query.Give x) l = x ≡ itemOf T (length (b .items))
+    BringsRun b (query.Give x) l = x ≡ tripItem T (length (b .items))
     BringsRun b (query.Close t) l = Gave w ms total (says (reply.total t))
     BringsRun b (query.CloseClaim c) l = Gave w ms total (says (reply.fieldTotal c))
     BringsRun b (query.Message even cross odd) l = Gave w ms (roundMessage (b .round)) (says (reply.message even cross odd))

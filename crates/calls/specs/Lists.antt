@@ -29,6 +29,6 @@ module _ {W M : Type 0} (next : W → M → W) where
   each of w (m ∷ ms) = of w m ∷ each of (next w m) ms
 
   -- what the calls give, one after another
-  unfoldable pub gathered : {A : Type 0} → (W → M → List A) → W → List M → List A
-  gathered of w [] = []
-  gathered of w (m ∷ ms) = of w m ++ gathered of (next w m) ms
+  unfoldable pub collected : {A : Type 0} → (W → M → List A) → W → List M → List A
+  collected of w [] = []
+  collected of w (m ∷ ms) = of w m ++ collected of (next w m) ms

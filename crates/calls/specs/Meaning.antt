@@ -16,17 +16,18 @@ use Rattle.phase.specs.declared.Next.{Next}
 use Rattle.phase.specs.declared.Next.the-variants as next
 use Rattle.phase.specs.declared.Kind.{Kind}
 use Rattle.phase.specs.declared.Kind.the-variants.{Shut, Asked, Change}
+use Rattle.phase.specs.Cases.{isChange, isFull, waits}
 use Rattle.prover.specs.Reply.{Reply}
 use Rattle.prover.specs.Reply as reply
 use Rattle.prover.specs.Records.{noValues}
 use Rattle.prover.specs.Values.{inNinety}
 use Rattle.item.specs.declared.Given.{Given}
-use Rattle.runs.specs.Trip.{Trip, itemOf, vectorF, vectorG, totalOf}
+use Rattle.runs.specs.Trip.{Trip, tripItem, vectorF, vectorG, totalOf}
 use Rattle.calls.specs.declared.Call.{Call}
 use Rattle.calls.specs.declared.Call.the-variants as call
 use Rattle.calls.specs.Step.{Lent}
-use Rattle.calls.specs.State.{isFull, isChange, State}
-use Rattle.calls.specs.Table.{waits, level, long, taken, completed}
+use Rattle.calls.specs.State.{State}
+use Rattle.calls.specs.Table.{level, long, taken, completed}
 
 -- an answer or a refusal, with the values beside it
 pub record Answer : Type 0 where
@@ -147,7 +148,7 @@ module _ (p : ℕ) (T : Trip) where
   -- WHAT IS ASKED of an answered call
   pub record Kept (through : Bool) (a : State) (c : Call) (l : Lent) : Type 0 where
     -- "the L pairs from index L-1 down"
-    pub item : (x : Given) → c ≡ call.Give x → x ≡ itemOf T (T .start .items - 1 - length (a .pass .items))
+    pub item : (x : Given) → c ≡ call.Give x → x ≡ tripItem T (T .start .items - 1 - length (a .pass .items))
     -- "each answered call lent the two buffers, save the opening of a change, gets them as the last answered call that had them left them"
     pub change : (x : Given) → c ≡ call.Give x → bindsItem through a ≡ true → AsLeft a l
     pub message : c ≡ call.Message → AsLeft a l

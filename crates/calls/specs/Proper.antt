@@ -12,15 +12,15 @@ use Rattle.field.specs.Total.{inLimits}
 use Rattle.vector.specs.Vector.{at}
 use Rattle.vector.specs.Slice.{overwrite, isNonzero}
 use Rattle.phase.specs.declared.Next.the-variants as next
+use Rattle.phase.specs.Cases.{isFull, waits}
 use Rattle.item.specs.declared.Given.{Given}
 use Rattle.item.specs.declared.Given.the-variants.{Reading, Numbers}
-use Rattle.runs.specs.Trip.{Trip, itemOf, vectorF, vectorG, totalOf}
+use Rattle.runs.specs.Trip.{Trip, tripItem, vectorF, vectorG, totalOf}
 use Rattle.calls.specs.declared.Call.{Call}
 use Rattle.calls.specs.declared.Call.the-variants as call
 use Rattle.calls.specs.Lists.{each}
 use Rattle.calls.specs.Step.{Lent}
-use Rattle.calls.specs.State.{isFull, State}
-use Rattle.calls.specs.Table.{waits}
+use Rattle.calls.specs.State.{State}
 use Rattle.calls.specs.World.{Made, World, freshWorld, came, onward}
 use Rattle.calls.specs.Starts.{Whole}
 
@@ -32,7 +32,7 @@ ItemFits p plain (Numbers a b) = (plain ≡ false) × (a < p) × (b < p)
 -- a trip that a run takes whole
 pub record Valid (p : ℕ) (T : Trip) : Type 0 where
   pub whole : Whole T
-  pub items : (i : ℕ) → i < T .start .items → ItemFits p (T .start .plain) (itemOf T i)
+  pub items : (i : ℕ) → i < T .start .items → ItemFits p (T .start .plain) (tripItem T i)
   pub total : T .start .plain ≡ true → inLimits p (totalOf T) ≡ true
 
 -- challenges and points: each "1 to P-1"
@@ -44,7 +44,7 @@ module _ (T : Trip) where
   -- "the L pairs from index L-1 down"
   unfoldable pub itemsBelow : ℕ → List Call
   itemsBelow zero = []
-  itemsBelow (suc i) = call.Give (itemOf T i) ∷ itemsBelow i
+  itemsBelow (suc i) = call.Give (tripItem T i) ∷ itemsBelow i
 
   -- opened, given the trip's items, closed
   abbrev pub wholePass : Call → List Call

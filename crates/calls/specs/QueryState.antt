@@ -57,17 +57,17 @@ hearing a (finds (no k)) = atRound a k true
 hearing a (opens x) = a
 
 -- the state after an answered call
-abbrev pub hears : VerifierState → Query → Said → VerifierState
-hears a (query.Give x) t = takesItem a x
-hears a (query.Close z) t = hearing a t
-hears a (query.CloseClaim c) t = hearing a t
-hears a (query.Message even cross odd) t = hearing a t
-hears a query.Verdict t = hearing a t
-hears a query.Proof t = hearing a t
-hears a (query.CheckOpening b) t = a
+abbrev pub goesOnHeard : VerifierState → Query → Said → VerifierState
+goesOnHeard a (query.Give x) t = takesItem a x
+goesOnHeard a (query.Close z) t = hearing a t
+goesOnHeard a (query.CloseClaim c) t = hearing a t
+goesOnHeard a (query.Message even cross odd) t = hearing a t
+goesOnHeard a query.Verdict t = hearing a t
+goesOnHeard a query.Proof t = hearing a t
+goesOnHeard a (query.CheckOpening b) t = a
 
 abbrev pub followHeard : VerifierState → Query → Outcome Said → VerifierState
-followHeard a c (answered x) = hears a c x
+followHeard a c (answered x) = goesOnHeard a c x
 followHeard a c (refused k) = a
 followHeard a c (refusedAt k i) = a
 
@@ -75,12 +75,12 @@ followHeard a c (refusedAt k i) = a
 abbrev pub isWanted : VerifierState → Bool
 isWanted a = ltb (length (a .items)) (a .start .items)
 
-abbrev pub isWhole : VerifierState → Bool
-isWhole a = eqb (length (a .items)) (a .start .items)
+abbrev pub hasAll : VerifierState → Bool
+hasAll a = eqb (length (a .items)) (a .start .items)
 
 -- "item or close with no pass open", here after the close; 8; the other kind of run
 abbrev pub closeRows : VerifierState → Bool → Option Refusal → Option Refusal
-closeRows a kind rest = row (not (a .closed)) 10 (row (isWhole a) 8 (row kind 10 rest))
+closeRows a kind rest = row (not (a .closed)) 10 (row (hasAll a) 8 (row kind 10 rest))
 
 -- the rows of the proof file, for the verifier's n
 abbrev pub fileRows : ℕ → ℕ → List ℕ → Option Refusal

@@ -1,9 +1,8 @@
 -- Document 01, "Lists of calls": "The mode, the open pass, what is next, the items taken and c_0.. follow from the start and the
 -- answered calls alone".
 use Prim.Native.Nat.{ℕ}
-use mathlib.Core.Bool.{Bool, true, false, cond, not}
+use mathlib.Core.Bool.{Bool, cond}
 use mathlib.Core.List.{List, [], _∷_, _++_}
-use lib.Dec.{ltb}
 use lib.ListN.{length}
 use Rattle.phase.specs.declared.Mode.{Mode}
 use Rattle.phase.specs.declared.Mode.the-variants.{Small, Full}
@@ -11,28 +10,13 @@ use Rattle.phase.specs.declared.Next.{Next}
 use Rattle.phase.specs.declared.Next.the-variants as next
 use Rattle.phase.specs.declared.Kind.{Kind}
 use Rattle.phase.specs.declared.Kind.the-variants.{Shut, Asked, Change}
+use Rattle.phase.specs.Cases.{isFull, isChange}
+use Rattle.phase.specs.Order.{roundOrEnds}
 use Rattle.item.specs.declared.Start.{Start}
 use Rattle.item.specs.declared.Given.{Given}
 use Rattle.calls.specs.declared.Call.{Call}
 use Rattle.calls.specs.declared.Call.the-variants as call
 use Rattle.calls.specs.Step.{Lent, Result, isAnswered}
-
-abbrev pub isFull : Mode → Bool
-isFull Small = false
-isFull Full = true
-
-abbrev pub isSmall : Mode → Bool
-isSmall m = not (isFull m)
-
-abbrev pub isOpen : Kind → Bool
-isOpen Shut = false
-isOpen Asked = true
-isOpen Change = true
-
-abbrev pub isChange : Kind → Bool
-isChange Shut = false
-isChange Asked = false
-isChange Change = true
 
 pub record Turn : Type 0 where
   pub mode : Mode
@@ -82,9 +66,6 @@ abbrev pub inFullMode : State → State
 inFullMode a = inTurn a Full (a .turn .next) (a .turn .challenges)
 
 -- "for i = 0 to n-1 message i and challenge i; then ends"
-abbrev pub roundOrEnds : ℕ → ℕ → Next
-roundOrEnds i n = cond (ltb i n) next.Message next.Ends
-
 abbrev pub takesChallenge : State → ℕ → State
 takesChallenge a c =
     let cs : List ℕ = a .turn .challenges ++ c ∷ [] in inTurn a (a .turn .mode) (roundOrEnds (length cs) (a .start .rounds)) cs
@@ -106,8 +87,8 @@ withBuffers a l = record { start = a .start; turn = a .turn; pass = a .pass; buf
 abbrev pub buffersIn : Bool → State → Lent → State
 buffersIn has a l = cond has (withBuffers a l) a
 
-abbrev pub withItem : State → Given → Lent → State
-withItem a x l = buffersIn (isChange (a .pass .kind)) (inPass a (a .pass .kind) (a .pass .point) (x ∷ a .pass .items)) l
+abbrev pub takesGiven : State → Given → Lent → State
+takesGiven a x l = buffersIn (isChange (a .pass .kind)) (inPass a (a .pass .kind) (a .pass .point) (x ∷ a .pass .items)) l
 
 -- the state after an answered call that left l
 abbrev pub goesOn : State → Call → Lent → State
@@ -115,7 +96,7 @@ goesOn a call.OpenPass l = inPass a Asked 0 []
 goesOn a (call.OpenAt b) l = inPass a Asked b []
 goesOn a call.ToFull l = withBuffers (inPass a Change 0 []) l
 goesOn a call.ToSmall l = a
-goesOn a (call.Give x) l = withItem a x l
+goesOn a (call.Give x) l = takesGiven a x l
 goesOn a call.Close l = closed a (a .turn .next) (a .pass .kind)
 goesOn a call.Message l = withBuffers (goesTo a next.Challenge) l
 goesOn a (call.Challenge c) l = buffersIn (isFull (a .turn .mode)) (takesChallenge a c) l

@@ -14,6 +14,7 @@ use Rattle.kernel.specs.declared.Kernel.{Kernel}
 use Rattle.kernel.specs.KernelView.{stackF, stackG}
 use Rattle.phase.specs.declared.Next.the-variants as next
 use Rattle.phase.specs.declared.Kind.the-variants.{Asked}
+use Rattle.phase.specs.Cases.{isFull, waits}
 use Rattle.prover.specs.declared.Run.{Run}
 use Rattle.prover.specs.declared.Pass.{Pass}
 use Rattle.prover.specs.Records.{kernelOf, noValues}
@@ -23,8 +24,8 @@ use Rattle.runs.specs.Buffers.{Written}
 use Rattle.calls.specs.declared.Call.{Call}
 use Rattle.calls.specs.declared.Call.the-variants as call
 use Rattle.calls.specs.Step.{Lent, Result, isAnswered}
-use Rattle.calls.specs.State.{isFull, State, goesOn}
-use Rattle.calls.specs.Table.{Refusal, refusedWith, waits, passLevel, long, taken, completed}
+use Rattle.calls.specs.State.{State, goesOn}
+use Rattle.calls.specs.Table.{Refusal, refusedWith, passLevel, long, taken, completed}
 use Rattle.calls.specs.Meaning.{meaning, proofOfTrip, foldF, foldG, bindsItem, writes}
 
 -- "reading (signed 16-bit two's complement)": what the machine's type lets in

@@ -15,7 +15,7 @@ use Rattle.prover.specs.Close.{closeCall, leavesStep}
 use Rattle.prover.specs.Full.{messageCall, endsCall}
 use Rattle.prover.specs.Challenge.{challengeCall}
 use Rattle.prover.specs.Opening.{openingCall}
-use Rattle.prover.specs.Written.{writeCall, writtenStep, proofOf}
+use Rattle.prover.specs.Written.{writeCall, writtenStep, runProof}
 use Rattle.calls.specs.declared.Call.{Call}
 use Rattle.calls.specs.declared.Call.the-variants as call
 
@@ -50,7 +50,7 @@ leaving l o =
 -- the call that writes the proof leaves the buffers, and the file as written
 abbrev pub writing : ℕ → Run → Pass → Lent → Result
 writing p r s l =
-    keeping (record { f = l .f; g = l .g; file = writtenIn (writeCall p r s (l .file)) (proofOf r) (l .file) })
+    keeping (record { f = l .f; g = l .g; file = writtenIn (writeCall p r s (l .file)) (runProof r) (l .file) })
     (out (writtenStep r s (writeCall p r s (l .file))) [] [])
 
 unfoldable pub step : ℕ → Run → Pass → Call → Lent → Result

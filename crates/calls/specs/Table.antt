@@ -16,11 +16,12 @@ use Rattle.item.specs.declared.Given.the-variants.{Reading, Numbers}
 use Rattle.phase.specs.declared.Mode.{Mode}
 use Rattle.phase.specs.declared.Next.{Next}
 use Rattle.phase.specs.declared.Next.the-variants as next
+use Rattle.phase.specs.Cases.{isFull, isSmall, isOpen, isChange, waits}
 use Rattle.runs.specs.Trip.{sumOf}
 use Rattle.calls.specs.declared.Call.{Call}
 use Rattle.calls.specs.declared.Call.the-variants as call
 use Rattle.calls.specs.Step.{Lent}
-use Rattle.calls.specs.State.{isFull, isSmall, isOpen, isChange, State}
+use Rattle.calls.specs.State.{State}
 
 -- "It carries its number and, for 5 and 13 to 15, the index"
 abbrev pub Refusal : Type 0
@@ -42,28 +43,17 @@ abbrev pub decided : {A : Type 0} → Option Refusal → Outcome A → Outcome A
 decided none o = o
 decided (some k) o = refusedWith (k .0) (k .1)
 
-abbrev pub rank : Next → ℕ
-rank next.Total = 0
-rank next.Message = 1
-rank next.Challenge = 2
-rank next.Ends = 3
-rank next.Openings = 4
-
--- what is next in the run
-abbrev pub waits : Next → Next → Bool
-waits t now = eqb (rank t) (rank now)
-
 -- in small mode, a pass for what is next: openings have a call of their own
-abbrev pub passNext : Mode → Next → Bool
-passNext m t = isSmall m && (waits next.Total t || (waits next.Message t || waits next.Ends t))
+abbrev pub passWaits : Mode → Next → Bool
+passWaits m t = isSmall m && (waits next.Total t || (waits next.Message t || waits next.Ends t))
 
 -- "openings .. with n = 0" are refused
 abbrev pub openingsNext : Next → ℕ → Bool
 openingsNext t n = waits next.Openings t && ltb 0 n
 
 -- "Before any later pass (round, ends, openings) a small run may change to full"; "a change after the ends, with n = 0" is refused
-abbrev pub changeNext : Mode → Next → ℕ → Bool
-changeNext m t n = isSmall m && (waits next.Message t || (waits next.Ends t || openingsNext t n))
+abbrev pub changeWaits : Mode → Next → ℕ → Bool
+changeWaits m t n = isSmall m && (waits next.Message t || (waits next.Ends t || openingsNext t n))
 
 -- before message i and its challenge fold i, before the ends fold n, and after them the last of the three
 abbrev pub levelNow : ℕ → ℕ → ℕ → Next → ℕ
@@ -116,9 +106,9 @@ totalFits p a = not (waits next.Total (a .turn .next) && a .start .plain) || inL
 
 -- THE TABLE: none where the call is answered
 unfoldable pub table : ℕ → State → Call → Lent → Option Refusal
-table p a call.OpenPass l = row (passNext (a .turn .mode) (a .turn .next)) 10 none
+table p a call.OpenPass l = row (passWaits (a .turn .mode) (a .turn .next)) 10 none
 table p a (call.OpenAt b) l = row (isSmall (a .turn .mode) && openingsNext (a .turn .next) (a .start .rounds)) 10 (row (isNonzero p b) 6 none)
-table p a call.ToFull l = row (changeNext (a .turn .mode) (a .turn .next) (a .start .rounds)) 10 (row (bothLong a l) 9 none)
+table p a call.ToFull l = row (changeWaits (a .turn .mode) (a .turn .next) (a .start .rounds)) 10 (row (bothLong a l) 9 none)
 table p a call.ToSmall l = some (10, none)
 -- "item or close with no pass open"; "item beyond L"
 table p a (call.Give x) l =

@@ -89,16 +89,16 @@ module _ (p : ℕ) (s : Start) (cs : List ℕ) (b : Brought) where
   abbrev pub endG : ℕ
   endG = endValue p (at cs) (s .rounds) (vectorG p tripOf)
 
-  abbrev pub messageIn : ℕ → Message
-  messageIn i = getD (b .messages) i (messageOf3 0 0 0)
+  abbrev pub broughtMessage : ℕ → Message
+  broughtMessage i = getD (b .messages) i (messageOf3 0 0 0)
 
   -- "the claim becomes even + cross·c + odd·c²": the claim that message i meets, and after the last
   abbrev pub claimIn : ℕ → ℕ
-  claimIn i = claimAt p (at cs) (b .claim) messageIn i
+  claimIn i = claimAt p (at cs) (b .claim) broughtMessage i
 
   -- "A message passes if even + odd = claim"
   abbrev pub Passes : ℕ → Type 0
-  Passes i = passes p (messageIn i) ≡ claimIn i
+  Passes i = passes p (broughtMessage i) ≡ claimIn i
 
   -- the first k pass
   abbrev pub AllPass : ℕ → Type 0

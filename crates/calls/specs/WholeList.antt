@@ -18,8 +18,8 @@ bringsMessage m = query.Message (m .even) (m .cross) (m .odd)
 
 module _ (p : ℕ) (T : Trip) where
   -- "the run's total"; "A twisted run's total is a field number"
-  abbrev pub closing : Query
-  closing =
+  abbrev pub bringsTotal : Query
+  bringsTotal =
       cond (T .start .plain) (query.Close (totalOf T)) (query.CloseClaim (dot p (2 ^ T .start .rounds) (vectorF p T) (vectorG p T)))
 
   module _ (cs : List ℕ) where
@@ -44,7 +44,7 @@ module _ (p : ℕ) (T : Trip) where
       -- L items, the close, n messages, the verdict, the checks
       abbrev pub wholeByMessages : List Posed
       wholeByMessages =
-          itemsOf (T .items) ++ (plainly closing ∷ messagesFrom 0 (T .start .rounds) ++ (plainly query.Verdict ∷ allChecks))
+          itemsOf (T .items) ++ (plainly bringsTotal ∷ messagesFrom 0 (T .start .rounds) ++ (plainly query.Verdict ∷ allChecks))
 
       -- L items, the proof file, the checks
       abbrev pub wholeByFile : List Posed

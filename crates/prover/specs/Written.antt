@@ -29,5 +29,5 @@ writtenStep r s (refused k) = refusedStep r s k
 writtenStep r s (refusedAt k i) = refusedAtStep r s k i
 
 -- the run's proof
-abbrev pub proofOf : Run → List ℕ
-proofOf r = proofFile (r .start .rounds) (r .total) (proofValues (r .start .rounds) (r .messages) (r .fend) (r .gend))
+abbrev pub runProof : Run → List ℕ
+runProof r = proofFile (r .start .rounds) (r .total) (proofValues (r .start .rounds) (r .messages) (r .fend) (r .gend))

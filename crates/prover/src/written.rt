@@ -5,7 +5,7 @@ ghost use mathlib.Core.List.{[]};
 ghost use Rattle.refusal.specs.Check.{passed};
 ghost use Rattle.item.specs.Start.{modulusOf};
 ghost use Rattle.prover.specs.Records.{out};
-ghost use Rattle.prover.specs.Written.{mayWrite, writeCall, writtenStep, proofOf};
+ghost use Rattle.prover.specs.Written.{mayWrite, writeCall, writtenStep, runProof};
 use super::Answer;
 use super::Pass;
 use super::Run;
@@ -46,7 +46,7 @@ fn written_step(run: Run, pass: Pass, written: ProofWritten) -> Step
 impl Run {
     // Writes the proof into the first places of `file`; the run goes on.
     pub fn write_proof(self, pass: Pass, file: &mut [u8]) -> Step
-        ensures { λ r. ⌜ (out r [] [] ≡ out (writtenStep self pass (writeCall (modulusOf (self .start)) self pass (now (file .entry)))) [] []) × (now (file .exit) ≡ writtenIn (writeCall (modulusOf (self .start)) self pass (now (file .entry))) (proofOf self) (now (file .entry))) ⌝ }
+        ensures { λ r. ⌜ (out r [] [] ≡ out (writtenStep self pass (writeCall (modulusOf (self .start)) self pass (now (file .entry)))) [] []) × (now (file .exit) ≡ writtenIn (writeCall (modulusOf (self .start)) self pass (now (file .entry))) (runProof self) (now (file .entry))) ⌝ }
     {
         let start = self.start;
         let p = item::modulus_of(start);

@@ -30,7 +30,7 @@ use Rattle.prover.specs.WellFormed.{runFormed}
 use Rattle.item.specs.declared.Given.{Given}
 use Rattle.item.specs.declared.Given.the-variants.{Numbers}
 use Rattle.item.specs.Item.{contributes}
-use Rattle.runs.specs.Trip.{Trip, itemOf, entersAs, vectorF, vectorG, sumOf, totalOf}
+use Rattle.runs.specs.Trip.{Trip, tripItem, entersAs, vectorF, vectorG, sumOf, totalOf}
 use Rattle.runs.specs.Passes.{openedPass, passAfter, Gives}
 use Rattle.runs.specs.Items.{pairsOf, AllWithin, ownTrip}
 use Rattle.runs.proofs.RunFacts.{Bounds, bounds}
@@ -46,15 +46,15 @@ trip-is : (r : Run) (T : Trip) → T .start ≡ r .start → T ≡ tripOf r (T .
 trip-is r T e = ap (λ s. record { start = s; items = T .items }) e
 
 -- the newest item, and those before it
-pub gives-first : (T : Trip) (x : Given) (xs : List Given) → Gives T (x ∷ xs) → x ≡ itemOf T (T .start .items - suc (length xs))
+pub gives-first : (T : Trip) (x : Given) (xs : List Given) → Gives T (x ∷ xs) → x ≡ tripItem T (T .start .items - suc (length xs))
 gives-first T x xs h =
     let e : T .start .items - suc (length xs) + 0 ≡ T .start .items - suc (length xs) = omega arith in
-    h 0 (omega arith) ∙ ap (itemOf T) e
+    h 0 (omega arith) ∙ ap (tripItem T) e
 
 pub gives-rest : (T : Trip) (x : Given) (xs : List Given) → suc (length xs) ≤ T .start .items → Gives T (x ∷ xs) → Gives T xs
 gives-rest T x xs l h q less =
     let e : T .start .items - suc (length xs) + suc q ≡ T .start .items - length xs + q = omega arith in
-    h (suc q) (omega arith) ∙ ap (itemOf T) e
+    h (suc q) (omega arith) ∙ ap (tripItem T) e
 
 first-place : (n m : ℕ) → n - 1 - m ≡ n - suc m + 0
 first-place n m = omega arith
@@ -64,10 +64,10 @@ next-place n m = omega arith
 
 module _ (p : ℕ) (r : Run) (its : List Given) where
   abbrev itemF : Vector
-  itemF i = entersAs p (r .start) i (contributes p (r .start) (itemOf (tripOf r its) i) .f)
+  itemF i = entersAs p (r .start) i (contributes p (r .start) (tripItem (tripOf r its) i) .f)
 
   abbrev itemG : Vector
-  itemG i = contributes p (r .start) (itemOf (tripOf r its) i) .g
+  itemG i = contributes p (r .start) (tripItem (tripOf r its) i) .g
 
   pairs-at : (xs : List Given) → length xs ≤ r .start .items → Gives (tripOf r its) xs → (q : ℕ) → q < length xs
       → getD (pairsOf p r xs) q (0, 0) ≡ beside itemF itemG (r .start .items - length xs + q)
@@ -192,7 +192,7 @@ module _ (p : ℕ) (r : Run) (k : Kind) (b : ℕ) (xs : List Given) (formed : ru
 pub gives-all : (T : Trip) (xs : List Given) → Gives T xs → length xs ≡ T .start .items → length (T .items) ≡ T .start .items → xs ≡ T .items
 gives-all T xs h all count =
     ext-getD (Numbers 0 0) xs (T .items) (all ∙ sym count)
-    (λ q l. h q l ∙ ap (itemOf T) (let e : T .start .items - length xs + q ≡ q = omega arith in e))
+    (λ q l. h q l ∙ ap (tripItem T) (let e : T .start .items - length xs + q ≡ q = omega arith in e))
 
 -- and a plain run's total is the trip's
 pub after-sum : (p : ℕ) (r : Run) (k : Kind) (b : ℕ) (xs : List Given) → runFormed p r ≡ true → waits next.Total (r .next) ≡ true → AllWithin xs → length xs ≡ r .start .items

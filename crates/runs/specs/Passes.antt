@@ -17,7 +17,7 @@ use Rattle.prover.specs.Close.{shutPass}
 use Rattle.item.specs.declared.Given.{Given}
 use Rattle.item.specs.declared.Given.the-variants.{Numbers}
 use Rattle.item.specs.Item.{contributes}
-use Rattle.runs.specs.Trip.{Trip, itemOf}
+use Rattle.runs.specs.Trip.{Trip, tripItem}
 
 -- the record that an answered opening of a pass hands back: for what is next, at a point for openings, or for a change
 abbrev pub openedPass : ℕ → Run → Kind → ℕ → Pass
@@ -32,4 +32,4 @@ passAfter p r k b (x ∷ xs) = takes p r (passAfter p r k b xs) (contributes p (
 
 -- "A pass gives the trip's items if its answered items, in order, are items L-1, L-2 and so on"
 abbrev pub Gives : Trip → List Given → Type 0
-Gives T xs = (q : ℕ) → q < length xs → getD xs q (Numbers 0 0) ≡ itemOf T (T .start .items - length xs + q)
+Gives T xs = (q : ℕ) → q < length xs → getD xs q (Numbers 0 0) ≡ tripItem T (T .start .items - length xs + q)

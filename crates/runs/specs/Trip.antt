@@ -16,15 +16,15 @@ pub record Trip : Type 0 where
   pub start : Start
   pub items : List Given
 
-abbrev pub itemOf : Trip → ℕ → Given
-itemOf T i = getD (T .items) i (Numbers 0 0)
+abbrev pub tripItem : Trip → ℕ → Given
+tripItem T i = getD (T .items) i (Numbers 0 0)
 
 -- "f is readings, g weights"; "items L to N-1 are zero pairs"
 abbrev pub vectorF : ℕ → Trip → Vector
-vectorF p T = padded (T .start .items) (λ i. entersAs p (T .start) i (contributes p (T .start) (itemOf T i) .f))
+vectorF p T = padded (T .start .items) (λ i. entersAs p (T .start) i (contributes p (T .start) (tripItem T i) .f))
 
 abbrev pub vectorG : ℕ → Trip → Vector
-vectorG p T = padded (T .start .items) (λ i. contributes p (T .start) (itemOf T i) .g)
+vectorG p T = padded (T .start .items) (λ i. contributes p (T .start) (tripItem T i) .g)
 
 -- readings times minutes: what an item contributes to the total, whatever the modulus and the start
 abbrev pub worth : Given → ℤ

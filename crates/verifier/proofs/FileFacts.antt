@@ -23,7 +23,7 @@ use Rattle.verifier.specs.Records.{Replied, Finding}
 use Rattle.verifier.specs.WellFormed.{wellFormed}
 use Rattle.verifier.specs.Claims.{messageOf3, closedWith, passedWith, failedNow, hears, finds}
 use Rattle.verifier.specs.Calls.{passOpen}
-use Rattle.verifier.specs.ProofFile.{fileMessage, hearsNext, hearsFirst, endsAgree, compares, afterFile, judges, withTotal, proof, leavesJudged}
+use Rattle.verifier.specs.ProofFile.{fileMessage, hearsNext, hearsFirst, endsAgree, compares, afterFile, judges, readTotal, proof, leavesJudged}
 use Rattle.verifier.proofs.Invariant.{both, not-true, parts-of, open-turn, open-says}
 
 -- an open pass has met no message
@@ -146,7 +146,7 @@ module _ (p : ℕ) (v : Verifier) (file : List ℕ) where
   row-plain a b e = rw (a, b, e)
 
   pub row-file : passOpen v ≡ true → eqb (v .taken) (v .start .items) ≡ true → v .start .plain ≡ true → {o : Outcome Head} → o ≡ readProofOf p (v .start .rounds) file
-      → withTotal o (λ total. judges p v total file) ≡ proof p v file
+      → readTotal o (λ total. judges p v total file) ≡ proof p v file
   unfolding proof
   row-file a b e f = rw (a, b, e, f)
 

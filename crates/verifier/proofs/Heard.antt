@@ -35,9 +35,11 @@ heard-passed p claim c next m e = by (eqb (passes p m) claim) e
     next-of : Heard → ℕ
     next-of (heard.Passed k) = k
     next-of heard.Failed = 0
+
     has : Heard → Bool
     has (heard.Passed k) = true
     has heard.Failed = false
+
     by : (b : Bool) → heard.Passed next ≡ cond b (heard.Passed (nextClaim p m c)) heard.Failed → (b ≡ true) × (nextClaim p m c ≡ next)
     by true e = (refl, sym (ap next-of e))
     by false e = absurd (true≢false (ap has e))
@@ -48,6 +50,7 @@ heard-failed p claim c m e = by (eqb (passes p m) claim) e
     has : Heard → Bool
     has (heard.Passed k) = true
     has heard.Failed = false
+
     by : (b : Bool) → heard.Failed ≡ cond b (heard.Passed (nextClaim p m c)) heard.Failed → b ≡ false
     by true e = sym (ap has e)
     by false e = refl

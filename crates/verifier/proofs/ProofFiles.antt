@@ -22,7 +22,7 @@ use Rattle.verifier.specs.Records.{leaves, yes}
 use Rattle.verifier.specs.WellFormed.{wellFormed}
 use Rattle.verifier.specs.Claims.{messageOf3, closedWith, closes, failedNow}
 use Rattle.verifier.specs.Calls.{passOpen, close, allReduced3, message, verdict}
-use Rattle.verifier.specs.ProofFile.{fileMessage, endsAgree, compares, afterFile, Judgement, judges, withTotal, proof, leavesJudged}
+use Rattle.verifier.specs.ProofFile.{fileMessage, endsAgree, compares, afterFile, Judgement, judges, readTotal, proof, leavesJudged}
 use Rattle.verifier.specs.Trips.{afterCalls, messages, fileVerdictOf}
 use Rattle.verifier.proofs.Invariant.{both, not-true, parts-of, open-turn}
 use Rattle.verifier.proofs.Kept.{close-kept}
@@ -41,7 +41,7 @@ pub record Answered (p : ℕ) (v : Verifier) (file : List ℕ) (j : Judgement) :
   pub judged : j ≡ judges p v (proofTotal file) file
 
 file-answered : (p : ℕ) (v : Verifier) (file : List ℕ) {j : Judgement} (o : Outcome Head) → readProofOf p (v .start .rounds) file ≡ o
-    → withTotal o (λ total. judges p v total file) ≡ answered j
+    → readTotal o (λ total. judges p v total file) ≡ answered j
     → GoodProof p file (record { rounds = v .start .rounds; total = proofTotal file }) × (j ≡ judges p v (proofTotal file) file)
 file-answered p v file (answered head) e h =
     let a = own-good p (v .start .rounds) file head e in

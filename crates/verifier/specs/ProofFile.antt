@@ -49,17 +49,17 @@ abbrev pub judges : ℕ → Verifier → ℤ → List ℕ → Judgement
 judges p v total file = record { verifier = afterFile p v total file; finding = finds p (afterFile p v total file) }
 
 -- what a file that reads well goes on to, with its total
-abbrev pub withTotal : Outcome Head → (ℤ → Judgement) → Outcome Judgement
-withTotal (answered head) rest = answered (rest (head .total))
-withTotal (refused k) rest = refused k
-withTotal (refusedAt k i) rest = refusedAt k i
+abbrev pub readTotal : Outcome Head → (ℤ → Judgement) → Outcome Judgement
+readTotal (answered head) rest = answered (rest (head .total))
+readTotal (refused k) rest = refused k
+readTotal (refusedAt k i) rest = refusedAt k i
 
 -- the turn (10, 8, 10), then the file: 1, 2, 3 (also for another n than the verifier's), 4, 7, 11
 unfoldable pub proof : ℕ → Verifier → List ℕ → Outcome Judgement
 proof p v file =
     require (passOpen v) number.order
     (require (eqb (v .taken) (v .start .items)) number.items
-    (require (v .start .plain) number.order (withTotal (readProofOf p (v .start .rounds) file) (λ total. judges p v total file))))
+    (require (v .start .plain) number.order (readTotal (readProofOf p (v .start .rounds) file) (λ total. judges p v total file))))
 
 -- the verifier and the verdict that the call hands back
 abbrev pub judgedIn : Judged → Verifier × Outcome Finding

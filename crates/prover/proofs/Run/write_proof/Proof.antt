@@ -4,7 +4,7 @@ use mir.Syntax.{w64}
 use mir.Val.{toZ, ofZ}
 use Rattle.wire.specs.Proof.{writtenIn}
 use Rattle.refusal.specs.Check.{passed}
-use Rattle.prover.specs.Written.{writtenStep, writeCall, proofOf}
+use Rattle.prover.specs.Written.{writtenStep, writeCall, runProof}
 use Rattle.prover.proofs.Outcomes.{write-never, write-then}
 use mathlib.Core.List.{[]}
 use Rattle.prover.specs.Records.{out}
@@ -32,7 +32,7 @@ unfolding writtenIn
 returns c =
     let s = c .before .before .before .before .before .before .before .args in
     let e = ap (λ p. writeCall p (s .self) (s .pass) (now (s .file))) (sym (c .before .before .before .before .modulus-of .ensures)) ∙ write-never (c .before .before .before .before .modulus-of .result) (s .self) (s .pass) (now (s .file)) (sym (c .before .before .before .may-write .ensures) ∙ ap passed (c .before .enum-told2 .given .1)) in
-    (ap (λ o. out o [] []) (c .refuse .ensures ∙ ap (writtenStep (s .self) (s .pass)) (sym e)), ap (λ o. writtenIn o (proofOf (s .self)) (now (s .file))) (sym e))
+    (ap (λ o. out o [] []) (c .refuse .ensures ∙ ap (writtenStep (s .self) (s .pass)) (sym e)), ap (λ o. writtenIn o (runProof (s .self)) (now (s .file))) (sym e))
 
 write-proof-in-requires : tie.Need-write-proof-in-requires
 write-proof-in-requires c κs = search needs
@@ -58,7 +58,7 @@ returns-2 c =
     let z = s .self .total in
     let t : toZ w64 (ofZ w64 z) ≡ z = kept (c .before .before .before .before) in
     let w = simp t at (c .before .before .before .write-proof-in .ensures) in
-    (ap (λ o. out o [] []) (c .written-step .ensures ∙ ap (writtenStep (s .self) (s .pass)) (w .0 ∙ sym e)), w .1 ∙ ap (λ o. writtenIn o (proofOf (s .self)) (now (s .file))) (sym e))
+    (ap (λ o. out o [] []) (c .written-step .ensures ∙ ap (writtenStep (s .self) (s .pass)) (w .0 ∙ sym e)), w .1 ∙ ap (λ o. writtenIn o (runProof (s .self)) (now (s .file))) (sym e))
 
 pub write-proof-spec : {M : Type 1} → statement M
 write-proof-spec =
