@@ -1,4 +1,6 @@
 // The scratch list, and how much of the buffers is lent.
+ghost use mathlib.Core.Path.{_≡_};
+ghost use Rattle.records.specs.Lists.{noLists, numbersIn, saying, pushes, lends, placeSays, placed, keeps, bufferAfter};
 use super::Record;
 use super::Said;
 use super::parts::within;
@@ -16,7 +18,9 @@ pub struct Kept {
     pub said: Said,
 }
 
-pub fn none() -> Lists {
+pub fn none() -> Lists
+    ensures { λ r. ⌜ r ≡ noLists ⌝ }
+{
     Lists {
         flent: 0,
         glent: 0,
@@ -26,13 +30,17 @@ pub fn none() -> Lists {
 }
 
 // The numbers of a scratch list.
-pub fn numbers(held: usize, scratch: &[u32]) -> &[u32] {
+pub fn numbers(held: usize, scratch: &[u32]) -> &[u32]
+    ensures { λ r. ⌜ now r ≡ numbersIn held (now (scratch .entry)) ⌝ }
+{
     let n = within(held, scratch);
     &scratch[..n]
 }
 
 // Ops 1 to 4.
-pub fn keep(l: Lists, r: Record, f: &mut [u32; 4096], g: &mut [u32; 4096]) -> Kept {
+pub fn keep(l: Lists, r: Record, f: &mut [u32; 4096], g: &mut [u32; 4096]) -> Kept
+    ensures { λ k. ⌜ (k ≡ keeps l r) × (now (f .exit) ≡ bufferAfter 0 r (now (f .entry))) × (now (g .exit) ≡ bufferAfter 1 r (now (g .entry))) ⌝ }
+{
     let op = r.op;
     match op {
         1 => says(Lists { held: 0, ..l }, Said::Nothing),
@@ -43,11 +51,15 @@ pub fn keep(l: Lists, r: Record, f: &mut [u32; 4096], g: &mut [u32; 4096]) -> Ke
     }
 }
 
-fn says(lists: Lists, said: Said) -> Kept {
+fn says(lists: Lists, said: Said) -> Kept
+    ensures { λ k. ⌜ k ≡ saying lists said ⌝ }
+{
     Kept { lists, said }
 }
 
-fn push(l: Lists, a: u32) -> Kept {
+fn push(l: Lists, a: u32) -> Kept
+    ensures { λ k. ⌜ k ≡ pushes l a ⌝ }
+{
     let held = l.held;
     if held >= 128 {
         return says(l, Said::Full);
@@ -64,7 +76,9 @@ fn push(l: Lists, a: u32) -> Kept {
     )
 }
 
-fn lend(l: Lists, a: u32, b: u32) -> Kept {
+fn lend(l: Lists, a: u32, b: u32) -> Kept
+    ensures { λ k. ⌜ k ≡ lends l a b ⌝ }
+{
     if a > 4096 {
         return says(l, Said::Bad);
     }
@@ -82,7 +96,9 @@ fn lend(l: Lists, a: u32, b: u32) -> Kept {
 }
 
 // Place b of f or g becomes c.
-fn place(r: Record, f: &mut [u32; 4096], g: &mut [u32; 4096]) -> Said {
+fn place(r: Record, f: &mut [u32; 4096], g: &mut [u32; 4096]) -> Said
+    ensures { λ s. ⌜ (s ≡ placeSays r) × (now (f .exit) ≡ placed 0 r (now (f .entry))) × (now (g .exit) ≡ placed 1 r (now (g .entry))) ⌝ }
+{
     if r.a > 1 {
         return Said::Bad;
     }

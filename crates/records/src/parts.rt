@@ -2,7 +2,7 @@
 ghost use Rattle.records.specs.Counts.{Counts};
 
 pub fn within(n: usize, values: &[u32]) -> usize
-    ensures { λ r. ⌜ Counts r (now (values .entry)) ⌝ }
+    ensures { λ r. ⌜ Counts n r (now (values .entry)) ⌝ }
 {
     if values.len() < n {
         return values.len();
@@ -11,7 +11,7 @@ pub fn within(n: usize, values: &[u32]) -> usize
 }
 
 pub fn within_bytes(n: usize, bytes: &[u8]) -> usize
-    ensures { λ r. ⌜ Counts r (now (bytes .entry)) ⌝ }
+    ensures { λ r. ⌜ Counts n r (now (bytes .entry)) ⌝ }
 {
     if bytes.len() < n {
         return bytes.len();

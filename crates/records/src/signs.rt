@@ -2,6 +2,7 @@
 ghost use mathlib.Core.Path.{_≡_};
 ghost use Prim.Native.Nat.{_+_, _*_, _<_};
 ghost use Rattle.wire.specs.Number.{signed};
+ghost use Rattle.records.specs.Signs.{plainItem};
 use item::Given;
 
 pub enum Plain {
@@ -11,7 +12,9 @@ pub enum Plain {
 }
 
 // An item of a plain run.
-pub fn item(reading: u32, weight: u32) -> Plain {
+pub fn item(reading: u32, weight: u32) -> Plain
+    ensures { λ r. ⌜ r ≡ plainItem reading weight ⌝ }
+{
     if reading > 65535 {
         return Plain::Bad;
     }

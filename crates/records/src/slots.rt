@@ -1,5 +1,7 @@
 // Eight slots of 256 bytes.
+ghost use mathlib.Core.Path.{_≡_};
 ghost use Prim.Native.Nat.{_<_};
+ghost use Rattle.records.specs.Slots.{noSlots, saying, emptied, appends, fills};
 use super::Record;
 use super::Said;
 
@@ -14,7 +16,9 @@ pub struct Filled {
     pub said: Said,
 }
 
-pub fn none() -> Slots {
+pub fn none() -> Slots
+    ensures { λ r. ⌜ r ≡ noSlots ⌝ }
+{
     Slots {
         bytes: [0; 2048],
         sizes: [0; 8],
@@ -22,7 +26,9 @@ pub fn none() -> Slots {
 }
 
 // Ops 60 and 61.
-pub fn fill(s: Slots, r: Record) -> Filled {
+pub fn fill(s: Slots, r: Record) -> Filled
+    ensures { λ k. ⌜ k ≡ fills s r ⌝ }
+{
     let slot = r.a;
     if slot > 7 {
         return says(s, Said::Bad);
@@ -35,12 +41,15 @@ pub fn fill(s: Slots, r: Record) -> Filled {
     }
 }
 
-fn says(slots: Slots, said: Said) -> Filled {
+fn says(slots: Slots, said: Said) -> Filled
+    ensures { λ k. ⌜ k ≡ saying slots said ⌝ }
+{
     Filled { slots, said }
 }
 
 fn empty(s: Slots, slot: usize) -> Slots
     requires { ⌜ slot < 8 ⌝ }
+    ensures { λ r. ⌜ r ≡ emptied s slot ⌝ }
 {
     let mut sizes = s.sizes;
     sizes[slot] = 0;
@@ -49,6 +58,7 @@ fn empty(s: Slots, slot: usize) -> Slots
 
 fn append(s: Slots, slot: usize, byte: u32) -> Filled
     requires { ⌜ slot < 8 ⌝ }
+    ensures { λ k. ⌜ k ≡ appends s slot byte ⌝ }
 {
     if byte > 255 {
         return says(s, Said::Bad);
