@@ -24,48 +24,29 @@ use Rattle.prover.specs.Calls.{passOpen}
 use Rattle.prover.specs.Change.{emptyPass}
 use Rattle.prover.specs.Values.{valuesOf}
 
--- the run with another next, total, message, end values or mode
-abbrev pub goneTo : Run → Next → Run
-goneTo r next =
+-- the run with another next, messages, total and end values
+abbrev pub runWith : Run → Next → List ℕ → ℤ → ℕ → ℕ → Run
+runWith r next messages total f g =
     record {
       start = r .start;
       mode = r .mode;
       next = next;
       round = r .round;
       challenges = r .challenges;
-      messages = r .messages;
-      total = r .total;
-      fend = r .fend;
-      gend = r .gend;
-    }
-
-abbrev pub withTotal : Run → ℤ → Run
-withTotal r total =
-    record {
-      start = r .start;
-      mode = r .mode;
-      next = roundOrEnds 0 (r .start .rounds);
-      round = r .round;
-      challenges = r .challenges;
-      messages = r .messages;
+      messages = messages;
       total = total;
-      fend = r .fend;
-      gend = r .gend;
-    }
-
-abbrev pub withEnds : Run → ℕ → ℕ → Run
-withEnds r f g =
-    record {
-      start = r .start;
-      mode = r .mode;
-      next = Openings;
-      round = r .round;
-      challenges = r .challenges;
-      messages = r .messages;
-      total = r .total;
       fend = f;
       gend = g;
     }
+
+abbrev pub goneTo : Run → Next → Run
+goneTo r next = runWith r next (r .messages) (r .total) (r .fend) (r .gend)
+
+abbrev pub withTotal : Run → ℤ → Run
+withTotal r total = runWith r (roundOrEnds 0 (r .start .rounds)) (r .messages) total (r .fend) (r .gend)
+
+abbrev pub withEnds : Run → ℕ → ℕ → Run
+withEnds r f g = runWith r Openings (r .messages) (r .total) f g
 
 abbrev pub inFull : Run → Run
 inFull r =
@@ -111,17 +92,7 @@ messagesWith messages i even cross odd = set (set (set messages (3 * i) even) (3
 
 abbrev pub withMessage : Run → ℕ → ℕ → ℕ → Run
 withMessage r even cross odd =
-    record {
-      start = r .start;
-      mode = r .mode;
-      next = Challenge;
-      round = r .round;
-      challenges = r .challenges;
-      messages = messagesWith (r .messages) (r .round) even cross odd;
-      total = r .total;
-      fend = r .fend;
-      gend = r .gend;
-    }
+    runWith r Challenge (messagesWith (r .messages) (r .round) even cross odd) (r .total) (r .fend) (r .gend)
 
 abbrev pub messageStep : Run → Pass → Step
 messageStep r s =

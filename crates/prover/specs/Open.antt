@@ -20,30 +20,13 @@ use Rattle.phase.specs.Order.{openNext}
 use Rattle.prover.specs.declared.Run.{Run}
 use Rattle.prover.specs.declared.Pass.{Pass}
 use Rattle.prover.specs.declared.Answer.the-variants as answer
-use Rattle.prover.specs.Records.{Out, out, answeredStep}
+use Rattle.prover.specs.Records.{passWith, Out, out, answeredStep}
 use Rattle.prover.specs.Level.{levelOf, padding}
 use Rattle.prover.specs.WellFormed.{wellFormed}
 
 -- a pass that has taken no item, with its kernel
 abbrev pub newPass : Kind → Points → Kernel → Pass
-newPass kind points k =
-    record {
-      kind = kind;
-      taken = 0;
-      total = pos 0;
-      dot = 0;
-      points = points;
-      flevels = k .flevels;
-      fvalues = k .fvalues;
-      fcount = k .fcount;
-      glevels = k .glevels;
-      gvalues = k .gvalues;
-      gcount = k .gcount;
-      even = k .even;
-      cross = k .cross;
-      odd = k .odd;
-      evals = k .evals;
-    }
+newPass kind points k = passWith kind 0 (pos 0) 0 points k
 
 -- "Opening at point b": b, -b, b squared
 abbrev pub pointsOf : ℕ → ℕ → Points

@@ -5,6 +5,8 @@ use lib.IntN.{ℤ}
 use lib.ListN.{replicate}
 use Rattle.refusal.specs.Outcome.{Outcome, answered, refused, refusedAt}
 use Rattle.kernel.specs.declared.Kernel.{Kernel}
+use Rattle.kernel.specs.declared.Points.{Points}
+use Rattle.phase.specs.declared.Kind.{Kind}
 use Rattle.prover.specs.declared.Run.{Run}
 use Rattle.prover.specs.declared.Pass.{Pass}
 use Rattle.prover.specs.declared.Step.{Step}
@@ -28,14 +30,15 @@ kernelOf s =
       evals = s .evals;
     }
 
-abbrev pub withKernel : Pass → Kernel → Pass
-withKernel s k =
+-- a pass of these parts
+abbrev pub passWith : Kind → ℕ → ℤ → ℕ → Points → Kernel → Pass
+passWith kind taken total dot points k =
     record {
-      kind = s .kind;
-      taken = s .taken;
-      total = s .total;
-      dot = s .dot;
-      points = s .points;
+      kind = kind;
+      taken = taken;
+      total = total;
+      dot = dot;
+      points = points;
       flevels = k .flevels;
       fvalues = k .fvalues;
       fcount = k .fcount;
@@ -48,26 +51,12 @@ withKernel s k =
       evals = k .evals;
     }
 
+abbrev pub withKernel : Pass → Kernel → Pass
+withKernel s k = passWith (s .kind) (s .taken) (s .total) (s .dot) (s .points) k
+
 -- the count and the sums of a pass
 abbrev pub counted : Pass → ℕ → ℤ → ℕ → Pass
-counted s taken total dot =
-    record {
-      kind = s .kind;
-      taken = taken;
-      total = total;
-      dot = dot;
-      points = s .points;
-      flevels = s .flevels;
-      fvalues = s .fvalues;
-      fcount = s .fcount;
-      glevels = s .glevels;
-      gvalues = s .gvalues;
-      gcount = s .gcount;
-      even = s .even;
-      cross = s .cross;
-      odd = s .odd;
-      evals = s .evals;
-    }
+counted s taken total dot = passWith (s .kind) taken total dot (s .points) (kernelOf s)
 
 -- no values beside the answer
 abbrev pub noValues : List ℕ
