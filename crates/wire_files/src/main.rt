@@ -292,53 +292,35 @@ fn entry(file: &[u8], k: u32) {
     text(b"\n");
 }
 
-// A good file with one byte changed.
-fn trip(label: &[u8], at: usize, byte: u8) {
-    let mut file = TRIP;
-    if at < 19 {
+// A byte of a good file changed.
+fn put(file: &mut [u8], at: usize, byte: u8) {
+    if at < file.len() {
         file[at] = byte;
     }
-    trip_log(label, &file);
 }
 
-fn trip_log(label: &[u8], file: &[u8; 19]) {
-    log(label, &file[..]);
+fn trip(label: &[u8], at: usize, byte: u8) {
+    let mut file = TRIP;
+    put(&mut file, at, byte);
+    log(label, &file);
 }
 
 fn edge(label: &[u8], at: usize, byte: u8) {
     let mut file = EDGE;
-    if at < 15 {
-        file[at] = byte;
-    }
-    edge_log(label, &file);
-}
-
-fn edge_log(label: &[u8], file: &[u8; 15]) {
-    log(label, &file[..]);
+    put(&mut file, at, byte);
+    log(label, &file);
 }
 
 fn trip_proof(label: &[u8], at: usize, byte: u8) {
     let mut file = PROOF;
-    if at < 42 {
-        file[at] = byte;
-    }
-    proof_of(label, &file);
-}
-
-fn proof_of(label: &[u8], file: &[u8; 42]) {
-    proof(label, &file[..]);
+    put(&mut file, at, byte);
+    proof(label, &file);
 }
 
 fn small(label: &[u8], at: usize, byte: u8) {
     let mut file = MATRIX;
-    if at < 32 {
-        file[at] = byte;
-    }
-    matrix_of(label, &file);
-}
-
-fn matrix_of(label: &[u8], file: &[u8; 32]) {
-    matrix(label, &file[..]);
+    put(&mut file, at, byte);
+    matrix(label, &file);
 }
 
 fn logs() {
