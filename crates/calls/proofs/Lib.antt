@@ -42,7 +42,6 @@ pub mod VerdictPhases
 pub mod VerdictFollows
 pub mod VerdictLists
 pub mod StartRows
-pub mod QueryArms
 pub mod Longer
 pub mod Alike
 pub mod Hits
@@ -62,7 +61,6 @@ pub mod CarriedSteps
 pub mod Carried
 pub mod CarriedWalk
 pub mod CarriedWhole
-pub mod Dispatch
 pub mod Demand3
 pub mod LiveExample
 pub mod InstanceTwisted

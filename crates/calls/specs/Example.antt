@@ -15,9 +15,9 @@ use Rattle.prover.specs.Records.{noValues}
 use Rattle.prover.specs.Values.{inNinety}
 use Rattle.prover.specs.Start.{started, freshRun, startPlain}
 use Rattle.runs.specs.Trip.{Trip}
+use Rattle.calls.specs.Step.{lending}
 use Rattle.calls.specs.declared.Call.{Call}
 use Rattle.calls.specs.declared.Call.the-variants as call
-use Rattle.calls.specs.Dispatch.{lending}
 use Rattle.calls.specs.Table.{Refusal, table}
 use Rattle.calls.specs.Meaning.{Answer, says}
 use Rattle.calls.specs.Lists.{each}

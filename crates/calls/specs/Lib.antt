@@ -1,6 +1,5 @@
 pub mod Lists
 pub mod Step
-pub mod Dispatch
 pub mod State
 pub mod World
 pub mod Table

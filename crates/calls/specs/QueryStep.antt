@@ -4,15 +4,11 @@ use mathlib.Core.List.{List}
 use Rattle.refusal.specs.Outcome.{Outcome, answered, refused, refusedAt}
 use Rattle.verifier.specs.declared.Verifier.{Verifier}
 use Rattle.verifier.specs.Reply.{Reply}
-use Rattle.verifier.specs.Reply as reply
-use Rattle.verifier.specs.Records.{Handed, leaves, Finding, yes, no, OpeningFinding, holds, failsF, failsG}
+use Rattle.verifier.specs.Records.{Handed, leaves, Finding, OpeningFinding}
 use Rattle.verifier.specs.Calls.{give, close, closeClaim, message, verdict, checkOpening}
 use Rattle.verifier.specs.ProofFile.{proof, leavesJudged}
 use Rattle.calls.specs.declared.query.Query.{Query}
 use Rattle.calls.specs.declared.query.Query.the-variants as query
-use Rattle.calls.specs.declared.query.Told.{Told}
-use Rattle.calls.specs.declared.query.Told.the-variants as told
-use Rattle.calls.specs.declared.query.Heard.{Heard}
 
 -- the file and the opening values that a call is lent; none of them is written
 pub record Shown : Type 0 where
@@ -25,27 +21,10 @@ pub data Said : Type 0 where
   finds : Finding → Said
   opens : OpeningFinding → Said
 
-abbrev pub toldIn : Told → Outcome Said
-toldIn told.Started = answered (replies reply.started)
-toldIn told.Taken = answered (replies reply.taken)
-toldIn told.Closed = answered (replies reply.closed)
-toldIn told.Passed = answered (replies reply.passed)
-toldIn (told.Failed k) = answered (replies (reply.no k))
-toldIn told.Yes = answered (finds yes)
-toldIn (told.No k) = answered (finds (no k))
-toldIn told.Opens = answered (opens holds)
-toldIn (told.FailsF j) = answered (opens (failsF j))
-toldIn (told.FailsG j) = answered (opens (failsG j))
-toldIn (told.Refused k) = refused k
-toldIn (told.RefusedAt k i) = refusedAt k i
-
 -- the verifier that a call hands back, and what it says or its refusal
 pub record Spoken : Type 0 where
   pub verifier : Verifier
   pub told : Outcome Said
-
-abbrev pub heardIn : Heard → Spoken
-heardIn h = record { verifier = h .verifier; told = toldIn (h .told) }
 
 abbrev pub saidAs : {A : Type 0} → (A → Said) → Outcome A → Outcome Said
 saidAs f (answered x) = answered (f x)

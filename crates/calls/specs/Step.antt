@@ -25,6 +25,9 @@ pub record Lent : Type 0 where
   pub g : List ℕ
   pub file : List ℕ
 
+abbrev pub lending : List ℕ → List ℕ → List ℕ → Lent
+lending f g file = record { f = f; g = g; file = file }
+
 -- what a call hands back, and what it leaves in what it was lent
 pub record Result : Type 0 where
   pub run : Run

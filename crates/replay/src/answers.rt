@@ -10,7 +10,7 @@ use super::print::signed;
 use super::print::text;
 use super::print::three;
 use super::print::two;
-use calls::query::Told;
+use dispatch::query::Told;
 use prover::Answer;
 use prover::Step;
 

@@ -142,7 +142,7 @@ fn lent(
     let n = within(l.flent, f);
     let m = within(l.glent, g);
     let k = within_bytes(size, proof);
-    calls::make(
+    dispatch::make(
         p.run,
         p.pass,
         call,

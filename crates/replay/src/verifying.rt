@@ -101,7 +101,7 @@ fn asked(j: Judge, query: Query, l: Lists, p: Proof) -> Judge {
     let scratch = l.scratch;
     let bytes = p.bytes;
     let n = within_bytes(p.size, &bytes);
-    let heard = calls::query::ask(j.verifier, query, &bytes[..n], numbers(l.held, &scratch));
+    let heard = dispatch::query::ask(j.verifier, query, &bytes[..n], numbers(l.held, &scratch));
     let told = heard.told;
     answers::told(told);
     let verifier = heard.verifier;

@@ -3,10 +3,10 @@ use mir.Facts.{toZ-ofZ}
 use denote.Ref.{now}
 use mathlib.Core.List.{[]}
 use Rattle.item.specs.Start.{modulusOf}
-use Rattle.calls.proofs.Dispatch.{give-reading, give-numbers}
+use Rattle.dispatch.proofs.Dispatch.{give-reading, give-numbers}
 use borrow.Author.Needs.{needs}
-use Rattle.calls.proofs.give.Statement.{statement}
-use Rattle.calls.proofs.give.Tie as tie
+use Rattle.dispatch.proofs.give.Statement.{statement}
+use Rattle.dispatch.proofs.give.Tie as tie
 
 enum-known-given : tie.Need-enum-known-given
 enum-known-given c = search needs

@@ -1,9 +1,10 @@
 use mathlib.Core.Path.{sym, ap, _∙_}
 use Rattle.verifier.specs.Reply.{answerIn}
-use Rattle.calls.specs.QueryStep.{replies, heardIn, saidAs}
+use Rattle.calls.specs.QueryStep.{replies, saidAs}
+use Rattle.dispatch.specs.Told.{heardIn}
 use borrow.Author.Needs.{needs}
-use Rattle.calls.proofs.query.stepped.Statement.{statement}
-use Rattle.calls.proofs.query.stepped.Tie as tie
+use Rattle.dispatch.proofs.query.stepped.Statement.{statement}
+use Rattle.dispatch.proofs.query.stepped.Tie as tie
 
 enum-told : tie.Need-enum-told
 enum-told c = search needs

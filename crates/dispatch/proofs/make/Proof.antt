@@ -1,9 +1,9 @@
 use denote.Ref.{now}
 use Rattle.item.specs.Start.{modulusOf}
-use Rattle.calls.proofs.Dispatch.{made-open-pass, made-open-at, made-to-full, made-to-small, made-item, made-close, made-message, made-challenge, made-ends, made-opening, made-write-proof}
+use Rattle.dispatch.proofs.Dispatch.{made-open-pass, made-open-at, made-to-full, made-to-small, made-item, made-close, made-message, made-challenge, made-ends, made-opening, made-write-proof}
 use borrow.Author.Needs.{needs}
-use Rattle.calls.proofs.make.Statement.{statement}
-use Rattle.calls.proofs.make.Tie as tie
+use Rattle.dispatch.proofs.make.Statement.{statement}
+use Rattle.dispatch.proofs.make.Tie as tie
 
 enum-told : tie.Need-enum-told
 enum-told c = search needs

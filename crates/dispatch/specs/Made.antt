@@ -3,10 +3,7 @@ use Prim.Native.Nat.{ℕ}
 use mathlib.Core.List.{List, []}
 use Rattle.prover.specs.declared.Step.{Step}
 use Rattle.prover.specs.Records.{out}
-use Rattle.calls.specs.Step.{Lent, Result, keeping}
-
-abbrev pub lending : List ℕ → List ℕ → List ℕ → Lent
-lending f g file = record { f = f; g = g; file = file }
+use Rattle.calls.specs.Step.{Result, lending, keeping}
 
 abbrev pub result : Step → List ℕ → List ℕ → List ℕ → Result
 result s f g file = keeping (lending f g file) (out s [] [])

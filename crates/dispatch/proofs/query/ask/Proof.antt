@@ -3,10 +3,10 @@ use mir.Val.{toZ, ofZ}
 use mir.Syntax.{w64}
 use mathlib.Core.Path.{_≡_}
 use Rattle.item.specs.Start.{modulusOf}
-use Rattle.calls.proofs.QueryArms.{item-arm, close-arm, close-claim-arm, message-arm, verdict-arm, proof-arm, opening-arm}
+use Rattle.dispatch.proofs.QueryArms.{item-arm, close-arm, close-claim-arm, message-arm, verdict-arm, proof-arm, opening-arm}
 use borrow.Author.Needs.{needs}
-use Rattle.calls.proofs.query.ask.Statement.{statement}
-use Rattle.calls.proofs.query.ask.Tie as tie
+use Rattle.dispatch.proofs.query.ask.Statement.{statement}
+use Rattle.dispatch.proofs.query.ask.Tie as tie
 
 enum-known-query : tie.Need-enum-known-query
 enum-known-query c = search needs

@@ -18,10 +18,10 @@ use Rattle.prover.specs.Full.{messageCall, endsCall}
 use Rattle.prover.specs.Challenge.{challengeCall}
 use Rattle.prover.specs.Opening.{openingCall}
 use Rattle.prover.specs.Written.{writeCall, writtenStep, runProof}
 use Rattle.calls.specs.declared.Call.{Call}
 use Rattle.calls.specs.declared.Call.the-variants as call
-use Rattle.calls.specs.Step.{keeping, leaving, step}
-use Rattle.calls.specs.Dispatch.{lending, result}
+use Rattle.calls.specs.Step.{lending, keeping, leaving, step}
+use Rattle.dispatch.specs.Made.{result}
 
 module _ (p : ℕ) (r : Run) (s : Pass) (f g file : List ℕ) where
   -- at the call that is made

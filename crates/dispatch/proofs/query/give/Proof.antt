@@ -8,8 +8,8 @@ use Rattle.item.specs.Start.{modulusOf}
 use Rattle.verifier.specs.Records.{leaves}
 use Rattle.verifier.specs.Calls.{give}
 use borrow.Author.Needs.{needs}
-use Rattle.calls.proofs.query.give.Statement.{statement}
-use Rattle.calls.proofs.query.give.Tie as tie
+use Rattle.dispatch.proofs.query.give.Statement.{statement}
+use Rattle.dispatch.proofs.query.give.Tie as tie
 
 enum-known-given : tie.Need-enum-known-given
 enum-known-given c = search needs
