@@ -7,7 +7,7 @@ use Rattle.phase.specs.declared.Next.{Next}
 use Rattle.phase.specs.declared.Next.the-variants.{Total, Message, Challenge, Ends, Openings}
 use Rattle.phase.specs.declared.Kind.{Kind}
 use Rattle.phase.specs.declared.Kind.the-variants.{Shut, Asked, Change}
-use Rattle.phase.specs.Cases.{isSmall}
+use Rattle.phase.specs.Cases.{isSmall, waits}
 
 -- after the total, and after a challenge
 abbrev pub roundOrEnds : ℕ → ℕ → Next
@@ -57,3 +57,7 @@ changeAt Message n = true
 changeAt Challenge n = false
 changeAt Ends n = true
 changeAt Openings n = ltb 0 n
+
+-- "openings .. with n = 0" are refused
+abbrev pub openingsAt : Next → ℕ → Bool
+openingsAt next n = cond (waits Openings next) (ltb 0 n) false

@@ -2,11 +2,12 @@
 ghost use mathlib.Core.Path.{_≡_};
 ghost use lib.Dec.{eqb, ltb};
 ghost use Rattle.refusal.specs.Check.{passed};
-ghost use Rattle.phase.specs.Order.{roundOrEnds, roundFits, passNext, changeNext, kindFits, openNext, changeAt};
+ghost use Rattle.phase.specs.Order.{roundOrEnds, roundFits, passNext, changeNext, kindFits, openNext, changeAt, openingsAt};
 use super::Kind;
 use super::Mode;
 use super::Next;
 use super::cases::is_small;
+use super::cases::waits;
 use refusal::Check;
 use refusal::pass_if;
 
@@ -101,6 +102,16 @@ pub fn change_at(next: Next, rounds: u32) -> bool
         Next::Ends => true,
         Next::Openings => 0 < rounds,
     }
+}
+
+// Openings are next, and there are rounds to open.
+pub fn openings_at(next: Next, rounds: u32) -> bool
+    ensures { λ r. ⌜ r ≡ openingsAt next rounds ⌝ }
+{
+    if waits(Next::Openings, next) {
+        return 0 < rounds;
+    }
+    false
 }
 
 // 8: an item is wanted.

@@ -9,12 +9,12 @@ use Rattle.phase.specs.declared.Mode.the-variants.{Small, Full}
 use Rattle.phase.specs.declared.Next.{Next}
 use Rattle.phase.specs.declared.Next.the-variants.{Total, Message, Challenge, Ends, Openings}
 use Rattle.phase.specs.Cases.{isSmall, waits}
-use Rattle.phase.specs.Order.{openNext}
+use Rattle.phase.specs.Order.{openNext, openingsAt}
 use Rattle.phase.proofs.Facts.{waits-for}
 use Rattle.prover.specs.declared.Run.{Run}
 use Rattle.prover.specs.declared.Pass.{Pass}
 use Rattle.prover.specs.WellFormed.{wellFormed}
-use Rattle.prover.specs.Open.{mayOpen, mayOpenAt}
+use Rattle.prover.specs.Open.{smallFormed, mayOpen, mayOpenAt}
 use Rattle.prover.proofs.Facts.{holds}
 use Rattle.prover.proofs.Decides.{Decides}
 
@@ -58,35 +58,34 @@ both-true : (a b : Bool) → a ≡ true → b ≡ true → cond a b false ≡ tr
 both-true true b h e = e
 both-true false b h e = absurd (true≢false (sym h))
 
+formed-small : (p : ℕ) (r : Run) (s : Pass) → wellFormed p r s ≡ true → r .mode ≡ Small → smallFormed p r s ≡ true
+formed-small p r s formed small = both-true (wellFormed p r s) (isSmall (r .mode)) formed (ap isSmall small)
+
 pub open-turn : (p : ℕ) (r : Run) (s : Pass) → Decides (mayOpen p r s) (OpenTurn p r s)
 open-turn p r s =
     record {
       so = λ h.
-          let a = holds (wellFormed p r s) (cond (isSmall (r .mode)) (openNext (r .next)) false) h in
-          let b = holds (isSmall (r .mode)) (openNext (r .next)) (a .1) in
-          record { formed = a .0; small = small-is (r .mode) (b .0); next = takes-pass (r .next) (b .1) };
-      back = λ t.
-          both-true (wellFormed p r s) (cond (isSmall (r .mode)) (openNext (r .next)) false) (t .formed)
-          (both-true (isSmall (r .mode)) (openNext (r .next)) (ap isSmall (t .small)) (pass-taken (r .next) (t .next)));
+          let a = holds (smallFormed p r s) (openNext (r .next)) h in
+          let b = holds (wellFormed p r s) (isSmall (r .mode)) (a .0) in
+          record { formed = b .0; small = small-is (r .mode) (b .1); next = takes-pass (r .next) (a .1) };
+      back = λ t. both-true (smallFormed p r s) (openNext (r .next)) (formed-small p r s (t .formed) (t .small)) (pass-taken (r .next) (t .next));
     }
 
 pub open-at-turn : (p : ℕ) (r : Run) (s : Pass) → Decides (mayOpenAt p r s) (OpenAtTurn p r s)
 open-at-turn p r s =
-    let opens = cond (waits Openings (r .next)) (ltb 0 (r .start .rounds)) false in
-    let turn = cond (isSmall (r .mode)) opens false in
+    let opens = openingsAt (r .next) (r .start .rounds) in
     record {
       so = λ h.
-          let a = holds (wellFormed p r s) turn h in
-          let b = holds (isSmall (r .mode)) opens (a .1) in
-          let c = holds (waits Openings (r .next)) (ltb 0 (r .start .rounds)) (b .1) in
+          let a = holds (smallFormed p r s) opens h in
+          let b = holds (wellFormed p r s) (isSmall (r .mode)) (a .0) in
+          let c = holds (waits Openings (r .next)) (ltb 0 (r .start .rounds)) (a .1) in
           record {
-            formed = a .0;
-            small = small-is (r .mode) (b .0);
+            formed = b .0;
+            small = small-is (r .mode) (b .1);
             next = waits-for Openings (r .next) (c .0);
             rounds = ltb-true 0 (r .start .rounds) (c .1);
           };
       back = λ t.
-          both-true (wellFormed p r s) turn (t .formed)
-          (both-true (isSmall (r .mode)) opens (ap isSmall (t .small))
-          (both-true (waits Openings (r .next)) (ltb 0 (r .start .rounds)) (ap (waits Openings) (t .next)) (lt-ltb 0 (r .start .rounds) (t .rounds))));
+          both-true (smallFormed p r s) opens (formed-small p r s (t .formed) (t .small))
+          (both-true (waits Openings (r .next)) (ltb 0 (r .start .rounds)) (ap (waits Openings) (t .next)) (lt-ltb 0 (r .start .rounds) (t .rounds)));
     }

@@ -8,23 +8,21 @@ use Rattle.refusal.specs.Outcome.{Outcome, answered, require}
 use Rattle.kernel.specs.Kernel.{emptyKernel, paddingBelow}
 use Rattle.phase.specs.declared.Kind.{Kind}
 use Rattle.phase.specs.declared.Kind.the-variants.{Change}
-use Rattle.phase.specs.Cases.{isSmall}
 use Rattle.phase.specs.Order.{changeAt}
 use Rattle.prover.specs.declared.Run.{Run}
 use Rattle.prover.specs.declared.Pass.{Pass}
 use Rattle.prover.specs.declared.Answer.the-variants as answer
 use Rattle.prover.specs.Records.{Out, out, answeredStep}
 use Rattle.prover.specs.Level.{levelOf, foldSize, padding}
-use Rattle.prover.specs.WellFormed.{wellFormed}
 use Rattle.prover.specs.Calls.{bothLong}
-use Rattle.prover.specs.Open.{noPoints, newPass}
+use Rattle.prover.specs.Open.{noPoints, newPass, smallFormed}
 
 -- a pass of a kind that has taken nothing
 abbrev pub emptyPass : Kind → Pass
 emptyPass kind = newPass kind noPoints emptyKernel
 
 abbrev pub mayChange : ℕ → Run → Pass → Bool
-mayChange p r s = cond (wellFormed p r s) (cond (isSmall (r .mode)) (changeAt (r .next) (r .start .rounds)) false) false
+mayChange p r s = cond (smallFormed p r s) (changeAt (r .next) (r .start .rounds)) false
 
 -- how many places of the fold the padding completes
 abbrev pub paddingPlaces : Run → ℕ

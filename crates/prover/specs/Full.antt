@@ -2,7 +2,6 @@
 use Prim.Native.Nat.{ℕ, _/_}
 use mathlib.Core.Bool.{Bool, false, cond}
 use mathlib.Core.List.{List}
-use lib.Dec.{ltb}
 use lib.ListN.{length}
 use Rattle.refusal.specs.Number as number
 use Rattle.refusal.specs.Outcome.{Outcome, answered, require}
@@ -12,6 +11,7 @@ use Rattle.vector.specs.Slice.{messageSlice, allReduced}
 use Rattle.phase.specs.declared.Next.{Next}
 use Rattle.phase.specs.declared.Next.the-variants as next
 use Rattle.phase.specs.Cases.{isFull, waits}
+use Rattle.phase.specs.Order.{openingsAt}
 use Rattle.prover.specs.declared.Run.{Run}
 use Rattle.prover.specs.declared.Pass.{Pass}
 use Rattle.prover.specs.declared.Answer.the-variants as answer
@@ -37,7 +37,7 @@ endsTurn p r s = fullTurn p r s next.Ends
 
 -- "openings .. with n = 0" are refused
 abbrev pub openingTurn : ℕ → Run → Pass → Bool
-openingTurn p r s = cond (fullFormed p r s) (cond (waits next.Openings (r .next)) (ltb 0 (r .start .rounds)) false) false
+openingTurn p r s = cond (fullFormed p r s) (openingsAt (r .next) (r .start .rounds)) false
 
 -- "in the places a full-mode call reads, a number P or more" is refused
 abbrev pub bothReduced : ℕ → Run → List ℕ → List ℕ → Bool

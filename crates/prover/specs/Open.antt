@@ -2,7 +2,6 @@
 use Prim.Native.Nat.{ℕ}
 use mathlib.Core.Bool.{Bool, true, false, cond}
 use mathlib.Core.List.{[]}
-use lib.Dec.{ltb}
 use lib.IntN.{pos}
 use Rattle.refusal.specs.Number as number
 use Rattle.refusal.specs.Outcome.{Outcome, answered, refused, require}
@@ -16,7 +15,7 @@ use Rattle.phase.specs.declared.Next.the-variants as next
 use Rattle.phase.specs.declared.Kind.{Kind}
 use Rattle.phase.specs.declared.Kind.the-variants.{Asked}
 use Rattle.phase.specs.Cases.{isSmall, waits}
-use Rattle.phase.specs.Order.{openNext}
+use Rattle.phase.specs.Order.{openNext, openingsAt}
 use Rattle.prover.specs.declared.Run.{Run}
 use Rattle.prover.specs.declared.Pass.{Pass}
 use Rattle.prover.specs.declared.Answer.the-variants as answer
@@ -32,13 +31,17 @@ newPass kind points k = passWith kind 0 (pos 0) 0 points k
 abbrev pub pointsOf : ℕ → ℕ → Points
 pointsOf p b = record { on = true; point = b; minus = negMod p b; square = mulMod p b b }
 
+-- a record that a call returned, of a run in small mode
+abbrev pub smallFormed : ℕ → Run → Pass → Bool
+smallFormed p r s = cond (wellFormed p r s) (isSmall (r .mode)) false
+
 -- "In small mode each answer needs a pass": the run is small, and a pass is next
 abbrev pub mayOpen : ℕ → Run → Pass → Bool
-mayOpen p r s = cond (wellFormed p r s) (cond (isSmall (r .mode)) (openNext (r .next)) false) false
+mayOpen p r s = cond (smallFormed p r s) (openNext (r .next)) false
 
 -- the run is small, the openings are next and there are rounds: "openings .. with n = 0" are refused
 abbrev pub mayOpenAt : ℕ → Run → Pass → Bool
-mayOpenAt p r s = cond (wellFormed p r s) (cond (isSmall (r .mode)) (cond (waits next.Openings (r .next)) (ltb 0 (r .start .rounds)) false) false) false
+mayOpenAt p r s = cond (smallFormed p r s) (openingsAt (r .next) (r .start .rounds)) false
 
 -- "A small pass takes the padding by itself", folding to the level of what is next
 abbrev pub paddedKernel : Run → Kernel

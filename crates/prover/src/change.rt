@@ -12,10 +12,9 @@ use super::Step;
 use super::answers::answered;
 use super::answers::refuse;
 use super::checks;
-use super::formed;
 use super::open;
+use super::open_checks;
 use phase::Kind;
-use phase::cases;
 use phase::levels;
 use phase::order;
 use refusal::Check;
@@ -33,13 +32,9 @@ pub fn empty_pass(kind: Kind) -> Pass
 fn may_change(p: u32, run: Run, pass: Pass) -> Check
     ensures { λ r. ⌜ passed r ≡ mayChange p run pass ⌝ }
 {
-    if formed::well_formed(p, run, pass) {} else {
+    let Check::Passed = open_checks::small(p, run, pass) else {
         return Check::Failed;
-    }
-    let mode = run.mode;
-    if cases::is_small(mode) {} else {
-        return Check::Failed;
-    }
+    };
     let start = run.start;
     let next = run.next;
     pass_if(order::change_at(next, start.rounds))

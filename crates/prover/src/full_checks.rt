@@ -9,6 +9,7 @@ use super::formed;
 use phase::Next;
 use phase::cases;
 use phase::levels;
+use phase::order;
 use refusal::Check;
 use refusal::pass_if;
 
@@ -52,12 +53,9 @@ pub fn openings_next(p: u32, run: Run, pass: Pass) -> Check
     if full_formed(p, run, pass) {} else {
         return Check::Failed;
     }
-    let next = run.next;
-    if cases::waits(Next::Openings, next) {} else {
-        return Check::Failed;
-    }
     let start = run.start;
-    pass_if(0 < start.rounds)
+    let next = run.next;
+    pass_if(order::openings_at(next, start.rounds))
 }
 
 // 16: the places of the current fold are field numbers, in f and in g.

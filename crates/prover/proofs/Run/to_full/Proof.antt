@@ -49,13 +49,13 @@ returns-2 c =
 pad-buffer-requires : tie.Need-pad-buffer-requires
 pad-buffer-requires c κs =
     let s = c .before .before .before .before .before .before .before .before .before .before .args in
-    let h = formed (c .before .before .before .before .before .before .before .modulus-of .result) (s .self) (s .pass) (holds _ _ (sym (c .before .before .before .before .before .before .may-change .ensures) ∙ ap passed (c .before .before .before .before .enum-told .given .1)) .0) in
+    let h = formed (c .before .before .before .before .before .before .before .modulus-of .result) (s .self) (s .pass) (holds _ _ (holds _ _ (sym (c .before .before .before .before .before .before .may-change .ensures) ∙ ap passed (c .before .before .before .before .enum-told .given .1)) .0) .0) in
     (h .few, h .round)
 
 pad-buffer-requires-2 : tie.Need-pad-buffer-requires-2
 pad-buffer-requires-2 c κs =
     let s = c .before .before .before .before .before .before .before .before .before .before .before .before .before .before .args in
-    let h = formed (c .before .before .before .before .before .before .before .before .before .before .before .modulus-of .result) (s .self) (s .pass) (holds _ _ (sym (c .before .before .before .before .before .before .before .before .before .before .may-change .ensures) ∙ ap passed (c .before .before .before .before .before .before .before .before .enum-told .given .1)) .0) in
+    let h = formed (c .before .before .before .before .before .before .before .before .before .before .before .modulus-of .result) (s .self) (s .pass) (holds _ _ (holds _ _ (sym (c .before .before .before .before .before .before .before .before .before .before .may-change .ensures) ∙ ap passed (c .before .before .before .before .before .before .before .before .enum-told .given .1)) .0) .0) in
     (h .few, h .round)
 
 change-pass-requires : tie.Need-change-pass-requires
