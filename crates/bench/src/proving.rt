@@ -56,7 +56,7 @@ fn finish(folded: Step, block: &[u8], full: bool, f: &mut [u32], g: &mut [u32]) 
 
 fn open(ended: Step, block: &[u8], f: &mut [u32], g: &mut [u32]) -> Step {
     let before = ended.pass;
-    close(give(ended.run.open_at(before, log::POINT), block, f, g))
+    give(ended.run.open_at(before, log::POINT), block, f, g)
 }
 
 fn finish_full(folded: Step, block: &[u8], f: &mut [u32], g: &mut [u32]) -> Step {
@@ -69,22 +69,20 @@ fn finish_full(folded: Step, block: &[u8], f: &mut [u32], g: &mut [u32]) -> Step
 
 fn pass(step: Step, block: &[u8], f: &mut [u32], g: &mut [u32]) -> Step {
     let before = step.pass;
-    close(give(step.run.open_pass(before), block, f, g))
+    give(step.run.open_pass(before), block, f, g)
 }
 
 fn change(step: Step, block: &[u8], f: &mut [u32], g: &mut [u32]) -> Step {
     let before = step.pass;
-    close(give(step.run.to_full(before, f, g), block, f, g))
+    give(step.run.to_full(before, f, g), block, f, g)
 }
 
-fn give(step: Step, block: &[u8], f: &mut [u32], g: &mut [u32]) -> Step {
-    let before = step.pass;
-    step.run.items(before, block, f, g)
-}
-
-fn close(step: Step) -> Step {
-    let before = step.pass;
-    step.run.close(before)
+// The items of an open pass, and its close.
+fn give(opened: Step, block: &[u8], f: &mut [u32], g: &mut [u32]) -> Step {
+    let pass = opened.pass;
+    let given = opened.run.items(pass, block, f, g);
+    let full = given.pass;
+    given.run.close(full)
 }
 
 // Fold 0, lent again for the openings.
