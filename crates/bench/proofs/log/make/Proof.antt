@@ -5,16 +5,22 @@ use Rattle.bench.proofs.log.make.Statement.{statement}
 use Rattle.bench.proofs.log.make.Tie as tie
 
 abbrev Inv-loop : tie.InvT-loop
-Inv-loop block₀ items i₀ block i = length block ≡ length block₀
+Inv-loop block₀ items at₀ block at = length block ≡ length block₀
 
 abbrev μ-loop : tie.MeasureT-loop
-μ-loop block₀ items i₀ block i = i
+μ-loop block₀ items at₀ block at = at
+
+mul-at : tie.Need-mul-at Inv-loop μ-loop
+mul-at c = search needs
 
 loop-holds : tie.Need-loop-holds Inv-loop μ-loop
 loop-holds c = search needs
 
-sub-i : tie.Need-sub-i Inv-loop μ-loop
-sub-i c = search needs
+sub-at : tie.Need-sub-at Inv-loop μ-loop
+sub-at c = search needs
+
+byte-at-requires : tie.Need-byte-at-requires Inv-loop μ-loop
+byte-at-requires c κs = search needs
 
 put-requires : tie.Need-put-requires Inv-loop μ-loop
 put-requires c κs = search needs
@@ -37,8 +43,10 @@ make-spec =
     (tie.spec
     Inv-loop
     μ-loop
+    mul-at
     loop-holds
-    sub-i
+    sub-at
+    byte-at-requires
     put-requires
     loop-less
     loop-again
