@@ -49,7 +49,7 @@ use Rattle.calls.specs.Lists.{along, always}
 use Rattle.calls.specs.Demand3.{AllSized, AllKept, AllRight}
 use Rattle.calls.specs.Starts.{Startable}
 use Rattle.calls.proofs.Records.{Notes, noNotes, noted, refusal-noted, runOf, passOf}
-use Rattle.calls.proofs.Guards.{challengeDoes, totals}
+use Rattle.calls.proofs.Guards.{challengeDoes}
 use Rattle.calls.proofs.Steps.{some-none, row-passed, closeStep, does, refusedResult, settled}
 use Rattle.calls.proofs.Fits.{Fits, few, kind-is}
 use Rattle.calls.proofs.Turns.{both}
@@ -148,7 +148,7 @@ module _ (p : ℕ) (large : maxWeight < p) (through : Bool) (its : List Given) w
       let n : ℕ = a .start .rounds in
       let c : ℕ → ℕ = at (a .turn .challenges) in
       let T : Trip = tripAt its a in
-      let other : waits next.Total (a .turn .next) ≡ false = totals (a .turn .next) ∙ e .1 in
+      let other : waits next.Total (a .turn .next) ≡ false = e .1 in
       let s : Pass = passAfter p (runOf a past) Asked (a .pass .point) (a .pass .items) in
       let level : levelOf (runOf a past) Asked ≡ passLevel a = asked-level p large n (length (a .turn .challenges)) (a .turn .next) in
       let hi = level-at-most n (length (a .turn .challenges)) (a .turn .next) Asked (round-most p its a h) in

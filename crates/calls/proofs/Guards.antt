@@ -19,10 +19,9 @@ use Rattle.phase.specs.declared.Next.{Next}
 use Rattle.phase.specs.declared.Next.the-variants as next
 use Rattle.phase.specs.declared.Kind.{Kind}
 use Rattle.phase.specs.declared.Kind.the-variants.{Shut, Asked, Change}
-use Rattle.phase.specs.Cases as cases
 use Rattle.phase.specs.Cases.{waits, isChange, isFull, isOpen, isSmall}
 use Rattle.phase.specs.Level.{levelAt}
-use Rattle.phase.specs.Order.{openNext, changeAt}
+use Rattle.phase.specs.Order.{openNext, changeAt, openingsAt}
 use Rattle.prover.specs.declared.Run.{Run}
 use Rattle.prover.specs.declared.Pass.{Pass}
 use Rattle.prover.specs.Records.{Out, out}
@@ -63,27 +62,12 @@ pub like-row : {A : Type 0} (b c : Bool) (k : ℕ) (rest : Outcome A) (t : Optio
     → require b k rest ≡ decided (row c k t) o
 like-row b c k rest t o e r = ap (λ x. require x k rest) e ∙ same-row c k rest t o r
 
--- the tests of the code beside the table's
-modes : (m : Mode) → cases.isSmall m ≡ isSmall m
-modes Small = refl
-modes Full = refl
-
-fulls : (m : Mode) → cases.isFull m ≡ isFull m
-fulls Small = refl
-fulls Full = refl
-
-opens : (k : Kind) → cases.isOpen k ≡ isOpen k
-opens Shut = refl
-opens Asked = refl
-opens Change = refl
-
-changing : (k : Kind) → cases.isChange k ≡ isChange k
-changing Shut = refl
-changing Asked = refl
-changing Change = refl
+pub both-and : (x y : Bool) → cond x y false ≡ (x && y)
+both-and false y = refl
+both-and true y = refl
 
 -- the tests of what is next, one against the other
-pass-next : (m : Mode) (t : Next) → cond (cases.isSmall m) (openNext t) false ≡ passWaits m t
+pass-next : (m : Mode) (t : Next) → cond (isSmall m) (openNext t) false ≡ passWaits m t
 pass-next Full t = refl
 pass-next Small next.Total = refl
 pass-next Small next.Message = refl
@@ -91,15 +75,10 @@ pass-next Small next.Challenge = refl
 pass-next Small next.Ends = refl
 pass-next Small next.Openings = refl
 
-openings-next : (m : Bool) (t : Next) (n : ℕ) → cond m (cond (waits next.Openings t) (ltb 0 n) false) false ≡ (m && openingsNext t n)
-openings-next false t n = refl
-openings-next true next.Total n = refl
-openings-next true next.Message n = refl
-openings-next true next.Challenge n = refl
-openings-next true next.Ends n = refl
-openings-next true next.Openings n = refl
+openings-next : (m : Bool) (t : Next) (n : ℕ) → cond m (openingsAt t n) false ≡ (m && openingsNext t n)
+openings-next m t n = ap (λ b. cond m b false) (both-and (waits next.Openings t) (ltb 0 n)) ∙ both-and m (openingsNext t n)
 
-change-next : (m : Mode) (t : Next) (n : ℕ) → cond (cases.isSmall m) (changeAt t n) false ≡ changeWaits m t n
+change-next : (m : Mode) (t : Next) (n : ℕ) → cond (isSmall m) (changeAt t n) false ≡ changeWaits m t n
 change-next Full t n = refl
 change-next Small next.Total n = refl
 change-next Small next.Message n = refl
@@ -107,54 +86,12 @@ change-next Small next.Challenge n = refl
 change-next Small next.Ends n = refl
 change-next Small next.Openings n = refl
 
-message-next : (m : Bool) (t : Next) → cond m (waits next.Message t) false ≡ (m && waits next.Message t)
-message-next false t = refl
-message-next true next.Total = refl
-message-next true next.Message = refl
-message-next true next.Challenge = refl
-message-next true next.Ends = refl
-message-next true next.Openings = refl
-
-ends-next : (m : Bool) (t : Next) → cond m (waits next.Ends t) false ≡ (m && waits next.Ends t)
-ends-next false t = refl
-ends-next true next.Total = refl
-ends-next true next.Message = refl
-ends-next true next.Challenge = refl
-ends-next true next.Ends = refl
-ends-next true next.Openings = refl
-
-challenge-next : (t : Next) → waits next.Challenge t ≡ waits next.Challenge t
-challenge-next next.Total = refl
-challenge-next next.Message = refl
-challenge-next next.Challenge = refl
-challenge-next next.Ends = refl
-challenge-next next.Openings = refl
-
-pub proof-next : (plain : Bool) (t : Next) → cond plain (waits next.Openings t) false ≡ (plain && waits next.Openings t)
-proof-next false t = refl
-proof-next true next.Total = refl
-proof-next true next.Message = refl
-proof-next true next.Challenge = refl
-proof-next true next.Ends = refl
-proof-next true next.Openings = refl
-
 pub level-now : (n i : ℕ) (t : Next) → levelAt n i t Shut ≡ levelNow n i 0 t
 level-now n i next.Total = refl
 level-now n i next.Message = refl
 level-now n i next.Challenge = refl
 level-now n i next.Ends = refl
 level-now n i next.Openings = refl
-
-pub totals : (t : Next) → waits next.Total t ≡ waits next.Total t
-totals next.Total = refl
-totals next.Message = refl
-totals next.Challenge = refl
-totals next.Ends = refl
-totals next.Openings = refl
-
-pub both-and : (x y : Bool) → cond x y false ≡ (x && y)
-both-and false y = refl
-both-and true y = refl
 
 place-test : (changes here : Bool) → cond changes here true ≡ (not changes || here)
 place-test false here = refl
@@ -190,40 +127,40 @@ module _ (p : ℕ) (a : State) (past : Notes) (few : a .start .rounds ≤ 15) wh
     formed-and : (x y : Bool) → x ≡ y → cond (wellFormed p R s) x false ≡ y
     formed-and x y e = ap (λ b. cond b x false) wf ∙ e
 
-    full-and : (x y : Bool) → cond (isFull (a .turn .mode)) x false ≡ y → cond (cond (wellFormed p R s) (cases.isFull (a .turn .mode)) false) x false ≡ y
-    full-and x y e = ap (λ b. cond b x false) (formed-and _ _ (fulls (a .turn .mode))) ∙ e
+    turn-and : (m x y : Bool) → cond m x false ≡ y → cond (cond (wellFormed p R s) m false) x false ≡ y
+    turn-and m x y e = ap (λ b. cond b x false) (formed-and m m refl) ∙ e
 
     pub open-decided : (l : Lent) → openCall p R s ≡ decided (table p a call.OpenPass l) (answered (opened R noPoints (openKernel R)))
     unfolding openCall table
-    open-decided l = like-row _ _ 10 _ none _ (formed-and _ _ (pass-next (a .turn .mode) (a .turn .next))) refl
+    open-decided l = like-row _ _ 10 _ none _ (turn-and _ _ _ (pass-next (a .turn .mode) (a .turn .next))) refl
 
     pub open-at-decided : (b : ℕ) (l : Lent) → openAtCall p R s b ≡ decided (table p a (call.OpenAt b) l) (answered (opened R (pointsOf p b) (paddedKernel R)))
     unfolding openAtCall table
     open-at-decided b l =
         like-row _ _ 10 _ _ _
-        (formed-and _ _ (openings-next (cases.isSmall (a .turn .mode)) (a .turn .next) (a .start .rounds) ∙ ap (λ m. m && openingsNext (a .turn .next) (a .start .rounds)) (modes (a .turn .mode))))
+        (turn-and _ _ _ (openings-next (isSmall (a .turn .mode)) (a .turn .next) (a .start .rounds)))
         (same-row (isNonzero p b) 6 _ none _ refl)
 
     pub to-full-decided : (l : Lent) → toFullCall p R s (l .f) (l .g) ≡ decided (table p a call.ToFull l) (answered (changes R (l .f) (l .g)))
     unfolding toFullCall table
     to-full-decided l =
-        like-row _ _ 10 _ _ _ (formed-and _ _ (change-next (a .turn .mode) (a .turn .next) (a .start .rounds)))
+        like-row _ _ 10 _ _ _ (turn-and _ _ _ (change-next (a .turn .mode) (a .turn .next) (a .start .rounds)))
         (like-row _ _ 9 _ none _ (long-test l) refl)
 
     pub message-decided : (l : Lent) → messageCall p R s (l .f) (l .g) ≡ decided (table p a call.Message l) (answered (messageGiven p R s (l .f) (l .g)))
     unfolding messageCall table
     message-decided l =
-        like-row _ _ 10 _ _ _ (full-and _ _ (message-next (isFull (a .turn .mode)) (a .turn .next))) (reads l (messageGiven p R s (l .f) (l .g)))
+        like-row _ _ 10 _ _ _ (turn-and _ _ _ (both-and (isFull (a .turn .mode)) (waits next.Message (a .turn .next)))) (reads l (messageGiven p R s (l .f) (l .g)))
 
     pub ends-decided : (l : Lent) → endsCall p R s (l .f) (l .g) ≡ decided (table p a call.Ends l) (answered (endsGiven R s (l .f) (l .g)))
     unfolding endsCall table
     ends-decided l =
-        like-row _ _ 10 _ _ _ (full-and _ _ (ends-next (isFull (a .turn .mode)) (a .turn .next))) (reads l (endsGiven R s (l .f) (l .g)))
+        like-row _ _ 10 _ _ _ (turn-and _ _ _ (both-and (isFull (a .turn .mode)) (waits next.Ends (a .turn .next)))) (reads l (endsGiven R s (l .f) (l .g)))
 
     pub opening-decided : (b : ℕ) (l : Lent) → openingCall p R s b (l .f) (l .g) ≡ decided (table p a (call.Opening b) l) (answered (openingGiven p R s b (l .f) (l .g)))
     unfolding openingCall table
     opening-decided b l =
-        like-row _ _ 10 _ _ _ (full-and _ _ (openings-next (isFull (a .turn .mode)) (a .turn .next) (a .start .rounds)))
+        like-row _ _ 10 _ _ _ (turn-and _ _ _ (openings-next (isFull (a .turn .mode)) (a .turn .next) (a .start .rounds)))
         (same-row (isNonzero p b) 6 _ _ _ (reads l (openingGiven p R s b (l .f) (l .g))))
 
     challenge-mode : (c : ℕ) (l : Lent) (m : Mode)
@@ -235,20 +172,20 @@ module _ (p : ℕ) (a : State) (past : Notes) (few : a .start .rounds ≤ 15) wh
         → challengeCall p R s c (l .f) (l .g) ≡ decided (table p a (call.Challenge c) l) (answered (challengeDoes p R s c l (a .turn .mode)))
     unfolding challengeCall table
     challenge-decided c l =
-        like-row _ _ 10 _ _ _ (formed-and _ _ (challenge-next (a .turn .next)))
+        like-row _ _ 10 _ _ _ (formed-and _ _ refl)
         (same-row (isNonzero p c) 6 _ _ _ (challenge-mode c l (a .turn .mode)))
 
     -- the open pass is the state's
     module _ (kind : s .kind ≡ a .pass .kind) (count : s .taken ≡ length (a .pass .items)) where
-      pub open-test : cond (wellFormed p R s) (cases.isOpen (s .kind)) false ≡ isOpen (a .pass .kind)
-      open-test = formed-and _ _ (opens (s .kind) ∙ ap isOpen kind)
+      pub open-test : cond (wellFormed p R s) (isOpen (s .kind)) false ≡ isOpen (a .pass .kind)
+      open-test = formed-and _ _ (ap isOpen kind)
 
       wanted-test : ltb (s .taken) (a .start .items) ≡ ltb (length (a .pass .items)) (a .start .items)
       wanted-test = ap (λ n. ltb n (a .start .items)) count
 
       pub place-there : (l : Lent) → placesThere R s (length (l .f)) (length (l .g)) ≡ (not (isChange (a .pass .kind)) || bothLong a l)
       place-there l =
-          ap₂ (λ b here. cond b here true) (changing (s .kind) ∙ ap isChange kind) (long-test l)
+          ap₂ (λ b here. cond b here true) (ap isChange kind) (long-test l)
           ∙ place-test (isChange (a .pass .kind)) (bothLong a l)
 
       places : (l : Lent) (x : Item) → itemPlaces p R s (l .f) (l .g) x ≡ decided (placeRow a l) (answered (takes p R s x (l .f) (l .g)))
@@ -281,7 +218,7 @@ module _ (p : ℕ) (a : State) (past : Notes) (few : a .start .rounds ≤ 15) wh
       item-decided x l = like-row _ _ 10 _ _ _ open-test (like-row _ _ 8 _ _ _ wanted-test (own-rows x l))
 
       total-test : (waits next.Total (a .turn .next) ≡ true → s .total ≡ sumOf (a .pass .items)) → close.totalFits p R s ≡ totalFits p a
-      total-test sums = by (waits next.Total (a .turn .next)) refl (totals (a .turn .next))
+      total-test sums = by (waits next.Total (a .turn .next)) refl refl
         where
           by : (first : Bool) → waits next.Total (a .turn .next) ≡ first → first ≡ waits next.Total (a .turn .next)
               → cond first (cond (a .start .plain) (inLimits p (s .total)) true) true ≡ totalFits p a

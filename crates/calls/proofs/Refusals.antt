@@ -51,7 +51,7 @@ use Rattle.calls.specs.Lists.{along, always}
 use Rattle.calls.specs.Demand3.{AllSized, AllDecided}
 use Rattle.calls.specs.Starts.{Startable}
 use Rattle.calls.proofs.Records.{Notes, noNotes, noted, refusal-noted, runOf, passOf}
-use Rattle.calls.proofs.Guards.{challengeDoes, totals}
+use Rattle.calls.proofs.Guards.{challengeDoes}
 use Rattle.calls.proofs.Steps.{some-none, closeStep, does, refusedResult, settled, steps}
 use Rattle.calls.proofs.Fits.{Fits, few, run-formed, formed, kind-is, taken-is, sum-is, messages-below}
 use Rattle.calls.proofs.Follows.{Follows, positive, no-items, open-follows, open-at-follows, to-full-follows, item-follows, close-follows, message-follows, ends-follows, challenge-follows}
@@ -167,7 +167,7 @@ module _ (p : ℕ) (large : maxWeight < p) where
   pub counts-hold : (a : State) {past : Notes} (r : Run) (s : Pass) → Inv a past r s → CountsHold a s
   counts-hold a {past} r s i e =
       let h = i .fits in
-      let other : waits next.Total (a .turn .next) ≡ false = totals (a .turn .next) ∙ e .1 in
+      let other : waits next.Total (a .turn .next) ≡ false = e .1 in
       let level : levelOf (runOf a past) Asked ≡ passLevel a = asked-level (a .start .rounds) (length (a .turn .challenges)) (a .turn .next) in
       let b = bounds p (runOf a past) (run-formed p a h) in
       let t : padding (runOf a past) + length (a .pass .items) ≡ taken a = ap (λ n. n + length (a .pass .items)) (b .padding) in

@@ -40,7 +40,7 @@ use Rattle.calls.specs.Step.{Lent, Result, keeping, leaving, step}
 use Rattle.calls.specs.State.{State}
 use Rattle.calls.specs.Table.{Refusal, refusedWith, decided, row, table}
 use Rattle.calls.proofs.Records.{Notes, runOf}
-use Rattle.calls.proofs.Guards.{challengeDoes, same-row, like-row, proof-next, open-decided, open-at-decided, to-full-decided, message-decided, ends-decided, opening-decided, challenge-decided, item-decided, close-decided}
+use Rattle.calls.proofs.Guards.{challengeDoes, same-row, like-row, both-and, open-decided, open-at-decided, to-full-decided, message-decided, ends-decided, opening-decided, challenge-decided, item-decided, close-decided}
 
 -- what the close of a pass comes to; the first and the fourth line are met by no list
 abbrev pub closeStep : Run → Pass → Next → Kind → Step
@@ -145,7 +145,7 @@ module _ (p : ℕ) (a : State) (past : Notes) (few : a .start .rounds ≤ 15) (s
         (same-row (leb (proofSize (a .start .rounds)) (length file)) 9 _ none _ refl)
 
     write-turn : mayWrite p R s ≡ (a .start .plain && waits next.Openings (a .turn .next))
-    write-turn = ap (λ b. cond b (cond (a .start .plain) (waits next.Openings (a .turn .next)) false) false) wf ∙ proof-next (a .start .plain) (a .turn .next)
+    write-turn = ap (λ b. cond b (cond (a .start .plain) (waits next.Openings (a .turn .next)) false) false) wf ∙ both-and (a .start .plain) (waits next.Openings (a .turn .next))
 
     write-so : (l : Lent) → writeCall p R s (l .file) ≡ decided (table p a call.WriteProof l) (answered (proofSize (a .start .rounds)))
     unfolding writeCall table
