@@ -1,6 +1,6 @@
 -- The claim, the messages and the verdict: document 01, "The gateway".
 use Prim.Native.Nat.{ℕ}
-use mathlib.Core.Bool.{Bool, cond}
+use mathlib.Core.Bool.{Bool, cond, _&&_}
 use lib.Dec.{eqb}
 use Rattle.algebra.specs.Mod.{mulMod}
 use Rattle.vector.specs.Message.{Message, passes, nextClaim}
@@ -19,6 +19,10 @@ nextOf p c even cross odd = nextClaim p (messageOf3 even cross odd) c
 -- "A message passes if even + odd = claim"
 abbrev pub heardOf : ℕ → ℕ → ℕ → Message → Heard
 heardOf p claim c m = cond (eqb (passes p m) claim) (Passed (nextClaim p m c)) Failed
+
+-- "End values in the proof file must equal its own"
+abbrev pub ownEnds : ℕ → ℕ → ℕ → ℕ → Bool
+ownEnds f g ownF ownG = eqb f ownF && eqb g ownG
 
 -- "yes if the claim equals the product of its own end values. Otherwise no, with the first round that failed, or n"
 abbrev pub foundOf : ℕ → ℕ → Bool → ℕ → ℕ → ℕ → ℕ → Finding

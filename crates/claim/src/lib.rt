@@ -1,6 +1,6 @@
 // The equations of a verifier: a message against its claim, and the verdict.
 ghost use mathlib.Core.Path.{_≡_};
-ghost use Rattle.claim.specs.Claim.{messageOf3, nextOf, heardOf, foundOf};
+ghost use Rattle.claim.specs.Claim.{messageOf3, nextOf, heardOf, ownEnds, foundOf};
 
 pub enum Heard {
     // The message passed, and this is the next claim.
@@ -30,6 +30,16 @@ pub fn hear(p: u32, claim: u32, c: u32, even: u32, cross: u32, odd: u32) -> Hear
         return Heard::Failed;
     }
     Heard::Passed(next_claim(p, c, even, cross, odd))
+}
+
+// The end values of a proof file are the verifier's own.
+pub fn ends_own(f: u32, g: u32, own_f: u32, own_g: u32) -> bool
+    ensures { λ r. ⌜ r ≡ ownEnds f g «own_f» «own_g» ⌝ }
+{
+    if f != own_f {
+        return false;
+    }
+    g == own_g
 }
 
 // The verdict after the last message, or after the one that failed in this round.

@@ -8,7 +8,7 @@ use native.Mathlib.Omega.{arith}
 use lib.Dec.{eqb}
 use lib.IntN.{ℤ}
 use lib.ListN.{length}
-use borrow.Author.Tests.{le-leb, eq-eqb, ne-eqb}
+use borrow.Author.Tests.{le-leb}
 use Rattle.refusal.specs.Number as number
 use Rattle.refusal.specs.Outcome.{Outcome, answered, refused}
 use Rattle.field.specs.Integer.{image}
@@ -18,6 +18,7 @@ use Rattle.wire.specs.Proof.{Head, Ends, proofRounds, proofNumber, proofSize, m
 use Rattle.wire.specs.Proof as wire
 use Rattle.wire.proofs.ProofOf.{own-good}
 use Rattle.wire.proofs.RoundTrip.{found-same}
+use Rattle.claim.specs.Claim.{ownEnds}
 use Rattle.verifier.specs.declared.Verifier.{Verifier}
 use Rattle.verifier.specs.Records.{Replied, Finding}
 use Rattle.verifier.specs.WellFormed.{wellFormed}
@@ -101,17 +102,9 @@ module _ (v : Verifier) (file : List ℕ) (own : proofRounds file ≡ v .start .
         let e = found-same (read ∙ ends-there) in
         (ap (λ (x : Ends). x .f) e, ap (λ (x : Ends). x .g) e)
 
-    pub other-f : (f ≡ v .fsum → ⊥) → failedNow v ≡ compares v file
+    pub compared : {b : Bool} → b ≡ ownEnds f g (v .fsum) (v .gsum) → compares v file ≡ cond b v (failedNow v)
     unfolding compares endsAgree
-    other-f h = rw (← ends-read .0, ne-eqb f (v .fsum) h)
-
-    pub other-g : f ≡ v .fsum → (g ≡ v .gsum → ⊥) → failedNow v ≡ compares v file
-    unfolding compares endsAgree
-    other-g e h = rw (← ends-read .0, ← ends-read .1, eq-eqb f (v .fsum) e, ne-eqb g (v .gsum) h)
-
-    pub same-ends : f ≡ v .fsum → g ≡ v .gsum → v ≡ compares v file
-    unfolding compares endsAgree
-    same-ends e h = rw (← ends-read .0, ← ends-read .1, eq-eqb f (v .fsum) e, eq-eqb g (v .gsum) h)
+    compared e = rw (← ends-read .0, ← ends-read .1, ← e)
 
 module _ (p : ℕ) (v : Verifier) (file : List ℕ) where
   pub close-keeps : (claim : ℕ) {u : Verifier} → u ≡ closedWith v claim → (u .round ≡ v .round) × (u .start .rounds ≡ v .start .rounds)
