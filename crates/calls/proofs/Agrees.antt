@@ -23,8 +23,8 @@ use Rattle.phase.specs.declared.Kind.the-variants.{Shut, Asked, Change}
 use Rattle.phase.specs.Cases.{waits, isChange, isFull, isOpen}
 use Rattle.phase.specs.Level.{levelAt}
 use Rattle.phase.specs.Order.{roundFits}
-use Rattle.prover.specs.declared.Pass.{Pass}
-use Rattle.prover.specs.Records.{kernelOf}
+use Rattle.pass.specs.declared.Pass.{Pass}
+use Rattle.pass.specs.Pass.{kernelOf}
 use Rattle.prover.specs.Level.{levelOf}
 use Rattle.item.specs.declared.Given.{Given}
 use Rattle.runs.specs.Trip.{Trip, vectorF, vectorG, totalOf}

@@ -21,11 +21,12 @@ use Rattle.phase.specs.declared.Kind.the-variants.{Shut, Asked, Change}
 use Rattle.phase.specs.Cases.{waits, isChange, isFull, isOpen, isSmall}
 use Rattle.phase.proofs.Facts.{level-at-most}
 use Rattle.prover.specs.declared.Run.{Run}
-use Rattle.prover.specs.declared.Pass.{Pass}
+use Rattle.pass.specs.declared.Pass.{Pass}
 use Rattle.refusal.specs.Outcome.{Outcome, answered}
 use Rattle.prover.specs.Reply.{Reply, answerIn}
 use Rattle.prover.specs.Reply as reply
-use Rattle.prover.specs.Records.{Out, kernelOf}
+use Rattle.pass.specs.Pass.{kernelOf}
+use Rattle.prover.specs.Records.{Out}
 use Rattle.prover.specs.Level.{levelOf}
 use Rattle.prover.specs.Take.{takes}
 use Rattle.prover.specs.Full.{messageGiven}

@@ -12,7 +12,7 @@ use Rattle.refusal.specs.Outcome.{Outcome, answered}
 use Rattle.item.specs.declared.Start.{Start}
 use Rattle.block.specs.Block.{Block, count, itemAt, isWhole}
 use Rattle.prover.specs.declared.Run.{Run}
-use Rattle.prover.specs.declared.Pass.{Pass}
+use Rattle.pass.specs.declared.Pass.{Pass}
 use Rattle.prover.specs.Reply as reply
 use Rattle.prover.specs.Reply.{Reply}
 use Rattle.prover.specs.Records.{leaves}

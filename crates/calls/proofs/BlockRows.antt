@@ -20,7 +20,7 @@ use Rattle.block.specs.Checks.{isOfKind, passing, blockChecks}
 use Rattle.phase.specs.declared.Kind.{Kind}
 use Rattle.phase.specs.Cases.{isOpen}
 use Rattle.prover.specs.declared.Run.{Run}
-use Rattle.prover.specs.declared.Pass.{Pass}
+use Rattle.pass.specs.declared.Pass.{Pass}
 use Rattle.prover.specs.Records.{Out}
 use Rattle.prover.specs.WellFormed.{wellFormed}
 use Rattle.prover.specs.Calls.{placesThere}

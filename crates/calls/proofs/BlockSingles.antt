@@ -26,12 +26,14 @@ use Rattle.item.specs.declared.Given.{Given}
 use Rattle.item.specs.Item.{contributes}
 use Rattle.block.specs.Block.{Block, count, itemAt}
 use Rattle.prover.specs.declared.Run.{Run}
-use Rattle.prover.specs.declared.Pass.{Pass}
+use Rattle.pass.specs.declared.Pass.{Pass}
 use Rattle.prover.specs.declared.Answer.the-variants as answer
 use Rattle.prover.specs.Reply as reply
-use Rattle.prover.specs.Records.{kernelOf, Out, out, answeredStep}
+use Rattle.pass.specs.Pass.{kernelOf}
+use Rattle.prover.specs.Records.{Out, out, answeredStep}
 use Rattle.prover.specs.Level.{levelOf, foldSize, padding}
-use Rattle.prover.specs.Take.{entering, summedItem, enteredItem, placedItem, takenItem, takes}
+use Rattle.pass.specs.Take.{summedItem}
+use Rattle.prover.specs.Take.{entering, enteredItem, placedItem, takenItem, takes}
 use Rattle.prover.specs.Blocks.{takesAll}
 use Rattle.runs.proofs.PassRecord.{takes-run, takes-answer}
 use Rattle.calls.specs.declared.Call.the-variants as call

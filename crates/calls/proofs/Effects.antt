@@ -16,7 +16,7 @@ use Rattle.phase.specs.declared.Kind.the-variants.{Shut, Change}
 use Rattle.phase.specs.Cases.{waits}
 use Rattle.phase.specs.Level.{levelAt}
 use Rattle.prover.specs.declared.Run.{Run}
-use Rattle.prover.specs.declared.Pass.{Pass}
+use Rattle.pass.specs.declared.Pass.{Pass}
 use Rattle.prover.specs.Records.{Out}
 use Rattle.prover.specs.Level.{levelOf}
 use Rattle.prover.specs.Take.{entering, takes}

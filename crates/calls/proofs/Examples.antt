@@ -23,9 +23,11 @@ use Rattle.prover.specs.Close.{closeCall}
 use Rattle.prover.specs.Full.{messageCall, messageGiven, endsCall}
 use Rattle.prover.specs.Open.{openCall, openAtCall, toSmallCall}
 use Rattle.prover.specs.Opening.{openingGiven, openingCall}
-use Rattle.prover.specs.Take.{entering, summedItem, enteredItem, takes, placedItem}
-use Rattle.prover.specs.Values.{valuesOf}
-use Rattle.prover.specs.WellFormed.{runFormed, passFormed, wellFormed}
+use Rattle.pass.specs.Take.{summedItem}
+use Rattle.prover.specs.Take.{entering, enteredItem, takes, placedItem}
+use Rattle.pass.specs.Values.{valuesOf}
+use Rattle.pass.specs.Formed.{passFormed}
+use Rattle.prover.specs.WellFormed.{runFormed, wellFormed}
 use Rattle.prover.specs.Written.{writeCall}
 use Rattle.item.specs.Item.{partsOf}
 use Rattle.runs.specs.Trip.{sumOf}

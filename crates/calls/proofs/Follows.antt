@@ -32,7 +32,7 @@ use Rattle.phase.specs.Cases.{waits, isChange, isFull, isOpen}
 use Rattle.phase.specs.Level.{levelAt}
 use Rattle.phase.specs.Order.{roundOrEnds, roundFits, kindFits}
 use Rattle.prover.specs.declared.Run.{Run}
-use Rattle.prover.specs.declared.Pass.{Pass}
+use Rattle.pass.specs.declared.Pass.{Pass}
 use Rattle.prover.specs.declared.Answer.the-variants as answer
 use Rattle.prover.specs.Reply as reply
 use Rattle.prover.specs.Reply.{answerIn}

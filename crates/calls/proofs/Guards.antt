@@ -23,11 +23,12 @@ use Rattle.phase.specs.Cases.{waits, isChange, isFull, isOpen, isSmall}
 use Rattle.phase.specs.Level.{levelAt}
 use Rattle.phase.specs.Order.{openNext, changeAt, openingsAt}
 use Rattle.prover.specs.declared.Run.{Run}
-use Rattle.prover.specs.declared.Pass.{Pass}
+use Rattle.pass.specs.declared.Pass.{Pass}
 use Rattle.prover.specs.Records.{Out, out}
 use Rattle.prover.specs.Level.{foldSize}
 use Rattle.prover.specs.WellFormed.{wellFormed}
-use Rattle.prover.specs.Open.{opened, noPoints, pointsOf, openKernel, paddedKernel, openCall, openAtCall}
+use Rattle.pass.specs.Open.{noPoints, pointsOf}
+use Rattle.prover.specs.Open.{opened, openKernel, paddedKernel, openCall, openAtCall}
 use Rattle.prover.specs.Take.{takes}
 use Rattle.prover.specs.Calls as calls
 use Rattle.prover.specs.Calls.{withItem, itemPlaces, placesThere, giveCall}
@@ -37,7 +38,7 @@ use Rattle.prover.specs.Close.{closing, closeCall}
 use Rattle.prover.specs.Full.{bothReduced, lentFolds, messageGiven, messageCall, endsGiven, endsCall}
 use Rattle.prover.specs.Challenge.{challengedSmall, challengedFull, challenged, challengeCall}
 use Rattle.prover.specs.Opening.{openingGiven, openingCall}
-use Rattle.prover.proofs.Facts.{size-32}
+use Rattle.pass.proofs.Facts.{size-32}
 use Rattle.item.specs.declared.Given.the-variants.{Reading, Numbers}
 use Rattle.item.specs.Item.{contributes, partsOf}
 use Rattle.runs.specs.Trip.{sumOf}

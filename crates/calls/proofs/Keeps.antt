@@ -23,7 +23,7 @@ use Rattle.phase.specs.declared.Kind.the-variants.{Shut, Asked, Change}
 use Rattle.phase.specs.Cases.{isChange, isFull, isOpen, isSmall, waits}
 use Rattle.phase.specs.Order.{roundOrEnds, roundFits, kindFits}
 use Rattle.prover.specs.declared.Run.{Run}
-use Rattle.prover.specs.declared.Pass.{Pass}
+use Rattle.pass.specs.declared.Pass.{Pass}
 use Rattle.prover.specs.declared.Step.{Step}
 use Rattle.refusal.specs.Outcome.{Outcome, answered}
 use Rattle.prover.specs.Reply.{Reply, answerIn}

@@ -26,8 +26,8 @@ use Rattle.phase.specs.declared.Kind.{Kind}
 use Rattle.phase.specs.declared.Kind.the-variants.{Shut, Asked, Change}
 use Rattle.phase.specs.Cases.{waits}
 use Rattle.prover.specs.Reply as reply
-use Rattle.prover.specs.Values.{inNinety}
-use Rattle.prover.proofs.OpeningValues.{triples-length, triples-same}
+use Rattle.pass.specs.Values.{inNinety}
+use Rattle.pass.proofs.OpeningValues.{triples-length, triples-same}
 use Rattle.runs.specs.Trip.{Trip, vectorF, vectorG, totalOf}
 use Rattle.calls.specs.declared.Call.{Call}
 use Rattle.calls.specs.declared.Call.the-variants as call

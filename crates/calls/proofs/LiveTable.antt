@@ -13,7 +13,7 @@ use Rattle.vector.proofs.Every.{reduced-all}
 use Rattle.phase.specs.declared.Next.the-variants as next
 use Rattle.phase.specs.Cases.{isChange, isFull, isOpen, isSmall, waits}
 use Rattle.prover.specs.declared.Run.{Run}
-use Rattle.prover.specs.declared.Pass.{Pass}
+use Rattle.pass.specs.declared.Pass.{Pass}
 use Rattle.calls.specs.declared.Call.{Call}
 use Rattle.calls.specs.declared.Call.the-variants as call
 use Rattle.calls.specs.Step.{Lent, isAnswered, step}

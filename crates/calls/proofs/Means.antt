@@ -20,14 +20,17 @@ use Rattle.phase.specs.declared.Kind.the-variants.{Shut, Asked, Change}
 use Rattle.phase.specs.Cases.{waits, isFull, isOpen}
 use Rattle.phase.specs.Order.{roundOrEnds, roundFits, kindFits}
 use Rattle.prover.specs.declared.Run.{Run}
-use Rattle.prover.specs.declared.Pass.{Pass}
+use Rattle.pass.specs.declared.Pass.{Pass}
 use Rattle.prover.specs.declared.Step.{Step}
 use Rattle.prover.specs.declared.Answer.the-variants as answer
 use Rattle.prover.specs.Reply.{answerIn}
 use Rattle.prover.specs.Reply as reply
-use Rattle.prover.specs.Records.{Out, noValues, answeredStep, kernelOf}
+use Rattle.pass.specs.Values.{noValues}
+use Rattle.pass.specs.Pass.{kernelOf}
+use Rattle.prover.specs.Records.{Out, answeredStep}
 use Rattle.prover.specs.Level.{levelOf}
-use Rattle.prover.specs.Open.{newPass, noPoints, pointsOf, openKernel, paddedKernel}
+use Rattle.pass.specs.Open.{newPass, noPoints, pointsOf}
+use Rattle.prover.specs.Open.{openKernel, paddedKernel}
 use Rattle.prover.specs.Close.{withTotal, goneTo, shutPass}
 use Rattle.prover.specs.Full.{messageTurn, endsTurn, openingTurn, bothReduced, messageGiven, endsGiven}
 use Rattle.prover.specs.Opening.{openingGiven}

@@ -19,8 +19,8 @@ use Rattle.phase.specs.declared.Next.the-variants as next
 use Rattle.phase.specs.declared.Kind.the-variants.{Asked}
 use Rattle.phase.specs.Cases.{waits}
 use Rattle.prover.specs.declared.Run.{Run}
-use Rattle.prover.specs.declared.Pass.{Pass}
-use Rattle.prover.specs.Records.{kernelOf}
+use Rattle.pass.specs.declared.Pass.{Pass}
+use Rattle.pass.specs.Pass.{kernelOf}
 use Rattle.prover.specs.Level.{levelOf}
 use Rattle.prover.specs.WellFormed.{runFormed}
 use Rattle.item.specs.declared.Start.{Start}

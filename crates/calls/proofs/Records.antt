@@ -7,7 +7,7 @@ use lib.IntN.{ℤ, pos}
 use lib.ListN.{length, replicate}
 use Rattle.refusal.specs.Outcome.{Outcome, answered, refused, refusedAt}
 use Rattle.prover.specs.declared.Run.{Run}
-use Rattle.prover.specs.declared.Pass.{Pass}
+use Rattle.pass.specs.declared.Pass.{Pass}
 use Rattle.prover.specs.Reply.{Reply}
 use Rattle.prover.specs.Reply as reply
 use Rattle.runs.specs.Passes.{passAfter}

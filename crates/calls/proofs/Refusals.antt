@@ -24,11 +24,12 @@ use Rattle.phase.specs.Cases.{waits}
 use Rattle.phase.specs.Level.{levelAt}
 use Rattle.phase.specs.Order.{roundOrEnds}
 use Rattle.prover.specs.declared.Run.{Run}
-use Rattle.prover.specs.declared.Pass.{Pass}
+use Rattle.pass.specs.declared.Pass.{Pass}
 use Rattle.prover.specs.declared.Answer.the-variants as answer
 use Rattle.prover.specs.Reply as reply
 use Rattle.prover.specs.Reply.{answerIn}
-use Rattle.prover.specs.Records.{kernelOf, answeredStep}
+use Rattle.pass.specs.Pass.{kernelOf}
+use Rattle.prover.specs.Records.{answeredStep}
 use Rattle.prover.specs.Level.{levelOf, padding}
 use Rattle.prover.specs.Close.{withTotal, goneTo, shutPass}
 use Rattle.prover.specs.Full.{messageGiven}

@@ -28,9 +28,10 @@ use Rattle.phase.specs.declared.Kind.the-variants.{Shut, Asked, Change}
 use Rattle.phase.specs.Cases.{waits, isChange, isFull, isOpen}
 use Rattle.phase.specs.Order.{roundFits, kindFits}
 use Rattle.prover.specs.declared.Run.{Run}
-use Rattle.prover.specs.declared.Pass.{Pass}
+use Rattle.pass.specs.declared.Pass.{Pass}
 use Rattle.prover.specs.Reply as reply
-use Rattle.prover.specs.Records.{Out, noValues}
+use Rattle.pass.specs.Values.{noValues}
+use Rattle.prover.specs.Records.{Out}
 use Rattle.prover.specs.Take.{takes}
 use Rattle.prover.specs.Full.{messageGiven, openingTurn}
 use Rattle.prover.specs.Challenge.{challengeTurn, challengedFull}

@@ -23,11 +23,12 @@ use Rattle.phase.specs.declared.Kind.{Kind}
 use Rattle.phase.specs.declared.Kind.the-variants.{Shut, Asked, Change}
 use Rattle.phase.specs.Order.{roundOrEnds}
 use Rattle.prover.specs.declared.Run.{Run}
-use Rattle.prover.specs.declared.Pass.{Pass}
+use Rattle.pass.specs.declared.Pass.{Pass}
 use Rattle.prover.specs.declared.Step.{Step}
 use Rattle.prover.specs.declared.Answer.the-variants as answer
 use Rattle.prover.specs.Records.{Out, out, leaves, answeredStep}
-use Rattle.prover.specs.Open.{mayOpen, mayOpenAt, opened, noPoints, pointsOf, openKernel, paddedKernel, openCall, openAtCall, toSmallCall}
+use Rattle.pass.specs.Open.{noPoints, pointsOf}
+use Rattle.prover.specs.Open.{mayOpen, mayOpenAt, opened, openKernel, paddedKernel, openCall, openAtCall, toSmallCall}
 use Rattle.prover.specs.Take as item
 use Rattle.prover.specs.Take.{nextIndex}
 use Rattle.prover.specs.Calls.{bothLong, withItem, passOpen, placesThere, itemPlaces, giveCall}

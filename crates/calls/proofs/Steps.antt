@@ -20,12 +20,14 @@ use Rattle.phase.specs.declared.Kind.the-variants.{Shut, Asked, Change}
 use Rattle.phase.specs.Cases.{waits, isOpen}
 use Rattle.phase.specs.Order.{kindFits}
 use Rattle.prover.specs.declared.Run.{Run}
-use Rattle.prover.specs.declared.Pass.{Pass}
+use Rattle.pass.specs.declared.Pass.{Pass}
 use Rattle.prover.specs.declared.Step.{Step}
 use Rattle.prover.specs.Reply as reply
-use Rattle.prover.specs.Records.{Out, out, leaves, noValues}
+use Rattle.pass.specs.Values.{noValues}
+use Rattle.prover.specs.Records.{Out, out, leaves}
 use Rattle.prover.specs.WellFormed.{wellFormed}
-use Rattle.prover.specs.Open.{opened, noPoints, pointsOf, openKernel, paddedKernel, toSmallCall}
+use Rattle.pass.specs.Open.{noPoints, pointsOf}
+use Rattle.prover.specs.Open.{opened, openKernel, paddedKernel, toSmallCall}
 use Rattle.prover.specs.Take.{takes}
 use Rattle.prover.specs.Change.{changes}
 use Rattle.prover.specs.Close.{totalStep, messageStep, endsStep, openingStep, changedStep, finished, closing, leavesStep}

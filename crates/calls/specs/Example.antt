@@ -11,8 +11,8 @@ use Rattle.vector.specs.Rounds.{powers, firstFrom}
 use Rattle.item.specs.declared.Start.{Start}
 use Rattle.item.specs.declared.Given.the-variants.{Reading}
 use Rattle.prover.specs.Reply as reply
-use Rattle.prover.specs.Records.{noValues}
-use Rattle.prover.specs.Values.{inNinety}
+use Rattle.pass.specs.Values.{noValues}
+use Rattle.pass.specs.Values.{inNinety}
 use Rattle.prover.specs.Start.{started, freshRun, startPlain}
 use Rattle.runs.specs.Trip.{Trip}
 use Rattle.calls.specs.Step.{lending}

@@ -4,7 +4,7 @@ use lib.IntN.{negsuc}
 use Rattle.refusal.specs.Outcome.{refusedAt}
 use Rattle.item.specs.declared.Given.the-variants.{Reading, Numbers}
 use Rattle.prover.specs.Reply as reply
-use Rattle.prover.specs.Records.{noValues}
+use Rattle.pass.specs.Values.{noValues}
 use Rattle.calls.specs.declared.Call.the-variants as call
 use Rattle.calls.specs.Meaning.{says}
 use Rattle.calls.specs.Example.{P, item0, item1, item2, alone, proofInto, Exchange, refuses, answeredPass, tripTotal, round0, round1, tripEnds, tripOpening}

@@ -19,8 +19,8 @@ use Rattle.phase.specs.declared.Kind.the-variants.{Shut, Asked, Change}
 use Rattle.phase.specs.Cases.{isChange, isFull, waits}
 use Rattle.prover.specs.Reply.{Reply}
 use Rattle.prover.specs.Reply as reply
-use Rattle.prover.specs.Records.{noValues}
-use Rattle.prover.specs.Values.{inNinety}
+use Rattle.pass.specs.Values.{noValues}
+use Rattle.pass.specs.Values.{inNinety}
 use Rattle.item.specs.declared.Given.{Given}
 use Rattle.runs.specs.Trip.{Trip, tripItem, vectorF, vectorG, totalOf}
 use Rattle.calls.specs.declared.Call.{Call}

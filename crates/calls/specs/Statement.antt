@@ -16,8 +16,9 @@ use Rattle.phase.specs.declared.Next.the-variants as next
 use Rattle.phase.specs.declared.Kind.the-variants.{Asked}
 use Rattle.phase.specs.Cases.{isFull, waits}
 use Rattle.prover.specs.declared.Run.{Run}
-use Rattle.prover.specs.declared.Pass.{Pass}
-use Rattle.prover.specs.Records.{kernelOf, noValues}
+use Rattle.pass.specs.declared.Pass.{Pass}
+use Rattle.pass.specs.Pass.{kernelOf}
+use Rattle.pass.specs.Values.{noValues}
 use Rattle.item.specs.declared.Given.the-variants.{Reading}
 use Rattle.runs.specs.Trip.{Trip, vectorF, vectorG}
 use Rattle.runs.specs.Buffers.{Written}

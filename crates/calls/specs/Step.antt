@@ -5,7 +5,7 @@ use mathlib.Core.List.{List, []}
 use Rattle.refusal.specs.Outcome.{Outcome, answered, refused, refusedAt}
 use Rattle.wire.specs.Proof.{writtenIn}
 use Rattle.prover.specs.declared.Run.{Run}
-use Rattle.prover.specs.declared.Pass.{Pass}
+use Rattle.pass.specs.declared.Pass.{Pass}
 use Rattle.prover.specs.Reply.{Reply}
 use Rattle.prover.specs.Records.{Out, out, leaves}
 use Rattle.prover.specs.Open.{openCall, openAtCall, toSmallCall}

@@ -2,7 +2,7 @@
 use Prim.Native.Nat.{ℕ}
 use mathlib.Core.List.{List}
 use Rattle.prover.specs.declared.Run.{Run}
-use Rattle.prover.specs.declared.Pass.{Pass}
+use Rattle.pass.specs.declared.Pass.{Pass}
 use Rattle.prover.specs.Start.{freshRun, zeroPass}
 use Rattle.item.specs.declared.Start.{Start}
 use Rattle.calls.specs.declared.Call.{Call}

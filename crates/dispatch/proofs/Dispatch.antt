@@ -7,7 +7,7 @@ use Rattle.item.specs.declared.Given.{Given}
 use Rattle.item.specs.declared.Given.the-variants.{Reading, Numbers}
 use Rattle.wire.specs.Proof.{writtenIn}
 use Rattle.prover.specs.declared.Run.{Run}
-use Rattle.prover.specs.declared.Pass.{Pass}
+use Rattle.pass.specs.declared.Pass.{Pass}
 use Rattle.prover.specs.declared.Step.{Step}
 use Rattle.prover.specs.Records.{Out, out, leaves}
 use Rattle.prover.specs.Open.{openCall, openAtCall, toSmallCall}

@@ -12,9 +12,10 @@ use Rattle.vector.proofs.Rounds.{rounds-at-most, size-all}
 use Rattle.phase.specs.Order.{roundFits, kindFits}
 use Rattle.phase.proofs.Facts.{round-at-most}
 use Rattle.prover.specs.declared.Run.{Run}
-use Rattle.prover.specs.declared.Pass.{Pass}
+use Rattle.pass.specs.declared.Pass.{Pass}
 use Rattle.prover.specs.Level.{padding}
-use Rattle.prover.specs.WellFormed.{runFormed, passFormed, wellFormed}
+use Rattle.pass.specs.Formed.{passFormed}
+use Rattle.prover.specs.WellFormed.{runFormed, wellFormed}
 
 -- a test that must hold, and one that must not
 pub holds : (b x : Bool) → cond b x false ≡ true → (b ≡ true) × (x ≡ true)
@@ -40,7 +41,7 @@ pub record Formed (r : Run) (s : Pass) : Type 0 where
 pub formed : (p : ℕ) (r : Run) (s : Pass) → wellFormed p r s ≡ true → Formed r s
 unfolding wellFormed runFormed passFormed
 formed p r s e =
-    let a = holds (runFormed p r) (passFormed r s) e in
+    let a = holds (runFormed p r) (passFormed (r .start .items) (r .mode) (r .next) s) e in
     let b = fails (ltb (r .start .items) 1) _ (a .0) in
     let c = fails (ltb 32768 (r .start .items)) _ (b .1) in
     let d = holds (eqb (r .start .rounds) (roundsOf (r .start .items))) _ (c .1) in

@@ -19,13 +19,15 @@ use Rattle.phase.specs.Cases.{isFull, waits}
 use Rattle.phase.specs.Order.{roundFits, kindFits}
 use Rattle.phase.proofs.Facts.{waits-for}
 use Rattle.prover.specs.declared.Run.{Run}
-use Rattle.prover.specs.declared.Pass.{Pass}
+use Rattle.pass.specs.declared.Pass.{Pass}
 use Rattle.prover.specs.Level.{levelOf, foldSize}
-use Rattle.prover.specs.WellFormed.{runFormed, passFormed, wellFormed}
+use Rattle.pass.specs.Formed.{passFormed}
+use Rattle.prover.specs.WellFormed.{runFormed, wellFormed}
 use Rattle.prover.specs.Calls.{bothLong}
 use Rattle.prover.specs.Full.{fullFormed, messageTurn, endsTurn, openingTurn}
 use Rattle.prover.specs.Challenge.{challengeTurn}
-use Rattle.prover.proofs.Facts.{holds, fails, Formed, formed, size-32}
+use Rattle.pass.proofs.Facts.{size-32}
+use Rattle.prover.proofs.Facts.{holds, fails, Formed, formed}
 
 -- the tests, but those of the counts and sums of the pass
 pub record Tests (p : ℕ) (r : Run) (s : Pass) : Type 0 where
@@ -40,7 +42,7 @@ pub record Tests (p : ℕ) (r : Run) (s : Pass) : Type 0 where
 pub tests : (p : ℕ) (r : Run) (s : Pass) → wellFormed p r s ≡ true → Tests p r s
 unfolding wellFormed runFormed passFormed
 tests p r s e =
-    let a = holds (runFormed p r) (passFormed r s) e in
+    let a = holds (runFormed p r) (passFormed (r .start .items) (r .mode) (r .next) s) e in
     let b = fails (ltb (r .start .items) 1) _ (a .0) in
     let c = fails (ltb 32768 (r .start .items)) _ (b .1) in
     let d = holds (eqb (r .start .rounds) (roundsOf (r .start .items))) _ (c .1) in

@@ -25,7 +25,7 @@ use Rattle.phase.specs.Level.{levelAt}
 use Rattle.phase.specs.Order.{roundOrEnds, roundFits}
 use Rattle.phase.proofs.Facts.{full-kind, challenge-kind}
 use Rattle.prover.specs.declared.Run.{Run}
-use Rattle.prover.specs.declared.Pass.{Pass}
+use Rattle.pass.specs.declared.Pass.{Pass}
 use Rattle.prover.specs.declared.Answer.the-variants as answer
 use Rattle.prover.specs.Records.{Out, out, answeredStep}
 use Rattle.prover.specs.Level.{levelOf, foldSize}
@@ -33,7 +33,8 @@ use Rattle.prover.specs.WellFormed.{wellFormed}
 use Rattle.prover.specs.Calls.{bothLong}
 use Rattle.prover.specs.Full.{fullFormed, messageTurn, endsTurn, openingTurn, bothReduced, lentFolds, keptMessage, messageGiven, messageCall, keptEnds, endsCall}
 use Rattle.prover.specs.Challenge.{challengeTurn, keptChallenge, challengedFull, challenged, challengeCall}
-use Rattle.prover.proofs.Facts.{holds, size-32}
+use Rattle.pass.proofs.Facts.{size-32}
+use Rattle.prover.proofs.Facts.{holds}
 use Rattle.prover.proofs.FullFacts.{tested, message-round, challenge-round, at-ends}
 
 -- the buffers hold the current fold of f and of g, under the challenges c

@@ -10,7 +10,7 @@ use Rattle.phase.specs.declared.Mode.{Mode}
 use Rattle.phase.specs.declared.Mode.the-variants.{Small, Full}
 use Rattle.phase.specs.Cases.{isSmall}
 use Rattle.prover.specs.declared.Run.{Run}
-use Rattle.prover.specs.declared.Pass.{Pass}
+use Rattle.pass.specs.declared.Pass.{Pass}
 use Rattle.prover.specs.Records.{Out, out, leaves, refusedStep}
 use Rattle.prover.specs.Calls.{bothLong}
 use Rattle.prover.specs.Full.{bothReduced, lentFolds}

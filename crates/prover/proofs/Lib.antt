@@ -1,7 +1,6 @@
 pub mod Facts
 pub mod Outcomes
 pub mod BlockLaws
-pub mod OpeningValues
 pub mod Decides
 pub mod StartFacts
 pub mod StartLaws

@@ -21,11 +21,14 @@ use Rattle.phase.specs.Cases.{waits}
 use Rattle.phase.specs.Order.{kindFits}
 use Rattle.phase.proofs.Facts.{level-at-most}
 use Rattle.prover.specs.declared.Run.{Run}
-use Rattle.prover.specs.declared.Pass.{Pass}
+use Rattle.pass.specs.declared.Pass.{Pass}
 use Rattle.prover.specs.Level.{levelOf, padding}
-use Rattle.prover.specs.WellFormed.{runFormed, passFormed, wellFormed}
-use Rattle.prover.specs.Open.{newPass, paddedKernel, openKernel}
-use Rattle.prover.proofs.Facts.{Formed, holds, size-32}
+use Rattle.pass.specs.Formed.{passFormed}
+use Rattle.prover.specs.WellFormed.{runFormed, wellFormed}
+use Rattle.pass.specs.Open.{newPass}
+use Rattle.prover.specs.Open.{paddedKernel, openKernel}
+use Rattle.pass.proofs.Facts.{size-32}
+use Rattle.prover.proofs.Facts.{Formed, holds}
 
 -- A new pass is well formed where its kind fits and its kernel's stacks have room.
 pub new-formed : (p : ℕ) (r : Run) (s : Pass) (kind : Kind) (points : Points) (k : Kernel) → wellFormed p r s ≡ true
@@ -33,7 +36,7 @@ pub new-formed : (p : ℕ) (r : Run) (s : Pass) (kind : Kind) (points : Points) 
 unfolding wellFormed passFormed
 new-formed p r s kind points k h fits counts room =
     simp
-    (holds (runFormed p r) (passFormed r s) h .0, fits, le-ltb (r .start .items) 0 (omega arith), eq-eqb (k .fcount) (k .gcount) counts, le-ltb 15 (k .fcount) room)
+    (holds (runFormed p r) (passFormed (r .start .items) (r .mode) (r .next) s) h .0, fits, le-ltb (r .start .items) 0 (omega arith), eq-eqb (k .fcount) (k .gcount) counts, le-ltb 15 (k .fcount) room)
 
 module _ (r : Run) (s : Pass) (h : Formed r s) where
   -- the padding is N - L

@@ -6,9 +6,10 @@ use Rattle.refusal.specs.Number as number
 use Rattle.refusal.specs.Outcome.{Outcome, answered, refused, require}
 use Rattle.vector.specs.Slice.{isNonzero}
 use Rattle.prover.specs.declared.Run.{Run}
-use Rattle.prover.specs.declared.Pass.{Pass}
+use Rattle.pass.specs.declared.Pass.{Pass}
 use Rattle.prover.specs.Records.{Out}
-use Rattle.prover.specs.Open.{noPoints, pointsOf, mayOpen, mayOpenAt, paddedKernel, openKernel, opened, openCall, openAtCall}
+use Rattle.pass.specs.Open.{noPoints, pointsOf}
+use Rattle.prover.specs.Open.{mayOpen, mayOpenAt, paddedKernel, openKernel, opened, openCall, openAtCall}
 
 module _ (p : ℕ) (r : Run) (s : Pass) where
   pub open-order : mayOpen p r s ≡ false → openCall p r s ≡ refused number.order

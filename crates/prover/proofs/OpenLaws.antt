@@ -19,12 +19,14 @@ use Rattle.phase.specs.Cases.{isSmall, waits}
 use Rattle.phase.specs.Level.{levelAt}
 use Rattle.phase.specs.Order.{kindFits}
 use Rattle.prover.specs.declared.Run.{Run}
-use Rattle.prover.specs.declared.Pass.{Pass}
+use Rattle.pass.specs.declared.Pass.{Pass}
 use Rattle.prover.specs.Reply as reply
-use Rattle.prover.specs.Records.{Out, kernelOf}
+use Rattle.pass.specs.Pass.{kernelOf}
+use Rattle.prover.specs.Records.{Out}
 use Rattle.prover.specs.Level.{padding}
 use Rattle.prover.specs.WellFormed.{wellFormed}
-use Rattle.prover.specs.Open.{newPass, noPoints, pointsOf, mayOpen, mayOpenAt, paddedKernel, openKernel, opened, openCall, openAtCall}
+use Rattle.pass.specs.Open.{newPass, noPoints, pointsOf}
+use Rattle.prover.specs.Open.{mayOpen, mayOpenAt, paddedKernel, openKernel, opened, openCall, openAtCall}
 use Rattle.prover.proofs.Facts.{formed}
 use Rattle.prover.proofs.Decides.{Nonzero, nonzero, not-so}
 use Rattle.prover.proofs.OpenFacts.{open-answered, open-at-answered}

@@ -12,7 +12,7 @@ use Rattle.phase.specs.Cases.{isSmall, waits}
 use Rattle.phase.specs.Order.{openNext, openingsAt}
 use Rattle.phase.proofs.Facts.{waits-for}
 use Rattle.prover.specs.declared.Run.{Run}
-use Rattle.prover.specs.declared.Pass.{Pass}
+use Rattle.pass.specs.declared.Pass.{Pass}
 use Rattle.prover.specs.WellFormed.{wellFormed}
 use Rattle.prover.specs.Open.{smallFormed, mayOpen, mayOpenAt}
 use Rattle.prover.proofs.Facts.{holds}

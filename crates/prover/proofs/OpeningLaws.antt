@@ -22,18 +22,18 @@ use Rattle.vector.proofs.Rounds.{size-all}
 use Rattle.kernel.proofs.KernelPass.{Taken}
 use Rattle.kernel.proofs.KernelStream.{whole-stream}
 use Rattle.prover.specs.declared.Run.{Run}
-use Rattle.prover.specs.declared.Pass.{Pass}
+use Rattle.pass.specs.declared.Pass.{Pass}
 use Rattle.prover.specs.Reply as reply
 use Rattle.prover.specs.Level.{foldSize}
-use Rattle.prover.specs.Values.{inNinety, valuesOf}
+use Rattle.pass.specs.Values.{inNinety, valuesOf}
 use Rattle.prover.specs.Calls.{bothLong}
 use Rattle.prover.specs.Full.{openingTurn, bothReduced}
-use Rattle.prover.specs.Open.{pointsOf}
+use Rattle.pass.specs.Open.{pointsOf}
 use Rattle.prover.specs.Opening.{openingGiven, openingCall}
 use Rattle.prover.proofs.Facts.{holds}
 use Rattle.prover.proofs.FullFacts.{at-openings}
 use Rattle.prover.proofs.FullLaws.{Lent, passed-row, lent-rows, both-long}
-use Rattle.prover.proofs.OpeningValues.{taken-opening, taken-opened}
+use Rattle.pass.proofs.OpeningValues.{taken-opening, taken-opened}
 
 -- the kernel that ran over the first places of the buffers
 abbrev pub firstPlaces : ℕ → List ℕ → ℕ → Points → List ℕ → List ℕ → Kernel

@@ -17,38 +17,34 @@ use Rattle.kernel.specs.Change.{placedOf}
 use Rattle.phase.specs.declared.Next.the-variants as next
 use Rattle.phase.specs.Cases.{isChange, waits}
 use Rattle.prover.specs.declared.Run.{Run}
-use Rattle.prover.specs.declared.Pass.{Pass}
+use Rattle.pass.specs.declared.Pass.{Pass}
 use Rattle.prover.specs.declared.Step.{Step}
 use Rattle.prover.specs.declared.Answer.the-variants as answer
 use Rattle.prover.specs.Records.{Out, out, leaves, answeredStep, refusedStep}
-use Rattle.prover.specs.Take.{nextIndex, entering, summedItem, enteredItem, placedItem, takenItem, takes}
+use Rattle.pass.specs.Take.{summedItem}
+use Rattle.pass.proofs.Taking as taking
+use Rattle.prover.specs.Level.{stageOf}
+use Rattle.prover.specs.Take.{handed, nextIndex, entering, enteredItem, placedItem, takenItem, takes}
 use Rattle.prover.specs.Calls.{passOpen, bothLong, placesThere, withItem, refusedParts, itemPlaces, giveCall}
 use Rattle.prover.specs.Change.{mayChange, changes, toFullCall}
 use Rattle.prover.specs.Written.{mayWrite, writeCall}
 use Rattle.prover.specs.Close.{totalFits, closing, closeCall, leavesStep}
 
 module _ (p : ℕ) (r : Run) (s : Pass) (x : Item) (f g : List ℕ) where
-  abbrev summing : Out
-  summing = out (answeredStep r (summedItem p (r .start .plain) s x (entering p r s x)) answer.Taken) f g
-
-  abbrev stacking : Bool → Out
-  stacking b = takenItem r s (cond b (placedItem p r s (entering p r s x) (x .g) f g) (placedOf (enteredItem p r s (entering p r s x) (x .g)) f g))
-
-  pub takes-sum : waits next.Total (r .next) ≡ true → takes p r s x f g ≡ summing
+  pub takes-sum : waits next.Total (r .next) ≡ true
+      → takes p r s x f g ≡ out (answeredStep r (summedItem p (r .start .plain) s x (entering p r s x)) answer.Taken) f g
   unfolding takes
-  takes-sum h = ap (λ b. cond b summing (stacking (isChange (s .kind)))) h
-
-  takes-stacks : waits next.Total (r .next) ≡ false → (b : Bool) → isChange (s .kind) ≡ b → takes p r s x f g ≡ stacking b
-  unfolding takes
-  takes-stacks h b k = ap (λ b. cond b summing (stacking (isChange (s .kind)))) h ∙ ap stacking k
+  takes-sum h = ap (handed r) (taking.takes-sum p (stageOf r) s x f g h)
 
   pub takes-enter : waits next.Total (r .next) ≡ false → isChange (s .kind) ≡ false
       → takes p r s x f g ≡ takenItem r s (placedOf (enteredItem p r s (entering p r s x) (x .g)) f g)
-  takes-enter h k = takes-stacks h false k
+  unfolding takes
+  takes-enter h k = ap (handed r) (taking.takes-enter p (stageOf r) s x f g h k)
 
   pub takes-place : waits next.Total (r .next) ≡ false → isChange (s .kind) ≡ true
       → takes p r s x f g ≡ takenItem r s (placedItem p r s (entering p r s x) (x .g) f g)
-  takes-place h k = takes-stacks h true k
+  unfolding takes
+  takes-place h k = ap (handed r) (taking.takes-place p (stageOf r) s x f g h k)
 
 -- a check in a row: the refusal, or the rest
 module _ (r : Run) (s : Pass) (f g : List ℕ) where

@@ -20,7 +20,8 @@ use Rattle.vector.proofs.Rounds.{rounds-power}
 use Rattle.vector.proofs.Every.{all-nonzero-iff}
 use Rattle.prover.specs.declared.Run.{Run}
 use Rattle.prover.specs.Records.{Out}
-use Rattle.prover.specs.WellFormed.{runFormed, passFormed, wellFormed}
+use Rattle.pass.specs.Formed.{passFormed}
+use Rattle.prover.specs.WellFormed.{runFormed, wellFormed}
 use Rattle.item.specs.declared.Start.{Start}
 use Rattle.item.specs.Start.{countFits, listFits, plainStart, twistedStart, ruleStart}
 use Rattle.prover.specs.Start.{freshRun, zeroPass, started, startPlain, startTwisted, startRule}

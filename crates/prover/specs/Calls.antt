@@ -13,7 +13,7 @@ use Rattle.item.specs.declared.Parts.the-variants as parts
 use Rattle.item.specs.Item.{partsOf}
 use Rattle.phase.specs.Cases.{isOpen, isChange}
 use Rattle.prover.specs.declared.Run.{Run}
-use Rattle.prover.specs.declared.Pass.{Pass}
+use Rattle.pass.specs.declared.Pass.{Pass}
 use Rattle.prover.specs.declared.Step.{Step}
 use Rattle.prover.specs.Records.{Out, refusedStep, refusedAtStep}
 use Rattle.prover.specs.Level.{foldSize}

@@ -5,21 +5,16 @@ use mathlib.Core.List.{List}
 use lib.ListN.{length, set}
 use Rattle.refusal.specs.Number as number
 use Rattle.refusal.specs.Outcome.{Outcome, answered, require}
-use Rattle.kernel.specs.Kernel.{emptyKernel, paddingBelow}
-use Rattle.phase.specs.declared.Kind.{Kind}
 use Rattle.phase.specs.declared.Kind.the-variants.{Change}
 use Rattle.phase.specs.Order.{changeAt}
+use Rattle.pass.specs.Open.{changeIn}
 use Rattle.prover.specs.declared.Run.{Run}
-use Rattle.prover.specs.declared.Pass.{Pass}
+use Rattle.pass.specs.declared.Pass.{Pass}
 use Rattle.prover.specs.declared.Answer.the-variants as answer
 use Rattle.prover.specs.Records.{Out, out, answeredStep}
-use Rattle.prover.specs.Level.{levelOf, foldSize, padding}
+use Rattle.prover.specs.Level.{stageOf, levelOf, foldSize, padding}
 use Rattle.prover.specs.Calls.{bothLong}
-use Rattle.prover.specs.Open.{noPoints, newPass, smallFormed}
-
--- a pass of a kind that has taken nothing
-abbrev pub emptyPass : Kind → Pass
-emptyPass kind = newPass kind noPoints emptyKernel
+use Rattle.prover.specs.Open.{smallFormed}
 
 abbrev pub mayChange : ℕ → Run → Pass → Bool
 mayChange p r s = cond (smallFormed p r s) (changeAt (r .next) (r .start .rounds)) false
@@ -38,7 +33,7 @@ abbrev pub paddedBuffer : Run → List ℕ → List ℕ
 paddedBuffer r xs = cleared (foldSize r - paddingPlaces r) (paddingPlaces r) xs
 
 abbrev pub changePass : Run → Pass
-changePass r = newPass Change noPoints (paddingBelow (padding r) (levelOf r Change))
+changePass r = changeIn (stageOf r)
 
 abbrev pub changes : Run → List ℕ → List ℕ → Out
 changes r f g = out (answeredStep r (changePass r) answer.Opened) (paddedBuffer r f) (paddedBuffer r g)

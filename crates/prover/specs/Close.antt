@@ -16,13 +16,13 @@ use Rattle.phase.specs.declared.Kind.the-variants.{Shut, Asked, Change}
 use Rattle.phase.specs.Cases.{waits}
 use Rattle.phase.specs.Order.{roundOrEnds}
 use Rattle.prover.specs.declared.Run.{Run}
-use Rattle.prover.specs.declared.Pass.{Pass}
+use Rattle.pass.specs.declared.Pass.{Pass}
 use Rattle.prover.specs.declared.Step.{Step}
 use Rattle.prover.specs.declared.Answer.the-variants as answer
 use Rattle.prover.specs.Records.{answeredStep, refusedStep, refusedAtStep}
 use Rattle.prover.specs.Calls.{passOpen}
-use Rattle.prover.specs.Change.{emptyPass}
-use Rattle.prover.specs.Values.{valuesOf}
+use Rattle.pass.specs.Open.{emptyPass}
+use Rattle.pass.specs.Values.{valuesOf}
 
 -- the run with another next, messages, total and end values
 abbrev pub runWith : Run → Next → List ℕ → ℤ → ℕ → ℕ → Run

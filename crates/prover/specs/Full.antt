@@ -13,7 +13,7 @@ use Rattle.phase.specs.declared.Next.the-variants as next
 use Rattle.phase.specs.Cases.{isFull, waits}
 use Rattle.phase.specs.Order.{openingsAt}
 use Rattle.prover.specs.declared.Run.{Run}
-use Rattle.prover.specs.declared.Pass.{Pass}
+use Rattle.pass.specs.declared.Pass.{Pass}
 use Rattle.prover.specs.declared.Answer.the-variants as answer
 use Rattle.prover.specs.Records.{Out, out, answeredStep}
 use Rattle.prover.specs.Level.{foldSize}

@@ -7,7 +7,6 @@ pub mod Take
 pub mod Calls
 pub mod Blocks
 pub mod Change
-pub mod Values
 pub mod Close
 pub mod Written
 pub mod Start

@@ -1,35 +1,22 @@
 -- The calls that open a pass of small mode, and the return to small mode, which is refused.
 use Prim.Native.Nat.{ℕ}
-use mathlib.Core.Bool.{Bool, true, false, cond}
+use mathlib.Core.Bool.{Bool, false, cond}
 use mathlib.Core.List.{[]}
-use lib.IntN.{pos}
 use Rattle.refusal.specs.Number as number
 use Rattle.refusal.specs.Outcome.{Outcome, answered, refused, require}
-use Rattle.algebra.specs.Mod.{negMod, mulMod}
 use Rattle.field.specs.Number.{isNonzero}
 use Rattle.kernel.specs.declared.Kernel.{Kernel}
 use Rattle.kernel.specs.declared.Points.{Points}
-pub use Rattle.kernel.specs.Kernel.{noPoints}
-use Rattle.kernel.specs.Kernel.{emptyKernel, paddingKernel}
-use Rattle.phase.specs.declared.Next.the-variants as next
-use Rattle.phase.specs.declared.Kind.{Kind}
 use Rattle.phase.specs.declared.Kind.the-variants.{Asked}
-use Rattle.phase.specs.Cases.{isSmall, waits}
+use Rattle.phase.specs.Cases.{isSmall}
 use Rattle.phase.specs.Order.{openNext, openingsAt}
+use Rattle.pass.specs.Open.{noPoints, pointsOf, newPass, paddedIn, openIn}
 use Rattle.prover.specs.declared.Run.{Run}
-use Rattle.prover.specs.declared.Pass.{Pass}
+use Rattle.pass.specs.declared.Pass.{Pass}
 use Rattle.prover.specs.declared.Answer.the-variants as answer
-use Rattle.prover.specs.Records.{passWith, Out, out, answeredStep}
-use Rattle.prover.specs.Level.{levelOf, padding}
+use Rattle.prover.specs.Records.{Out, out, answeredStep}
+use Rattle.prover.specs.Level.{stageOf}
 use Rattle.prover.specs.WellFormed.{wellFormed}
-
--- a pass that has taken no item, with its kernel
-abbrev pub newPass : Kind → Points → Kernel → Pass
-newPass kind points k = passWith kind 0 (pos 0) 0 points k
-
--- "Opening at point b": b, -b, b squared
-abbrev pub pointsOf : ℕ → ℕ → Points
-pointsOf p b = record { on = true; point = b; minus = negMod p b; square = mulMod p b b }
 
 -- a record that a call returned, of a run in small mode
 abbrev pub smallFormed : ℕ → Run → Pass → Bool
@@ -43,13 +30,11 @@ mayOpen p r s = cond (smallFormed p r s) (openNext (r .next)) false
 abbrev pub mayOpenAt : ℕ → Run → Pass → Bool
 mayOpenAt p r s = cond (smallFormed p r s) (openingsAt (r .next) (r .start .rounds)) false
 
--- "A small pass takes the padding by itself", folding to the level of what is next
 abbrev pub paddedKernel : Run → Kernel
-paddedKernel r = paddingKernel (padding r) (levelOf r Asked)
+paddedKernel r = paddedIn (stageOf r)
 
--- a pass for the total has no stack
 abbrev pub openKernel : Run → Kernel
-openKernel r = cond (waits next.Total (r .next)) emptyKernel (paddedKernel r)
+openKernel r = openIn (stageOf r)
 
 abbrev pub opened : Run → Points → Kernel → Out
 opened r points k = out (answeredStep r (newPass Asked points k) answer.Opened) [] []

@@ -7,10 +7,10 @@ use Rattle.vector.specs.Vector.{at}
 use Rattle.field.specs.Number.{isNonzero}
 use Rattle.vector.specs.Opening.{opening}
 use Rattle.prover.specs.declared.Run.{Run}
-use Rattle.prover.specs.declared.Pass.{Pass}
+use Rattle.pass.specs.declared.Pass.{Pass}
 use Rattle.prover.specs.Reply as reply
 use Rattle.prover.specs.Records.{Out}
-use Rattle.prover.specs.Values.{inNinety}
+use Rattle.pass.specs.Values.{inNinety}
 use Rattle.prover.specs.Full.{openingTurn, lentFolds}
 
 -- "Opening at point b", of fold 0 as the buffers hold it; nothing changes

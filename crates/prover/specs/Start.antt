@@ -14,10 +14,10 @@ use Rattle.phase.specs.declared.Mode.the-variants.{Small}
 use Rattle.phase.specs.declared.Next.the-variants.{Total}
 use Rattle.phase.specs.declared.Kind.the-variants.{Shut}
 use Rattle.prover.specs.declared.Run.{Run}
-use Rattle.prover.specs.declared.Pass.{Pass}
+use Rattle.pass.specs.declared.Pass.{Pass}
 use Rattle.prover.specs.declared.Answer.the-variants as answer
 use Rattle.prover.specs.Records.{Out, out, leaves, answeredStep}
-use Rattle.prover.specs.Open.{newPass, noPoints}
+use Rattle.pass.specs.Open.{newPass, noPoints}
 
 -- "A fresh run is what an answered start gives: small, no pass open"
 abbrev pub freshRun : Start → Run

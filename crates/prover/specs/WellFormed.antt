@@ -1,14 +1,14 @@
 -- The test for records that no call returns: what safety and the contracts need of a record, in constant time.
-use Prim.Native.Nat.{ℕ, _*_}
+use Prim.Native.Nat.{ℕ}
 use mathlib.Core.Bool.{Bool, false, cond}
-use lib.Dec.{eqb, leb, ltb}
-use lib.IntN.{natAbs}
-use Rattle.refusal.specs.Limit.{maxItems, maxRounds, maxWorth}
+use lib.Dec.{eqb, ltb}
+use Rattle.refusal.specs.Limit.{maxItems}
 use Rattle.field.specs.Total.{inLimits}
 use Rattle.vector.specs.Rounds.{roundsOf}
-use Rattle.phase.specs.Order.{roundFits, kindFits}
+use Rattle.phase.specs.Order.{roundFits}
+use Rattle.pass.specs.Formed.{passFormed}
 use Rattle.prover.specs.declared.Run.{Run}
-use Rattle.prover.specs.declared.Pass.{Pass}
+use Rattle.pass.specs.declared.Pass.{Pass}
 
 unfoldable pub runFormed : ℕ → Run → Bool
 runFormed p r =
@@ -18,13 +18,5 @@ runFormed p r =
     (cond (roundFits (r .next) (r .round) (r .start .rounds)) (inLimits p (r .total)) false)
     false))
 
--- the total is one that so many items can have
-unfoldable pub passFormed : Run → Pass → Bool
-passFormed r s =
-    cond (kindFits (s .kind) (r .mode) (r .next))
-    (cond (ltb (r .start .items) (s .taken)) false
-    (cond (eqb (s .fcount) (s .gcount)) (cond (ltb maxRounds (s .fcount)) false (leb (natAbs (s .total)) (s .taken * maxWorth))) false))
-    false
-
 unfoldable pub wellFormed : ℕ → Run → Pass → Bool
-wellFormed p r s = cond (runFormed p r) (passFormed r s) false
+wellFormed p r s = cond (runFormed p r) (passFormed (r .start .items) (r .mode) (r .next) s) false

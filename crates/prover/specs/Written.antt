@@ -8,7 +8,7 @@ use Rattle.wire.specs.Proof.{proofFile, proofValues, writeProof}
 use Rattle.phase.specs.declared.Next.the-variants as next
 use Rattle.phase.specs.Cases.{waits}
 use Rattle.prover.specs.declared.Run.{Run}
-use Rattle.prover.specs.declared.Pass.{Pass}
+use Rattle.pass.specs.declared.Pass.{Pass}
 use Rattle.prover.specs.declared.Step.{Step}
 use Rattle.prover.specs.declared.Answer.the-variants as answer
 use Rattle.prover.specs.Records.{answeredStep, refusedStep, refusedAtStep}

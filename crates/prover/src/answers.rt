@@ -2,9 +2,9 @@
 ghost use mathlib.Core.Path.{_≡_};
 ghost use Rattle.prover.specs.Records.{answeredStep, refusedStep, refusedAtStep};
 use super::Answer;
-use super::Pass;
 use super::Run;
 use super::Step;
+use pass::Pass;
 
 pub fn answered(run: Run, pass: Pass, answer: Answer) -> Step
     ensures { λ r. ⌜ r ≡ answeredStep run pass answer ⌝ }

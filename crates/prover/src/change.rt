@@ -4,29 +4,23 @@ ghost use Prim.Native.Nat.{_+_, _≤_, _<_, _^_};
 ghost use Rattle.refusal.specs.Check.{passed};
 ghost use Rattle.item.specs.Start.{modulusOf};
 ghost use Rattle.prover.specs.Records.{out, leaves};
-ghost use Rattle.prover.specs.Change.{emptyPass, mayChange, paddingPlaces, cleared, paddedBuffer, changePass, changes, toFullCall};
+ghost use Rattle.prover.specs.Change.{mayChange, paddingPlaces, cleared, paddedBuffer, changes, toFullCall};
 use super::Answer;
-use super::Pass;
 use super::Run;
 use super::Step;
 use super::answers::answered;
 use super::answers::refuse;
 use super::checks;
-use super::open;
 use super::open_checks;
+use super::stage::stage_of;
+use pass::Pass;
+use pass::open;
 use phase::Kind;
 use phase::levels;
 use phase::order;
 use refusal::Check;
 use refusal::pass_if;
 use vector::slice::write;
-
-// A pass of a kind that has taken nothing.
-pub fn empty_pass(kind: Kind) -> Pass
-    ensures { λ r. ⌜ r ≡ emptyPass kind ⌝ }
-{
-    open::new_pass(kind, open::no_points(), kernel::start::empty())
-}
 
 // 10: small, before a later pass.
 fn may_change(p: u32, run: Run, pass: Pass) -> Check
@@ -77,17 +71,6 @@ fn pad_buffer(run: Run, v: &mut [u32])
     clear(v, (size - count) as usize, count as usize);
 }
 
-fn change_pass(run: Run) -> Pass
-    ensures { λ r. ⌜ r ≡ changePass run ⌝ }
-{
-    let start = run.start;
-    let next = run.next;
-    let level = levels::level_of(start.rounds, run.round, next, Kind::Change);
-    let padding = levels::padding_of(start.items, start.rounds);
-    let kernel = kernel::start::padding_below(padding, level);
-    open::new_pass(Kind::Change, open::no_points(), kernel)
-}
-
 impl Run {
     // Opens the pass that changes to full mode, and writes the places that the padding completes.
     pub fn to_full(self, pass: Pass, f: &mut [u32], g: &mut [u32]) -> Step
@@ -101,6 +84,6 @@ impl Run {
         };
         pad_buffer(self, f);
         pad_buffer(self, g);
-        answered(self, change_pass(self), Answer::Opened)
+        answered(self, open::change(stage_of(self)), Answer::Opened)
     }
 }

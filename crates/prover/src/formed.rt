@@ -1,12 +1,10 @@
 // The test for records that no call returns.
 ghost use mathlib.Core.Path.{_≡_};
-ghost use Rattle.prover.specs.WellFormed.{runFormed, passFormed, wellFormed};
-use super::Pass;
+ghost use Rattle.prover.specs.WellFormed.{runFormed, wellFormed};
 use super::Run;
+use pass::Pass;
+use pass::formed::pass_formed;
 use phase::order;
-
-// The largest product of a reading and a weight.
-const MAX_WORTH: u64 = 47185920;
 
 fn run_formed(p: u32, run: Run) -> bool
     ensures { λ r. ⌜ r ≡ runFormed p run ⌝ }
@@ -28,33 +26,14 @@ fn run_formed(p: u32, run: Run) -> bool
     field::total::within(p, run.total)
 }
 
-fn pass_formed(run: Run, pass: Pass) -> bool
-    ensures { λ r. ⌜ r ≡ passFormed run pass ⌝ }
-{
-    let kind = pass.kind;
-    let mode = run.mode;
-    let next = run.next;
-    if order::kind_fits(kind, mode, next) {} else {
-        return false;
-    }
-    let start = run.start;
-    if start.items < pass.taken {
-        return false;
-    }
-    if pass.fcount != pass.gcount {
-        return false;
-    }
-    if pass.fcount > (refusal::MAX_ROUNDS as usize) {
-        return false;
-    }
-    field::integer::magnitude(pass.total) <= (pass.taken as u64) * MAX_WORTH
-}
-
 pub fn well_formed(p: u32, run: Run, pass: Pass) -> bool
     ensures { λ r. ⌜ r ≡ wellFormed p run pass ⌝ }
 {
     if run_formed(p, run) {
-        return pass_formed(run, pass);
+        let start = run.start;
+        let mode = run.mode;
+        let next = run.next;
+        return pass_formed(start.items, mode, next, pass);
     }
     false
 }

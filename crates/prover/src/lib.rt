@@ -10,18 +10,15 @@ mod formed;
 mod full;
 mod full_checks;
 mod items;
-mod kernels;
 mod open;
 mod open_checks;
 mod opening;
+mod stage;
 mod start;
-mod values;
 mod written;
 
 use item::Start;
-use kernel::Evals;
-use kernel::Points;
-use phase::Kind;
+use pass::Pass;
 use phase::Mode;
 use phase::Next;
 
@@ -36,25 +33,6 @@ pub struct Run {
     pub total: i64,
     pub fend: u32,
     pub gend: u32,
-}
-
-// The two stacks with their counts, and beside them 107 numbers.
-pub struct Pass {
-    pub kind: Kind,
-    pub taken: u32,
-    pub total: i64,
-    pub dot: u32,
-    pub points: Points,
-    pub flevels: [u32; 16],
-    pub fvalues: [u32; 16],
-    pub fcount: usize,
-    pub glevels: [u32; 16],
-    pub gvalues: [u32; 16],
-    pub gcount: usize,
-    pub even: u32,
-    pub cross: u32,
-    pub odd: u32,
-    pub evals: Evals,
 }
 
 pub enum Answer {

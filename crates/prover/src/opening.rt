@@ -6,19 +6,19 @@ ghost use Rattle.vector.specs.Vector.{at};
 ghost use Rattle.vector.specs.Opening.{opening};
 ghost use Rattle.item.specs.Start.{modulusOf};
 ghost use Rattle.prover.specs.Records.{out, leaves};
-ghost use Rattle.prover.specs.Values.{inNinety};
+ghost use Rattle.pass.specs.Values.{inNinety};
 ghost use Rattle.prover.specs.Opening.{openingGiven, openingCall};
 use super::Answer;
-use super::Pass;
 use super::Run;
 use super::Step;
 use super::answers::refuse;
 use super::checks;
 use super::full_checks;
-use super::open::points_of;
-use super::values;
 use field::Checked;
 use field::Field;
+use pass::Pass;
+use pass::open::points_of;
+use pass::values;
 use refusal::Check;
 
 // The twists are in fold 0 already, so that its places enter as they are.

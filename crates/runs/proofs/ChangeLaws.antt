@@ -24,8 +24,9 @@ use Rattle.phase.specs.declared.Next.the-variants as next
 use Rattle.phase.specs.declared.Kind.the-variants.{Change}
 use Rattle.phase.specs.Cases.{isChange, waits}
 use Rattle.prover.specs.declared.Run.{Run}
-use Rattle.prover.specs.declared.Pass.{Pass}
-use Rattle.prover.specs.Records.{Out, kernelOf}
+use Rattle.pass.specs.declared.Pass.{Pass}
+use Rattle.pass.specs.Pass.{kernelOf}
+use Rattle.prover.specs.Records.{Out}
 use Rattle.prover.specs.Level.{levelOf, foldSize, padding}
 use Rattle.prover.specs.WellFormed.{runFormed}
 use Rattle.prover.specs.Take.{entering, placedItem, takenItem, takes}

@@ -22,15 +22,16 @@ use Rattle.phase.specs.declared.Kind.the-variants.{Asked}
 use Rattle.phase.specs.Level.{levelAt}
 use Rattle.phase.specs.Order.{roundFits}
 use Rattle.prover.specs.declared.Run.{Run}
-use Rattle.prover.specs.declared.Pass.{Pass}
+use Rattle.pass.specs.declared.Pass.{Pass}
 use Rattle.prover.specs.declared.Answer.the-variants as answer
-use Rattle.prover.specs.Records.{kernelOf, answeredStep}
+use Rattle.pass.specs.Pass.{kernelOf}
+use Rattle.prover.specs.Records.{answeredStep}
 use Rattle.prover.specs.Level.{levelOf}
 use Rattle.prover.specs.WellFormed.{runFormed}
-use Rattle.prover.specs.Open.{pointsOf}
-use Rattle.prover.specs.Values.{inNinety}
+use Rattle.pass.specs.Open.{pointsOf}
+use Rattle.pass.specs.Values.{inNinety}
 use Rattle.prover.specs.Close.{shutPass, withMessage, withEnds, finished}
-use Rattle.prover.proofs.OpeningValues.{taken-opened}
+use Rattle.pass.proofs.OpeningValues.{taken-opened}
 use Rattle.runs.specs.Stacks.{StacksOf}
 use Rattle.runs.proofs.RunFacts.{run-facts, run-level}
 

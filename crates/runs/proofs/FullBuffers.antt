@@ -11,7 +11,7 @@ use Rattle.vector.specs.Slice.{foldSlice}
 use Rattle.vector.proofs.Overwrite.{fold-length, fold-kept}
 use Rattle.vector.proofs.Agreement.{Holds, fold-holds}
 use Rattle.prover.specs.declared.Run.{Run}
-use Rattle.prover.specs.declared.Pass.{Pass}
+use Rattle.pass.specs.declared.Pass.{Pass}
 use Rattle.prover.specs.Records.{Out}
 use Rattle.prover.specs.Challenge.{challengeTurn, challengedFull}
 use Rattle.prover.proofs.FullFacts.{challenge-round}

@@ -18,10 +18,12 @@ use Rattle.phase.specs.declared.Kind.the-variants.{Shut, Asked, Change}
 use Rattle.phase.specs.Cases.{waits}
 use Rattle.phase.specs.Order.{kindFits}
 use Rattle.prover.specs.declared.Run.{Run}
-use Rattle.prover.specs.declared.Pass.{Pass}
-use Rattle.prover.specs.Records.{kernelOf}
-use Rattle.prover.specs.WellFormed.{runFormed, passFormed, wellFormed}
-use Rattle.prover.specs.Open.{newPass, noPoints, pointsOf, paddedKernel}
+use Rattle.pass.specs.declared.Pass.{Pass}
+use Rattle.pass.specs.Pass.{kernelOf}
+use Rattle.pass.specs.Formed.{passFormed}
+use Rattle.prover.specs.WellFormed.{runFormed, wellFormed}
+use Rattle.pass.specs.Open.{newPass, noPoints, pointsOf}
+use Rattle.prover.specs.Open.{paddedKernel}
 use Rattle.item.specs.declared.Given.{Given}
 use Rattle.item.specs.Item.{contributes}
 use Rattle.runs.specs.Passes.{passAfter}

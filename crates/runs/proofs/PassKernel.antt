@@ -21,11 +21,12 @@ use Rattle.phase.specs.declared.Kind.{Kind}
 use Rattle.phase.specs.declared.Kind.the-variants.{Shut, Asked, Change}
 use Rattle.phase.specs.Cases.{isOpen, isChange, waits}
 use Rattle.prover.specs.declared.Run.{Run}
-use Rattle.prover.specs.declared.Pass.{Pass}
-use Rattle.prover.specs.Records.{kernelOf}
+use Rattle.pass.specs.declared.Pass.{Pass}
+use Rattle.pass.specs.Pass.{kernelOf}
 use Rattle.prover.specs.Level.{levelOf, padding}
 use Rattle.prover.specs.WellFormed.{runFormed}
-use Rattle.prover.specs.Open.{newPass, noPoints, pointsOf, paddedKernel, openKernel}
+use Rattle.pass.specs.Open.{newPass, noPoints, pointsOf}
+use Rattle.prover.specs.Open.{paddedKernel, openKernel}
 use Rattle.prover.specs.Take.{entering, enteredItem}
 use Rattle.item.specs.declared.Given.{Given}
 use Rattle.item.specs.Item.{contributes}

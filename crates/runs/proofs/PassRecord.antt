@@ -18,14 +18,18 @@ use Rattle.phase.specs.declared.Kind.{Kind}
 use Rattle.phase.specs.declared.Kind.the-variants.{Shut, Asked, Change}
 use Rattle.phase.specs.Cases.{isChange, waits}
 use Rattle.prover.specs.declared.Run.{Run}
-use Rattle.prover.specs.declared.Pass.{Pass}
+use Rattle.pass.specs.declared.Pass.{Pass}
 use Rattle.prover.specs.declared.Answer.the-variants as answer
 use Rattle.refusal.specs.Outcome.{answered}
 use Rattle.prover.specs.Reply as reply
-use Rattle.prover.specs.Records.{kernelOf, withKernel, Out, out, answeredStep, noValues}
+use Rattle.pass.specs.Pass.{kernelOf, withKernel}
+use Rattle.pass.specs.Values.{noValues}
+use Rattle.prover.specs.Records.{Out, out, answeredStep}
 use Rattle.prover.specs.Level.{levelOf, foldSize, padding}
-use Rattle.prover.specs.Open.{newPass, noPoints, pointsOf, paddedKernel, openKernel}
-use Rattle.prover.specs.Take.{entering, oneMore, running, summedItem, enteredItem, placedItem, takenItem, takes}
+use Rattle.pass.specs.Open.{newPass, noPoints, pointsOf}
+use Rattle.prover.specs.Open.{paddedKernel, openKernel}
+use Rattle.pass.specs.Take.{oneMore, running, summedItem}
+use Rattle.prover.specs.Take.{entering, enteredItem, placedItem, takenItem, takes}
 use Rattle.prover.proofs.Outcomes.{takes-sum, takes-enter, takes-place}
 use Rattle.item.specs.declared.Given.{Given}
 use Rattle.item.specs.Item.{contributes}

@@ -24,7 +24,7 @@ use Rattle.phase.specs.declared.Kind.{Kind}
 use Rattle.phase.specs.declared.Kind.the-variants.{Asked, Change}
 use Rattle.phase.specs.Cases.{waits}
 use Rattle.prover.specs.declared.Run.{Run}
-use Rattle.prover.specs.Records.{kernelOf}
+use Rattle.pass.specs.Pass.{kernelOf}
 use Rattle.prover.specs.Level.{levelOf}
 use Rattle.prover.specs.WellFormed.{runFormed}
 use Rattle.item.specs.declared.Given.{Given}

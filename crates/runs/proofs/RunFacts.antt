@@ -14,9 +14,11 @@ use Rattle.phase.specs.Level.{levelAt}
 use Rattle.phase.proofs.Facts.{level-at-most}
 use Rattle.prover.specs.declared.Run.{Run}
 use Rattle.prover.specs.Level.{levelOf, foldSize, padding}
-use Rattle.prover.specs.WellFormed.{runFormed, passFormed, wellFormed}
+use Rattle.pass.specs.Formed.{passFormed}
+use Rattle.prover.specs.WellFormed.{runFormed, wellFormed}
 use Rattle.prover.specs.Close.{shutPass}
-use Rattle.prover.proofs.Facts.{Formed, formed, size-32}
+use Rattle.pass.proofs.Facts.{size-32}
+use Rattle.prover.proofs.Facts.{Formed, formed}
 use Rattle.prover.proofs.NewPass.{padding-is}
 
 -- a change writes the current fold

@@ -9,8 +9,9 @@ use Rattle.phase.specs.declared.Kind.{Kind}
 use Rattle.phase.specs.declared.Kind.the-variants.{Shut, Asked, Change}
 use Rattle.phase.specs.Cases.{waits}
 use Rattle.prover.specs.declared.Run.{Run}
-use Rattle.prover.specs.declared.Pass.{Pass}
-use Rattle.prover.specs.Open.{newPass, noPoints, pointsOf, paddedKernel, openKernel}
+use Rattle.pass.specs.declared.Pass.{Pass}
+use Rattle.pass.specs.Open.{newPass, noPoints, pointsOf}
+use Rattle.prover.specs.Open.{paddedKernel, openKernel}
 use Rattle.prover.specs.Take.{takes}
 use Rattle.prover.specs.Change.{changePass}
 use Rattle.prover.specs.Close.{shutPass}

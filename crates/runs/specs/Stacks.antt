@@ -9,8 +9,8 @@ use Rattle.kernel.specs.KernelView.{stackF, stackG}
 use Rattle.phase.specs.declared.Kind.{Kind}
 use Rattle.phase.specs.Cases.{isChange}
 use Rattle.prover.specs.declared.Run.{Run}
-use Rattle.prover.specs.declared.Pass.{Pass}
-use Rattle.prover.specs.Records.{kernelOf}
+use Rattle.pass.specs.declared.Pass.{Pass}
+use Rattle.pass.specs.Pass.{kernelOf}
 use Rattle.prover.specs.Level.{levelOf}
 
 -- of a pass that folds to level i and has taken t of the 2^n items of f and g, under the challenges c

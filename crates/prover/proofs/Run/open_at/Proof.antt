@@ -45,20 +45,17 @@ returns-2 c = rw (c .refuse2 .ensures) (ap (leaves (c .before .before .before .b
 to-u32-requires : tie.Need-to-u32-requires
 to-u32-requires c κs = search needs
 
-points-of-requires : tie.Need-points-of-requires
-points-of-requires c κs = search needs
+stage-of-requires : tie.Need-stage-of-requires
+stage-of-requires c κs = search needs
 
-padded-kernel-requires : tie.Need-padded-kernel-requires
-padded-kernel-requires c κs = search needs
-
-new-pass-requires : tie.Need-new-pass-requires
-new-pass-requires c κs = search needs
+asked-at-requires : tie.Need-asked-at-requires
+asked-at-requires c κs = search needs
 
 answered-requires : tie.Need-answered-requires
 answered-requires c κs = search needs
 
 returns-3 : tie.Need-returns-3
-returns-3 c = rw (c .answered .ensures, c .before .new-pass .ensures, c .before .before .padded-kernel .ensures, c .before .before .before .points-of .ensures, c .before .before .before .before .to-u32 .ensures ∙ number-nonzero (c .before .before .before .before .before .before .before .before .before .before .before .before .modulus-of .result) (c .before .before .before .before .before .before .before .before .before .before .before .before .before .args .point) (c .before .before .before .before .before .before .b .given .0 .0) (sym (c .before .before .before .before .before .before .before .before .nonzero-in .ensures) ∙ c .before .before .before .before .before .before .b .given .1) .1) (ap (leaves (c .before .before .before .before .before .before .before .before .before .before .before .before .before .args .self) (c .before .before .before .before .before .before .before .before .before .before .before .before .before .args .pass) [] []) (sym (open-at-answered (c .before .before .before .before .before .before .before .before .before .before .before .before .modulus-of .result) (c .before .before .before .before .before .before .before .before .before .before .before .before .before .args .self) (c .before .before .before .before .before .before .before .before .before .before .before .before .before .args .pass) (c .before .before .before .before .before .before .before .before .before .before .before .before .before .args .point) (sym (c .before .before .before .before .before .before .before .before .before .before .before .may-open-at .ensures) ∙ ap passed (c .before .before .before .before .before .before .before .before .before .enum-told .given .1)) (number-nonzero (c .before .before .before .before .before .before .before .before .before .before .before .before .modulus-of .result) (c .before .before .before .before .before .before .before .before .before .before .before .before .before .args .point) (c .before .before .before .before .before .before .b .given .0 .0) (sym (c .before .before .before .before .before .before .before .before .nonzero-in .ensures) ∙ c .before .before .before .before .before .before .b .given .1) .0))) ∙ ap (λ p. leaves (c .before .before .before .before .before .before .before .before .before .before .before .before .before .args .self) (c .before .before .before .before .before .before .before .before .before .before .before .before .before .args .pass) [] [] (openAtCall p (c .before .before .before .before .before .before .before .before .before .before .before .before .before .args .self) (c .before .before .before .before .before .before .before .before .before .before .before .before .before .args .pass) (c .before .before .before .before .before .before .before .before .before .before .before .before .before .args .point))) (c .before .before .before .before .before .before .before .before .before .before .before .before .modulus-of .ensures))
+returns-3 c = rw (c .answered .ensures, c .before .asked-at .ensures, c .before .before .before .stage-of .ensures, c .before .before .to-u32 .ensures ∙ number-nonzero (c .before .before .before .before .before .before .before .before .before .before .before .modulus-of .result) (c .before .before .before .before .before .before .before .before .before .before .before .before .args .point) (c .before .before .before .before .before .b .given .0 .0) (sym (c .before .before .before .before .before .before .before .nonzero-in .ensures) ∙ c .before .before .before .before .before .b .given .1) .1) (ap (leaves (c .before .before .before .before .before .before .before .before .before .before .before .before .args .self) (c .before .before .before .before .before .before .before .before .before .before .before .before .args .pass) [] []) (sym (open-at-answered (c .before .before .before .before .before .before .before .before .before .before .before .modulus-of .result) (c .before .before .before .before .before .before .before .before .before .before .before .before .args .self) (c .before .before .before .before .before .before .before .before .before .before .before .before .args .pass) (c .before .before .before .before .before .before .before .before .before .before .before .before .args .point) (sym (c .before .before .before .before .before .before .before .before .before .before .may-open-at .ensures) ∙ ap passed (c .before .before .before .before .before .before .before .before .enum-told .given .1)) (number-nonzero (c .before .before .before .before .before .before .before .before .before .before .before .modulus-of .result) (c .before .before .before .before .before .before .before .before .before .before .before .before .args .point) (c .before .before .before .before .before .b .given .0 .0) (sym (c .before .before .before .before .before .before .before .nonzero-in .ensures) ∙ c .before .before .before .before .before .b .given .1) .0))) ∙ ap (λ p. leaves (c .before .before .before .before .before .before .before .before .before .before .before .before .args .self) (c .before .before .before .before .before .before .before .before .before .before .before .before .args .pass) [] [] (openAtCall p (c .before .before .before .before .before .before .before .before .before .before .before .before .args .self) (c .before .before .before .before .before .before .before .before .before .before .before .before .args .pass) (c .before .before .before .before .before .before .before .before .before .before .before .before .args .point))) (c .before .before .before .before .before .before .before .before .before .before .before .modulus-of .ensures))
 
 pub open-at-spec : {M : Type 1} → statement M
 open-at-spec =
@@ -75,9 +72,8 @@ open-at-spec =
     enum-told-3
     refuse-requires-2
     returns-2
+    stage-of-requires
     to-u32-requires
-    points-of-requires
-    padded-kernel-requires
-    new-pass-requires
+    asked-at-requires
     answered-requires
     returns-3)

@@ -26,20 +26,17 @@ refuse-requires c κs = search needs
 returns : tie.Need-returns
 returns c = rw (c .refuse .ensures) (ap (leaves (c .before .before .before .before .before .args .self) (c .before .before .before .before .before .args .pass) [] []) (sym (open-order (c .before .before .before .before .modulus-of .result) (c .before .before .before .before .before .args .self) (c .before .before .before .before .before .args .pass) (sym (c .before .before .before .may-open .ensures) ∙ ap passed (c .before .enum-told2 .given .1)))) ∙ ap (λ p. leaves (c .before .before .before .before .before .args .self) (c .before .before .before .before .before .args .pass) [] [] (openCall p (c .before .before .before .before .before .args .self) (c .before .before .before .before .before .args .pass))) (c .before .before .before .before .modulus-of .ensures))
 
-no-points-requires : tie.Need-no-points-requires
-no-points-requires c κs = search needs
+stage-of-requires : tie.Need-stage-of-requires
+stage-of-requires c κs = search needs
 
-open-kernel-requires : tie.Need-open-kernel-requires
-open-kernel-requires c κs = search needs
-
-new-pass-requires : tie.Need-new-pass-requires
-new-pass-requires c κs = search needs
+asked-requires : tie.Need-asked-requires
+asked-requires c κs = search needs
 
 answered-requires : tie.Need-answered-requires
 answered-requires c κs = search needs
 
 returns-2 : tie.Need-returns-2
-returns-2 c = rw (c .answered .ensures, c .before .new-pass .ensures, c .before .before .open-kernel .ensures, c .before .before .before .no-points .ensures) (ap (leaves (c .before .before .before .before .before .before .before .before .args .self) (c .before .before .before .before .before .before .before .before .args .pass) [] []) (sym (open-answered (c .before .before .before .before .before .before .before .modulus-of .result) (c .before .before .before .before .before .before .before .before .args .self) (c .before .before .before .before .before .before .before .before .args .pass) (sym (c .before .before .before .before .before .before .may-open .ensures) ∙ ap passed (c .before .before .before .before .enum-told .given .1)))) ∙ ap (λ p. leaves (c .before .before .before .before .before .before .before .before .args .self) (c .before .before .before .before .before .before .before .before .args .pass) [] [] (openCall p (c .before .before .before .before .before .before .before .before .args .self) (c .before .before .before .before .before .before .before .before .args .pass))) (c .before .before .before .before .before .before .before .modulus-of .ensures))
+returns-2 c = rw (c .answered .ensures, c .before .asked .ensures, c .before .before .stage-of .ensures) (ap (leaves (c .before .before .before .before .before .before .before .args .self) (c .before .before .before .before .before .before .before .args .pass) [] []) (sym (open-answered (c .before .before .before .before .before .before .modulus-of .result) (c .before .before .before .before .before .before .before .args .self) (c .before .before .before .before .before .before .before .args .pass) (sym (c .before .before .before .before .before .may-open .ensures) ∙ ap passed (c .before .before .before .enum-told .given .1)))) ∙ ap (λ p. leaves (c .before .before .before .before .before .before .before .args .self) (c .before .before .before .before .before .before .before .args .pass) [] [] (openCall p (c .before .before .before .before .before .before .before .args .self) (c .before .before .before .before .before .before .before .args .pass))) (c .before .before .before .before .before .before .modulus-of .ensures))
 
 pub open-pass-spec : {M : Type 1} → statement M
 open-pass-spec =
@@ -51,8 +48,7 @@ open-pass-spec =
     enum-told-2
     refuse-requires
     returns
-    no-points-requires
-    open-kernel-requires
-    new-pass-requires
+    stage-of-requires
+    asked-requires
     answered-requires
     returns-2)

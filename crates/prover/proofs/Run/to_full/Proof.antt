@@ -58,8 +58,11 @@ pad-buffer-requires-2 c κs =
     let h = formed (c .before .before .before .before .before .before .before .before .before .before .before .modulus-of .result) (s .self) (s .pass) (holds _ _ (holds _ _ (sym (c .before .before .before .before .before .before .before .before .before .before .may-change .ensures) ∙ ap passed (c .before .before .before .before .before .before .before .before .enum-told .given .1)) .0) .0) in
     (h .few, h .round)
 
-change-pass-requires : tie.Need-change-pass-requires
-change-pass-requires c κs = search needs
+stage-of-requires : tie.Need-stage-of-requires
+stage-of-requires c κs = search needs
+
+change-requires : tie.Need-change-requires
+change-requires c κs = search needs
 
 answered-requires : tie.Need-answered-requires
 answered-requires c κs = search needs
@@ -72,8 +75,8 @@ same-length-2 c = search needs
 
 returns-3 : tie.Need-returns-3
 returns-3 c =
-    let s = c .before .before .before .before .before .before .before .before .before .before .before .before .before .before .before .before .before .before .before .args in
-    rw (c .before .before .before .before .before .before .before .before .pad-buffer .ensures, c .before .before .before .before .pad-buffer2 .ensures, c .answered .ensures, c .before .change-pass .ensures) (sym (change-opened (c .before .before .before .before .before .before .before .before .before .before .before .before .before .before .before .before .modulus-of .result) (s .self) (s .pass) (now (s .f)) (now (s .g)) (sym (c .before .before .before .before .before .before .before .before .before .before .before .before .before .before .before .may-change .ensures) ∙ ap passed (c .before .before .before .before .before .before .before .before .before .before .before .before .before .enum-told .given .1)) (sym (c .before .before .before .before .before .before .before .before .before .before .before .before .both-long .ensures) ∙ ap passed (c .before .before .before .before .before .before .before .before .before .before .enum-told3 .given .1))) ∙ ap (λ p. leaves (s .self) (s .pass) (now (s .f)) (now (s .g)) (toFullCall p (s .self) (s .pass) (now (s .f)) (now (s .g)))) (c .before .before .before .before .before .before .before .before .before .before .before .before .before .before .before .before .modulus-of .ensures))
+    let s = c .before .before .before .before .before .before .before .before .before .before .before .before .before .before .before .before .before .before .before .before .args in
+    rw (c .before .before .before .before .before .before .before .before .before .pad-buffer .ensures, c .before .before .before .before .before .pad-buffer2 .ensures, c .answered .ensures, c .before .change .ensures, c .before .before .stage-of .ensures) (sym (change-opened (c .before .before .before .before .before .before .before .before .before .before .before .before .before .before .before .before .before .modulus-of .result) (s .self) (s .pass) (now (s .f)) (now (s .g)) (sym (c .before .before .before .before .before .before .before .before .before .before .before .before .before .before .before .before .may-change .ensures) ∙ ap passed (c .before .before .before .before .before .before .before .before .before .before .before .before .before .before .enum-told .given .1)) (sym (c .before .before .before .before .before .before .before .before .before .before .before .before .before .both-long .ensures) ∙ ap passed (c .before .before .before .before .before .before .before .before .before .before .before .enum-told3 .given .1))) ∙ ap (λ p. leaves (s .self) (s .pass) (now (s .f)) (now (s .g)) (toFullCall p (s .self) (s .pass) (now (s .f)) (now (s .g)))) (c .before .before .before .before .before .before .before .before .before .before .before .before .before .before .before .before .before .modulus-of .ensures))
 
 pub to-full-spec : {M : Type 1} → statement M
 to-full-spec =
@@ -92,7 +95,8 @@ to-full-spec =
     returns-2
     pad-buffer-requires
     pad-buffer-requires-2
-    change-pass-requires
+    stage-of-requires
+    change-requires
     answered-requires
     same-length
     same-length-2

@@ -11,7 +11,7 @@ pass-formed-requires c κs = search needs
 
 returns : tie.Need-returns
 unfolding wellFormed
-returns c = simp (c .pass-formed .ensures, c .before .if1 .taken, ← c .before .before .run-formed .ensures)
+returns c = simp (c .pass-formed .ensures, c .before .before .if1 .taken, ← c .before .before .before .run-formed .ensures)
 
 returns-2 : tie.Need-returns-2
 unfolding wellFormed

@@ -97,7 +97,7 @@ take-requires : tie.Need-take-requires
 take-requires c κs =
     let s = c .before .before .before .before .before .before .before .before .before .before .before .before .before .before .before .before .before .before .before .before .args in
     let h = formed (s .p) (s .run) (s .pass) (holds _ _ (sym (c .before .before .before .before .before .before .before .before .before .before .before .before .before .before .before .before .before .pass-open .ensures) ∙ ap passed (c .before .before .before .before .before .before .before .before .before .before .before .before .before .before .before .enum-told .given .1)) .0) in
-    (h .few, h .round, h .most, ltb-true _ _ (sym (c .before .before .before .before .before .before .before .before .before .before .before .before .before .item-wanted .ensures) ∙ ap passed (c .before .before .before .before .before .before .before .before .before .before .before .enum-told3 .given .1)))
+    (h .few, h .most, ltb-true _ _ (sym (c .before .before .before .before .before .before .before .before .before .before .before .before .before .item-wanted .ensures) ∙ ap passed (c .before .before .before .before .before .before .before .before .before .before .before .enum-told3 .given .1)))
 
 same-length : tie.Need-same-length
 same-length c = search needs

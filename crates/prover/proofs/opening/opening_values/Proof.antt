@@ -7,8 +7,8 @@ use lib.Seq.{length-take-le}
 use denote.Ref.{now}
 use Rattle.kernel.specs.Kernel.{pairsIn, streamed}
 use Rattle.vector.proofs.Rounds.{size-all}
-use Rattle.prover.specs.Values.{valuesOf}
-use Rattle.prover.proofs.Facts.{size-32}
+use Rattle.pass.specs.Values.{valuesOf}
+use Rattle.pass.proofs.Facts.{size-32}
 use Rattle.prover.proofs.OpeningLaws.{stream-values}
 use borrow.Author.Needs.{needs}
 use Rattle.prover.proofs.opening.opening_values.Statement.{statement}

@@ -1,0 +1,4 @@
+pub mod Facts
+pub mod Taking
+pub mod BlockLaws
+pub mod OpeningValues

@@ -1,0 +1,7 @@
+pub mod Pass
+pub mod Stage
+pub mod Open
+pub mod Take
+pub mod Blocks
+pub mod Values
+pub mod Formed
