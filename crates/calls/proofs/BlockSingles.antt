@@ -32,8 +32,9 @@ use Rattle.prover.specs.Reply as reply
 use Rattle.pass.specs.Pass.{kernelOf}
 use Rattle.prover.specs.Records.{Out, out, answeredStep}
 use Rattle.prover.specs.Level.{levelOf, foldSize, padding}
-use Rattle.pass.specs.Take.{summedItem}
-use Rattle.prover.specs.Take.{entering, enteredItem, placedItem, takenItem, takes}
+use Rattle.pass.specs.Take.{moved, summedItem, placedIn, stackedIn, takesIn}
+use Rattle.pass.specs.Blocks.{takesAllIn}
+use Rattle.prover.specs.Take.{handed, entering, enteredItem, takes}
 use Rattle.prover.specs.Blocks.{takesAll}
 use Rattle.runs.proofs.PassRecord.{takes-run, takes-answer}
 use Rattle.calls.specs.declared.Call.the-variants as call
@@ -69,11 +70,12 @@ module _ (p : ℕ) (r : Run) (s : Pass) (y : Item) (f g : List ℕ) where
 
   abbrev taking : Bool → Bool → Bool → Out
   taking sums change fit =
-      cond sums (out (answeredStep r (summedItem p (r .start .plain) s y (entering p r s y)) answer.Taken) f g)
-      (takenItem r s (cond change (put fit) (placedOf (enteredItem p r s (entering p r s y) (y .g)) f g)))
+      handed r
+      (cond sums (moved (summedItem p (r .start .plain) s y (entering p r s y)) f g)
+      (stackedIn s (cond change (put fit) (placedOf (enteredItem p r s (entering p r s y) (y .g)) f g))))
 
   takes-long : (length (takes p r s y f g .f) ≡ length f) × (length (takes p r s y f g .g) ≡ length g)
-  unfolding takes placedItem placed
+  unfolding takes takesIn placedIn placed
   takes-long = by (waits next.Total (r .next)) (cases.isChange (s .kind)) (fits (levelOf r (s .kind)) (kernelOf s))
     where
       by : (sums change fit : Bool) → (length (taking sums change fit .f) ≡ length f) × (length (taking sums change fit .g) ≡ length g)
@@ -89,13 +91,11 @@ module _ (p : ℕ) (r : Run) (s : Pass) (y : Item) (f g : List ℕ) where
 module _ (p : ℕ) (r : Run) (b : Block) where
   pub all-run : (m : ℕ) (s : Pass) (f g : List ℕ) → takesAll p r b m s f g .run ≡ r
   unfolding takesAll
-  all-run zero s f g = refl
-  all-run (suc m) s f g = all-run m _ _ _
+  all-run m s f g = refl
 
   pub all-answer : (m : ℕ) (s : Pass) (f g : List ℕ) → takesAll p r b m s f g .answer ≡ answered reply.taken
   unfolding takesAll
-  all-answer zero s f g = refl
-  all-answer (suc m) s f g = all-answer m _ _ _
+  all-answer m s f g = refl
 
 -- with the buffers or without
 abbrev Held : (Start → Turn → Taking → Type 0) → State → Type 0
@@ -183,7 +183,7 @@ module _ (p : ℕ) (large : maxWeight < p) where
       pub buffers : leftBy p w b m l ≡ blockLeft w m l
 
     nothing-left : (w : World) (m : ℕ) (l : Lent) → m ≡ 0 → blockLeft w m l ≡ l
-    unfolding takesAll
+    unfolding takesAll takesAllIn
     nothing-left w zero l e = refl
     nothing-left w (suc m) l e = absurd (omega arith)
 
@@ -206,7 +206,7 @@ module _ (p : ℕ) (large : maxWeight < p) where
 
     pub singly : (m : ℕ) (w : World) {past : Notes} → Faithful p large w past → ((j : ℕ) → j < m → Sized (call.Give (itemAt b j))) → (l : Lent) → AdmitsHere (w .state) m
         → placeRow (w .state) l ≡ none → Singly w m l
-    unfolding along after singles leftBy takesAll
+    unfolding along after singles leftBy takesAll takesAllIn takes
     singly zero w i z l h place = record { answers = tt; world = refl; buffers = refl }
     singly (suc m) w {past} i z l h place =
         let x : Given = itemAt b m in

@@ -24,7 +24,8 @@ use Rattle.prover.specs.Full.{messageCall, messageGiven, endsCall}
 use Rattle.prover.specs.Open.{openCall, openAtCall, toSmallCall}
 use Rattle.prover.specs.Opening.{openingGiven, openingCall}
 use Rattle.pass.specs.Take.{summedItem}
-use Rattle.prover.specs.Take.{entering, enteredItem, takes, placedItem}
+use Rattle.pass.specs.Take.{entersIn, enteredIn, placedIn, takesIn}
+use Rattle.prover.specs.Take.{takes}
 use Rattle.pass.specs.Values.{valuesOf}
 use Rattle.pass.specs.Formed.{passFormed}
 use Rattle.prover.specs.WellFormed.{runFormed, wellFormed}
@@ -43,7 +44,7 @@ use Rattle.calls.proofs.ExampleKept.{allTrue, all-sized, all-kept}
 
 module _ (f g : List ℕ) where
   pub small-run : TripList inSmall (freshWorld tripStart f g)
-  unfolding each allTrue lastOf callsOf answersOf refusalsOf table sumOf step messageCall giveCall openCall openAtCall closeCall challengeCall toFullCall writeCall wellFormed runFormed passFormed powers firstFrom inLimits sizeIn32 partsOf takes entering summedItem enteredItem plus image residue negMod addMod mulMod valuesOf tripleValues bytes bits allBelow numbers proofHeader writeProof writtenIn hornerAt arrived topAt climbFrom evaluatedFrom climbed evaluated meetsAt summed settled sumsAfter stacksFit entered streamed paddingFrom paddingBelow left placed placedAll placedItem
+  unfolding each allTrue lastOf callsOf answersOf refusalsOf table sumOf step messageCall giveCall openCall openAtCall closeCall challengeCall toFullCall writeCall wellFormed runFormed passFormed powers firstFrom inLimits sizeIn32 partsOf takes takesIn entersIn summedItem enteredIn plus image residue negMod addMod mulMod valuesOf tripleValues bytes bits allBelow numbers proofHeader writeProof writtenIn hornerAt arrived topAt climbFrom evaluatedFrom climbed evaluated meetsAt summed settled sumsAfter stacksFit entered streamed paddingFrom paddingBelow left placed placedAll placedIn
   small-run =
       record {
         sized = all-sized P (freshWorld tripStart f g) (callsOf inSmall) refl;
@@ -54,7 +55,7 @@ module _ (f g : List ℕ) where
       }
 
   pub full-run : TripList inFull (freshWorld tripStart f g)
-  unfolding each allTrue lastOf callsOf answersOf refusalsOf every table sumOf step messageGiven messageCall endsCall giveCall openCall toSmallCall closeCall challengedFull challengeCall cleared toFullCall openingGiven openingCall writeCall wellFormed runFormed passFormed powers firstFrom inLimits sizeIn32 partsOf takes entering summedItem enteredItem plus image residue negMod addMod mulMod sum foldWith overwrite foldSlice messageSlice tripleValues bytes bits allBelow numbers proofHeader writeProof writtenIn hornerAt arrived topAt climbFrom evaluatedFrom climbed evaluated meetsAt summed settled sumsAfter stacksFit entered streamed paddingFrom paddingBelow left placed placedAll placedItem
+  unfolding each allTrue lastOf callsOf answersOf refusalsOf every table sumOf step messageGiven messageCall endsCall giveCall openCall toSmallCall closeCall challengedFull challengeCall cleared toFullCall openingGiven openingCall writeCall wellFormed runFormed passFormed powers firstFrom inLimits sizeIn32 partsOf takes takesIn entersIn summedItem enteredIn plus image residue negMod addMod mulMod sum foldWith overwrite foldSlice messageSlice tripleValues bytes bits allBelow numbers proofHeader writeProof writtenIn hornerAt arrived topAt climbFrom evaluatedFrom climbed evaluated meetsAt summed settled sumsAfter stacksFit entered streamed paddingFrom paddingBelow left placed placedAll placedIn
   full-run =
       record {
         sized = all-sized P (freshWorld tripStart f g) (callsOf inFull) refl;
@@ -65,7 +66,7 @@ module _ (f g : List ℕ) where
       }
 
   pub changing-run : TripList changing (freshWorld tripStart f g)
-  unfolding each allTrue lastOf callsOf answersOf refusalsOf every table sumOf step messageGiven messageCall endsCall giveCall openCall openAtCall closeCall challengedFull challengeCall cleared toFullCall openingGiven openingCall writeCall wellFormed runFormed passFormed powers firstFrom inLimits sizeIn32 partsOf takes entering summedItem enteredItem plus image residue negMod addMod mulMod sum foldWith overwrite foldSlice messageSlice tripleValues bytes bits allBelow numbers proofHeader writeProof writtenIn hornerAt arrived topAt climbFrom evaluatedFrom climbed evaluated meetsAt summed settled sumsAfter stacksFit entered streamed paddingFrom paddingBelow left placed placedAll placedItem
+  unfolding each allTrue lastOf callsOf answersOf refusalsOf every table sumOf step messageGiven messageCall endsCall giveCall openCall openAtCall closeCall challengedFull challengeCall cleared toFullCall openingGiven openingCall writeCall wellFormed runFormed passFormed powers firstFrom inLimits sizeIn32 partsOf takes takesIn entersIn summedItem enteredIn plus image residue negMod addMod mulMod sum foldWith overwrite foldSlice messageSlice tripleValues bytes bits allBelow numbers proofHeader writeProof writtenIn hornerAt arrived topAt climbFrom evaluatedFrom climbed evaluated meetsAt summed settled sumsAfter stacksFit entered streamed paddingFrom paddingBelow left placed placedAll placedIn
   changing-run =
       record {
         sized = all-sized P (freshWorld tripStart f g) (callsOf changing) refl;

@@ -24,7 +24,8 @@ use Rattle.prover.specs.Reply as reply
 use Rattle.pass.specs.Formed.{passFormed}
 use Rattle.prover.specs.WellFormed.{runFormed, wellFormed}
 use Rattle.pass.specs.Take.{summedItem}
-use Rattle.prover.specs.Take.{entering, enteredItem, takes, placedItem}
+use Rattle.pass.specs.Take.{entersIn, enteredIn, placedIn, takesIn}
+use Rattle.prover.specs.Take.{takes}
 use Rattle.prover.specs.Calls.{giveCall}
 use Rattle.prover.specs.Open.{openCall}
 use Rattle.prover.specs.Change.{cleared, toFullCall}
@@ -114,7 +115,7 @@ pub single-replies :
     ∷ says reply.taken
     ∷ says (reply.ends 2147483467 10)
     ∷ []
-unfolding each itemsBelow roundsFrom openingsAt step endsCall giveCall openCall closeCall cleared toFullCall wellFormed runFormed passFormed powers firstFrom inLimits sizeIn32 partsOf takes entering summedItem enteredItem plus image residue negMod addMod mulMod sum foldWith overwrite every hornerAt arrived topAt climbFrom evaluatedFrom climbed evaluated meetsAt summed settled sumsAfter stacksFit entered streamed paddingFrom paddingBelow left placed placedAll placedItem
+unfolding each itemsBelow roundsFrom openingsAt step endsCall giveCall openCall closeCall cleared toFullCall wellFormed runFormed passFormed powers firstFrom inLimits sizeIn32 partsOf takes takesIn entersIn summedItem enteredIn plus image residue negMod addMod mulMod sum foldWith overwrite every hornerAt arrived topAt climbFrom evaluatedFrom climbed evaluated meetsAt summed settled sumsAfter stacksFit entered streamed paddingFrom paddingBelow left placed placedAll placedIn
 single-replies = refl
 
 -- and with the change before the ends
@@ -128,7 +129,7 @@ pub single-changed :
     ∷ says reply.changed
     ∷ says (reply.ends 2147483467 10)
     ∷ []
-unfolding each itemsBelow roundsFrom openingsAt step endsCall giveCall openCall closeCall cleared toFullCall wellFormed runFormed passFormed powers firstFrom inLimits sizeIn32 partsOf takes entering summedItem enteredItem plus image residue negMod addMod mulMod sum foldWith overwrite every hornerAt arrived topAt climbFrom evaluatedFrom climbed evaluated meetsAt summed settled sumsAfter stacksFit entered streamed paddingFrom paddingBelow left placed placedAll placedItem
+unfolding each itemsBelow roundsFrom openingsAt step endsCall giveCall openCall closeCall cleared toFullCall wellFormed runFormed passFormed powers firstFrom inLimits sizeIn32 partsOf takes takesIn entersIn summedItem enteredIn plus image residue negMod addMod mulMod sum foldWith overwrite every hornerAt arrived topAt climbFrom evaluatedFrom climbed evaluated meetsAt summed settled sumsAfter stacksFit entered streamed paddingFrom paddingBelow left placed placedAll placedIn
 single-changed = refl
 
 -- its verifier's own list: the item, the close and the verdict; or the item and the file of 18 bytes

@@ -22,7 +22,8 @@ use Rattle.pass.specs.Formed.{passFormed}
 use Rattle.prover.specs.WellFormed.{runFormed, wellFormed}
 use Rattle.pass.specs.Values.{inNinety, valuesOf}
 use Rattle.pass.specs.Take.{summedItem}
-use Rattle.prover.specs.Take.{entering, enteredItem, takes, placedItem}
+use Rattle.pass.specs.Take.{entersIn, enteredIn, placedIn, takesIn}
+use Rattle.prover.specs.Take.{takes}
 use Rattle.prover.specs.Calls.{giveCall}
 use Rattle.prover.specs.Open.{openCall, openAtCall}
 use Rattle.prover.specs.Change.{cleared, toFullCall}
@@ -132,7 +133,7 @@ pub twisted-replies :
     ∷ says (reply.ends 231 45)
     ∷ (record { answer = answered reply.opening; values = inNinety 2 twistedOpening })
     ∷ [])
-unfolding each itemsBelow roundsFrom openingsAt step messageGiven messageCall endsCall giveCall openCall openAtCall closeCall challengedFull challengeCall cleared toFullCall openingGiven openingCall wellFormed runFormed passFormed powers firstFrom inLimits sizeIn32 partsOf takes entering weight summedItem enteredItem plus image residue negMod addMod mulMod sum foldWith overwrite foldSlice messageSlice valuesOf tripleValues every hornerAt arrived topAt climbFrom evaluatedFrom climbed evaluated meetsAt summed settled sumsAfter stacksFit entered streamed paddingFrom paddingBelow left placed placedAll placedItem
+unfolding each itemsBelow roundsFrom openingsAt step messageGiven messageCall endsCall giveCall openCall openAtCall closeCall challengedFull challengeCall cleared toFullCall openingGiven openingCall wellFormed runFormed passFormed powers firstFrom inLimits sizeIn32 partsOf takes takesIn entersIn weight summedItem enteredIn plus image residue negMod addMod mulMod sum foldWith overwrite foldSlice messageSlice valuesOf tripleValues every hornerAt arrived topAt climbFrom evaluatedFrom climbed evaluated meetsAt summed settled sumsAfter stacksFit entered streamed paddingFrom paddingBelow left placed placedAll placedIn
 twisted-replies = refl
 
 -- its verifier's own list: the items, the claim, two messages, the verdict and a check

@@ -29,6 +29,7 @@ use Rattle.pass.specs.Pass.{kernelOf}
 use Rattle.prover.specs.Records.{Out}
 use Rattle.prover.specs.Level.{levelOf, foldSize, padding}
 use Rattle.prover.specs.WellFormed.{runFormed}
+use Rattle.pass.specs.Take.{placedIn}
 use Rattle.prover.specs.Take.{entering, placedItem, takenItem, takes}
 use Rattle.prover.proofs.Outcomes.{takes-sum, takes-enter, takes-place}
 use Rattle.prover.specs.Change.{cleared, paddedBuffer}
@@ -96,7 +97,7 @@ module _ (p : ℕ) (r : Run) (s : Pass) (x : Item) (fs gs : List ℕ) (ok : runF
 
   in-change : (a b : ℕ) → Paired (kernelOf s)
       → placedItem p r s a b fs gs ≡ placedAt i (foldSize r) (padding r + s .taken) (placedOf (kernelOf s) fs gs) (pair a b)
-  unfolding placedItem
+  unfolding placedIn
   in-change a b pr =
       let few = run-facts p r ok .few in
       let level = run-level p r ok Change in

@@ -27,6 +27,7 @@ use Rattle.prover.specs.Level.{levelOf, padding}
 use Rattle.prover.specs.WellFormed.{runFormed}
 use Rattle.pass.specs.Open.{newPass, noPoints, pointsOf}
 use Rattle.prover.specs.Open.{paddedKernel, openKernel}
+use Rattle.pass.specs.Take.{enteredIn}
 use Rattle.prover.specs.Take.{entering, enteredItem}
 use Rattle.item.specs.declared.Given.{Given}
 use Rattle.item.specs.Item.{contributes}
@@ -68,7 +69,7 @@ module _ (p : ℕ) (r : Run) (b : ℕ) (other : waits next.Total (r .next) ≡ f
   pub after-kernel : (xs : List Given)
       → kernelOf (passAfter p r Asked b xs)
       ≡ streamOf p (r .challenges) (levelOf r Asked) (openedPass p r Asked b .points) (paddingKernel (padding r) (levelOf r Asked)) (pairsOf p r xs)
-  unfolding passAfter pairsOf streamOf enteredItem
+  unfolding passAfter pairsOf streamOf enteredIn
   after-kernel [] = opened-asked
   after-kernel (x ∷ xs) =
       let s : Pass = passAfter p r Asked b xs in

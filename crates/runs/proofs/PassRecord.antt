@@ -28,8 +28,8 @@ use Rattle.prover.specs.Records.{Out, out, answeredStep}
 use Rattle.prover.specs.Level.{levelOf, foldSize, padding}
 use Rattle.pass.specs.Open.{newPass, noPoints, pointsOf}
 use Rattle.prover.specs.Open.{paddedKernel, openKernel}
-use Rattle.pass.specs.Take.{oneMore, running, summedItem}
-use Rattle.prover.specs.Take.{entering, enteredItem, placedItem, takenItem, takes}
+use Rattle.pass.specs.Take.{oneMore, running, summedItem, moved, stackedIn, takesIn, placedIn, entersIn}
+use Rattle.prover.specs.Take.{handed, entering, enteredItem, placedItem, takenItem, takes}
 use Rattle.prover.proofs.Outcomes.{takes-sum, takes-enter, takes-place}
 use Rattle.item.specs.declared.Given.{Given}
 use Rattle.item.specs.Item.{contributes}
@@ -42,11 +42,11 @@ module _ (p : ℕ) (r : Run) (s : Pass) (y : Item) (f g : List ℕ) where
   stacked b = cond b (placedItem p r s (entering p r s y) (y .g) f g) (placedOf (enteredItem p r s (entering p r s y) (y .g)) f g)
 
   abbrev taking : Bool → Out
-  taking b = cond b (out (answeredStep r (summedItem p (r .start .plain) s y (entering p r s y)) answer.Taken) f g) (takenItem r s (stacked (isChange (s .kind))))
+  taking b = handed r (cond b (moved (summedItem p (r .start .plain) s y (entering p r s y)) f g) (stackedIn s (stacked (isChange (s .kind)))))
 
   -- what holds in a pass for the total and in any other
   either : {A : Type 0} (part : Out → A) (a : A) → part (taking true) ≡ a → part (taking false) ≡ a → part (takes p r s y f g) ≡ a
-  unfolding takes
+  unfolding takes takesIn
   either part a x y = by (waits next.Total (r .next))
     where
       by : (b : Bool) → part (taking b) ≡ a
@@ -96,18 +96,18 @@ module _ (p : ℕ) (r : Run) (s : Pass) (y : Item) (f g : List ℕ) where
 
     pub takes-change : isChange (s .kind) ≡ true
         → kernelOf (takes p r s y f g .pass) ≡ placedKernel p (r .challenges) (levelOf r (s .kind)) (kernelOf s) (entering p r s y) (y .g)
-    unfolding placedItem
+    unfolding placedIn
     takes-change k =
         ap (λ o. kernelOf (o .pass)) (takes-place p r s y f g h k)
         ∙ placed-kernel p (r .challenges) (levelOf r (s .kind)) (foldSize r) (padding r + s .taken) (placedOf (kernelOf s) f g) (entering p r s y) (y .g)
 
     pub takes-none : takes p r s y f g .pass .total ≡ s .total
-    unfolding takes
+    unfolding takes takesIn
     takes-none = ap (λ b. taking b .pass .total) h
 
 -- its pass does not depend on the buffers
 pub takes-buffers : (p : ℕ) (r : Run) (s : Pass) (y : Item) (f g f′ g′ : List ℕ) → takes p r s y f g .pass ≡ takes p r s y f′ g′ .pass
-unfolding takes placedItem
+unfolding takes takesIn placedIn
 takes-buffers p r s y f g f′ g′ = by (waits next.Total (r .next))
   where
     same : (b : Bool) → stacked p r s y f g b .kernel ≡ stacked p r s y f′ g′ b .kernel
@@ -155,5 +155,5 @@ module _ (p : ℕ) (r : Run) (k : Kind) (b : ℕ) where
   -- "from index L-1 down"
   pub after-entering : (xs : List Given) (x : Given)
       → entering p r (passAfter p r k b xs) (contributes p (r .start) x) ≡ entersAs p (r .start) (r .start .items - 1 - length xs) (contributes p (r .start) x .f)
-  unfolding entering
+  unfolding entersIn
   after-entering xs x = ap (λ t. entersAs p (r .start) (r .start .items - 1 - t) (contributes p (r .start) x .f)) (after-taken xs)
