@@ -10,7 +10,7 @@ pub mod query;
 
 use calls::Call;
 use item::Given;
-use prover::Pass;
+use pass::Pass;
 use prover::Run;
 use prover::Step;
 

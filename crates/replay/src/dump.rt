@@ -1,9 +1,9 @@
 // The dump of stacks and buffers: op 5.
 use super::print;
 use super::state::State;
+use pass::Pass;
 use phase::Kind;
 use phase::Next;
-use prover::Pass;
 use prover::Run;
 
 pub(crate) fn call(s: State, a: u32, f: &[u32; 4096], g: &[u32; 4096]) -> State {

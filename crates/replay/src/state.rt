@@ -2,7 +2,7 @@
 use super::print;
 use super::proof;
 use super::proof::Proof;
-use prover::Pass;
+use pass::Pass;
 use prover::Run;
 use records::Record;
 use records::lists;
