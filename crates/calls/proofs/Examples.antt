@@ -18,7 +18,8 @@ use Rattle.wire.specs.Number.{bytes, bits}
 use Rattle.wire.specs.Proof.{allBelow, numbers, proofHeader, writeProof, writtenIn}
 use Rattle.prover.specs.Calls.{giveCall}
 use Rattle.prover.specs.Challenge.{challengeCall, challengedFull}
-use Rattle.prover.specs.Change.{cleared, toFullCall}
+use Rattle.pass.specs.Lent.{cleared}
+use Rattle.prover.specs.Change.{toFullCall}
 use Rattle.prover.specs.Close.{closeCall}
 use Rattle.prover.specs.Full.{messageCall, messageGiven, endsCall}
 use Rattle.prover.specs.Open.{openCall, openAtCall, toSmallCall}
@@ -27,7 +28,7 @@ use Rattle.pass.specs.Take.{summedItem}
 use Rattle.pass.specs.Take.{entersIn, enteredIn, placedIn, takesIn}
 use Rattle.prover.specs.Take.{takes}
 use Rattle.pass.specs.Values.{valuesOf}
-use Rattle.pass.specs.Formed.{passFormed}
+use Rattle.pass.specs.Formed.{passFormed, turnFormed}
 use Rattle.prover.specs.WellFormed.{runFormed, wellFormed}
 use Rattle.prover.specs.Written.{writeCall}
 use Rattle.item.specs.Item.{partsOf}
@@ -44,7 +45,7 @@ use Rattle.calls.proofs.ExampleKept.{allTrue, all-sized, all-kept}
 
 module _ (f g : List ℕ) where
   pub small-run : TripList inSmall (freshWorld tripStart f g)
-  unfolding each allTrue lastOf callsOf answersOf refusalsOf table sumOf step messageCall giveCall openCall openAtCall closeCall challengeCall toFullCall writeCall wellFormed runFormed passFormed powers firstFrom inLimits sizeIn32 partsOf takes takesIn entersIn summedItem enteredIn plus image residue negMod addMod mulMod valuesOf tripleValues bytes bits allBelow numbers proofHeader writeProof writtenIn hornerAt arrived topAt climbFrom evaluatedFrom climbed evaluated meetsAt summed settled sumsAfter stacksFit entered streamed paddingFrom paddingBelow left placed placedAll placedIn
+  unfolding each allTrue lastOf callsOf answersOf refusalsOf table sumOf step messageCall giveCall openCall openAtCall closeCall challengeCall toFullCall writeCall wellFormed turnFormed passFormed powers firstFrom inLimits sizeIn32 partsOf takes takesIn entersIn summedItem enteredIn plus image residue negMod addMod mulMod valuesOf tripleValues bytes bits allBelow numbers proofHeader writeProof writtenIn hornerAt arrived topAt climbFrom evaluatedFrom climbed evaluated meetsAt summed settled sumsAfter stacksFit entered streamed paddingFrom paddingBelow left placed placedAll placedIn
   small-run =
       record {
         sized = all-sized P (freshWorld tripStart f g) (callsOf inSmall) refl;
@@ -55,7 +56,7 @@ module _ (f g : List ℕ) where
       }
 
   pub full-run : TripList inFull (freshWorld tripStart f g)
-  unfolding each allTrue lastOf callsOf answersOf refusalsOf every table sumOf step messageGiven messageCall endsCall giveCall openCall toSmallCall closeCall challengedFull challengeCall cleared toFullCall openingGiven openingCall writeCall wellFormed runFormed passFormed powers firstFrom inLimits sizeIn32 partsOf takes takesIn entersIn summedItem enteredIn plus image residue negMod addMod mulMod sum foldWith overwrite foldSlice messageSlice tripleValues bytes bits allBelow numbers proofHeader writeProof writtenIn hornerAt arrived topAt climbFrom evaluatedFrom climbed evaluated meetsAt summed settled sumsAfter stacksFit entered streamed paddingFrom paddingBelow left placed placedAll placedIn
+  unfolding each allTrue lastOf callsOf answersOf refusalsOf every table sumOf step messageGiven messageCall endsCall giveCall openCall toSmallCall closeCall challengedFull challengeCall cleared toFullCall openingGiven openingCall writeCall wellFormed turnFormed passFormed powers firstFrom inLimits sizeIn32 partsOf takes takesIn entersIn summedItem enteredIn plus image residue negMod addMod mulMod sum foldWith overwrite foldSlice messageSlice tripleValues bytes bits allBelow numbers proofHeader writeProof writtenIn hornerAt arrived topAt climbFrom evaluatedFrom climbed evaluated meetsAt summed settled sumsAfter stacksFit entered streamed paddingFrom paddingBelow left placed placedAll placedIn
   full-run =
       record {
         sized = all-sized P (freshWorld tripStart f g) (callsOf inFull) refl;
@@ -66,7 +67,7 @@ module _ (f g : List ℕ) where
       }
 
   pub changing-run : TripList changing (freshWorld tripStart f g)
-  unfolding each allTrue lastOf callsOf answersOf refusalsOf every table sumOf step messageGiven messageCall endsCall giveCall openCall openAtCall closeCall challengedFull challengeCall cleared toFullCall openingGiven openingCall writeCall wellFormed runFormed passFormed powers firstFrom inLimits sizeIn32 partsOf takes takesIn entersIn summedItem enteredIn plus image residue negMod addMod mulMod sum foldWith overwrite foldSlice messageSlice tripleValues bytes bits allBelow numbers proofHeader writeProof writtenIn hornerAt arrived topAt climbFrom evaluatedFrom climbed evaluated meetsAt summed settled sumsAfter stacksFit entered streamed paddingFrom paddingBelow left placed placedAll placedIn
+  unfolding each allTrue lastOf callsOf answersOf refusalsOf every table sumOf step messageGiven messageCall endsCall giveCall openCall openAtCall closeCall challengedFull challengeCall cleared toFullCall openingGiven openingCall writeCall wellFormed turnFormed passFormed powers firstFrom inLimits sizeIn32 partsOf takes takesIn entersIn summedItem enteredIn plus image residue negMod addMod mulMod sum foldWith overwrite foldSlice messageSlice tripleValues bytes bits allBelow numbers proofHeader writeProof writtenIn hornerAt arrived topAt climbFrom evaluatedFrom climbed evaluated meetsAt summed settled sumsAfter stacksFit entered streamed paddingFrom paddingBelow left placed placedAll placedIn
   changing-run =
       record {
         sized = all-sized P (freshWorld tripStart f g) (callsOf changing) refl;

@@ -103,7 +103,7 @@ module _ (p : ℕ) (a : State) {past : Notes} (h : Fits p a past) where
   few = omega (arith, h .run .rounds, rounds-at-most (a .start .items) (h .run .most))
 
   pub run-formed : runFormed p (runOf a past) ≡ true
-  unfolding runFormed
+  unfolding turnFormed
   run-formed =
       rw (
         le-ltb (a .start .items) 1 (h .run .some),

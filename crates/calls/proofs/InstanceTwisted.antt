@@ -18,7 +18,7 @@ use Rattle.vector.specs.Slice.{overwrite, foldSlice, messageSlice, fifteen, eve
 use Rattle.kernel.specs.Kernel.{hornerAt, arrived, topAt, climbFrom, evaluatedFrom, climbed, evaluated, meetsAt, summed, settled, sumsAfter, stacksFit, entered, streamed, paddingFrom, paddingBelow}
 use Rattle.kernel.specs.Change.{left, placed, placedAll}
 use Rattle.prover.specs.Reply as reply
-use Rattle.pass.specs.Formed.{passFormed}
+use Rattle.pass.specs.Formed.{passFormed, turnFormed}
 use Rattle.prover.specs.WellFormed.{runFormed, wellFormed}
 use Rattle.pass.specs.Values.{inNinety, valuesOf}
 use Rattle.pass.specs.Take.{summedItem}
@@ -26,7 +26,8 @@ use Rattle.pass.specs.Take.{entersIn, enteredIn, placedIn, takesIn}
 use Rattle.prover.specs.Take.{takes}
 use Rattle.prover.specs.Calls.{giveCall}
 use Rattle.prover.specs.Open.{openCall, openAtCall}
-use Rattle.prover.specs.Change.{cleared, toFullCall}
+use Rattle.pass.specs.Lent.{cleared}
+use Rattle.prover.specs.Change.{toFullCall}
 use Rattle.prover.specs.Close.{closeCall}
 use Rattle.prover.specs.Full.{messageGiven, messageCall, endsCall}
 use Rattle.prover.specs.Challenge.{challengedFull, challengeCall}
@@ -133,7 +134,7 @@ pub twisted-replies :
     ∷ says (reply.ends 231 45)
     ∷ (record { answer = answered reply.opening; values = inNinety 2 twistedOpening })
     ∷ [])
-unfolding each itemsBelow roundsFrom openingsAt step messageGiven messageCall endsCall giveCall openCall openAtCall closeCall challengedFull challengeCall cleared toFullCall openingGiven openingCall wellFormed runFormed passFormed powers firstFrom inLimits sizeIn32 partsOf takes takesIn entersIn weight summedItem enteredIn plus image residue negMod addMod mulMod sum foldWith overwrite foldSlice messageSlice valuesOf tripleValues every hornerAt arrived topAt climbFrom evaluatedFrom climbed evaluated meetsAt summed settled sumsAfter stacksFit entered streamed paddingFrom paddingBelow left placed placedAll placedIn
+unfolding each itemsBelow roundsFrom openingsAt step messageGiven messageCall endsCall giveCall openCall openAtCall closeCall challengedFull challengeCall cleared toFullCall openingGiven openingCall wellFormed turnFormed passFormed powers firstFrom inLimits sizeIn32 partsOf takes takesIn entersIn weight summedItem enteredIn plus image residue negMod addMod mulMod sum foldWith overwrite foldSlice messageSlice valuesOf tripleValues every hornerAt arrived topAt climbFrom evaluatedFrom climbed evaluated meetsAt summed settled sumsAfter stacksFit entered streamed paddingFrom paddingBelow left placed placedAll placedIn
 twisted-replies = refl
 
 -- its verifier's own list: the items, the claim, two messages, the verdict and a check

@@ -4,4 +4,5 @@ pub mod Open
 pub mod Take
 pub mod Blocks
 pub mod Values
+pub mod Lent
 pub mod Formed

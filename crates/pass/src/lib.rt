@@ -3,6 +3,7 @@ pub mod blocks;
 pub mod formed;
 pub mod items;
 mod kernels;
+pub mod lent;
 pub mod open;
 pub mod values;
 

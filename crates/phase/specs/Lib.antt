@@ -1,3 +1,4 @@
 pub mod Cases
 pub mod Level
 pub mod Order
+pub mod Turn

@@ -1,6 +1,6 @@
 // Which mode, which next, which kind.
 ghost use mathlib.Core.Path.{_≡_};
-ghost use Rattle.phase.specs.Cases.{isSmall, isFull, isChange, rank, waits};
+ghost use Rattle.phase.specs.Cases.{isSmall, isFull, isOpen, isChange, rank, waits};
 use super::Kind;
 use super::Mode;
 use super::Next;
@@ -20,6 +20,16 @@ pub fn is_full(mode: Mode) -> bool
     match mode {
         Mode::Small => false,
         Mode::Full => true,
+    }
+}
+
+pub fn is_open(kind: Kind) -> bool
+    ensures { λ r. ⌜ r ≡ isOpen kind ⌝ }
+{
+    match kind {
+        Kind::Shut => false,
+        Kind::Asked => true,
+        Kind::Change => true,
     }
 }
 

@@ -3,6 +3,7 @@ pub mod cases;
 pub mod folds;
 pub mod levels;
 pub mod order;
+pub mod turns;
 
 pub enum Mode {
     // Streaming: each answer takes a pass.

@@ -14,7 +14,7 @@ use Rattle.phase.proofs.Facts.{round-at-most}
 use Rattle.prover.specs.declared.Run.{Run}
 use Rattle.pass.specs.declared.Pass.{Pass}
 use Rattle.prover.specs.Level.{padding}
-use Rattle.pass.specs.Formed.{passFormed}
+use Rattle.pass.specs.Formed.{passFormed, turnFormed}
 use Rattle.prover.specs.WellFormed.{runFormed, wellFormed}
 
 -- a test that must hold, and one that must not
@@ -39,7 +39,7 @@ pub record Formed (r : Run) (s : Pass) : Type 0 where
   pub room : s .fcount ≤ 15
 
 pub formed : (p : ℕ) (r : Run) (s : Pass) → wellFormed p r s ≡ true → Formed r s
-unfolding wellFormed runFormed passFormed
+unfolding wellFormed turnFormed passFormed
 formed p r s e =
     let a = holds (runFormed p r) (passFormed (r .start .items) (r .mode) (r .next) s) e in
     let b = fails (ltb (r .start .items) 1) _ (a .0) in

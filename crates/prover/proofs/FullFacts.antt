@@ -1,7 +1,7 @@
 -- The tests of a well-formed record one by one, and what is next after a full-mode call or a challenge.
 use mathlib.Core.Path.{_≡_, sym, ap, _∙_}
 use mathlib.Core.List.{List}
-use mathlib.Core.Bool.{true, false, cond}
+use mathlib.Core.Bool.{Bool, true, false, cond}
 use Prim.Native.Nat.{ℕ, suc, _*_, _/_, _≤_, _<_}
 use native.Mathlib.Omega.{arith}
 use lib.Dec.{eqb, leb, ltb}
@@ -21,13 +21,17 @@ use Rattle.phase.proofs.Facts.{waits-for}
 use Rattle.prover.specs.declared.Run.{Run}
 use Rattle.pass.specs.declared.Pass.{Pass}
 use Rattle.prover.specs.Level.{levelOf, foldSize}
-use Rattle.pass.specs.Formed.{passFormed}
+use Rattle.pass.specs.Formed.{passFormed, turnFormed}
 use Rattle.prover.specs.WellFormed.{runFormed, wellFormed}
 use Rattle.prover.specs.Calls.{bothLong}
-use Rattle.prover.specs.Full.{fullFormed, messageTurn, endsTurn, openingTurn}
+use Rattle.prover.specs.Full.{messageTurn, endsTurn, openingTurn}
 use Rattle.prover.specs.Challenge.{challengeTurn}
 use Rattle.pass.proofs.Facts.{size-32}
 use Rattle.prover.proofs.Facts.{holds, fails, Formed, formed}
+
+-- a record that a call returned, of a run in full mode
+abbrev pub fullFormed : ℕ → Run → Pass → Bool
+fullFormed p r s = cond (wellFormed p r s) (isFull (r .mode)) false
 
 -- the tests, but those of the counts and sums of the pass
 pub record Tests (p : ℕ) (r : Run) (s : Pass) : Type 0 where
@@ -40,7 +44,7 @@ pub record Tests (p : ℕ) (r : Run) (s : Pass) : Type 0 where
   pub rest : cond (ltb (r .start .items) (s .taken)) false (cond (eqb (s .fcount) (s .gcount)) (cond (ltb 15 (s .fcount)) false (leb (natAbs (s .total)) (s .taken * maxWorth))) false) ≡ true
 
 pub tests : (p : ℕ) (r : Run) (s : Pass) → wellFormed p r s ≡ true → Tests p r s
-unfolding wellFormed runFormed passFormed
+unfolding wellFormed turnFormed passFormed
 tests p r s e =
     let a = holds (runFormed p r) (passFormed (r .start .items) (r .mode) (r .next) s) e in
     let b = fails (ltb (r .start .items) 1) _ (a .0) in
@@ -51,7 +55,7 @@ tests p r s e =
     record { some = b .0; most = c .0; rounds = d .0; fits = f .0; total = f .1; kind = k .0; rest = k .1 }
 
 pub tested : (p : ℕ) (r : Run) (s : Pass) → Tests p r s → wellFormed p r s ≡ true
-unfolding wellFormed runFormed passFormed
+unfolding wellFormed turnFormed passFormed
 tested p r s t = rw (t .some, t .most, t .rounds, t .fits, t .total, t .kind) (t .rest)
 
 -- what a call whose turn it is knows of the run

@@ -31,11 +31,11 @@ use Rattle.prover.specs.Records.{Out, out, answeredStep}
 use Rattle.prover.specs.Level.{levelOf, foldSize}
 use Rattle.prover.specs.WellFormed.{wellFormed}
 use Rattle.prover.specs.Calls.{bothLong}
-use Rattle.prover.specs.Full.{fullFormed, messageTurn, endsTurn, openingTurn, bothReduced, lentFolds, keptMessage, messageGiven, messageCall, keptEnds, endsCall}
+use Rattle.prover.specs.Full.{messageTurn, endsTurn, openingTurn, bothReduced, lentFolds, keptMessage, messageGiven, messageCall, keptEnds, endsCall}
 use Rattle.prover.specs.Challenge.{challengeTurn, keptChallenge, challengedFull, challenged, challengeCall}
 use Rattle.pass.proofs.Facts.{size-32}
 use Rattle.prover.proofs.Facts.{holds}
-use Rattle.prover.proofs.FullFacts.{tested, message-round, challenge-round, at-ends}
+use Rattle.prover.proofs.FullFacts.{fullFormed, tested, message-round, challenge-round, at-ends}
 
 -- the buffers hold the current fold of f and of g, under the challenges c
 pub record Lent (p : ℕ) (c : ℕ → ℕ) (f g : Vector) (r : Run) (fs gs : List ℕ) : Type 0 where

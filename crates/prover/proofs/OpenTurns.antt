@@ -14,7 +14,7 @@ use Rattle.phase.proofs.Facts.{waits-for}
 use Rattle.prover.specs.declared.Run.{Run}
 use Rattle.pass.specs.declared.Pass.{Pass}
 use Rattle.prover.specs.WellFormed.{wellFormed}
-use Rattle.prover.specs.Open.{smallFormed, mayOpen, mayOpenAt}
+use Rattle.prover.specs.Open.{mayOpen, mayOpenAt}
 use Rattle.prover.proofs.Facts.{holds}
 use Rattle.prover.proofs.Decides.{Decides}
 
@@ -57,6 +57,10 @@ pass-taken n ends = refl
 both-true : (a b : Bool) → a ≡ true → b ≡ true → cond a b false ≡ true
 both-true true b h e = e
 both-true false b h e = absurd (true≢false (sym h))
+
+-- a record that a call returned, of a run in small mode
+abbrev smallFormed : ℕ → Run → Pass → Bool
+smallFormed p r s = cond (wellFormed p r s) (isSmall (r .mode)) false
 
 formed-small : (p : ℕ) (r : Run) (s : Pass) → wellFormed p r s ≡ true → r .mode ≡ Small → smallFormed p r s ≡ true
 formed-small p r s formed small = both-true (wellFormed p r s) (isSmall (r .mode)) formed (ap isSmall small)

@@ -20,7 +20,7 @@ use Rattle.vector.proofs.Rounds.{rounds-power}
 use Rattle.vector.proofs.Every.{all-nonzero-iff}
 use Rattle.prover.specs.declared.Run.{Run}
 use Rattle.prover.specs.Records.{Out}
-use Rattle.pass.specs.Formed.{passFormed}
+use Rattle.pass.specs.Formed.{passFormed, turnFormed}
 use Rattle.prover.specs.WellFormed.{runFormed, wellFormed}
 use Rattle.item.specs.declared.Start.{Start}
 use Rattle.item.specs.Start.{countFits, listFits, plainStart, twistedStart, ruleStart}
@@ -97,7 +97,7 @@ rule-starts p rounds v h e = rule-answered p rounds v (le-leb rounds maxRounds h
 -- A fresh run with a closed pass is well formed.
 pub fresh-formed : (p : ℕ) (start : Start) → InCount (start .items) → start .rounds ≡ roundsOf (start .items)
     → wellFormed p (freshRun start) zeroPass ≡ true
-unfolding wellFormed runFormed passFormed inLimits
+unfolding wellFormed turnFormed passFormed inLimits
 fresh-formed p start h e =
     simp (
       le-ltb (start .items) 1 (h .0),

@@ -1,8 +1,8 @@
 -- Each call of a run: its checks in document 01's order (turn, numbers, buffers), then what it does.
 use Prim.Native.Nat.{ℕ}
-use mathlib.Core.Bool.{Bool, true, false, cond}
+use mathlib.Core.Bool.{Bool}
 use mathlib.Core.List.{List}
-use lib.Dec.{leb, ltb}
+use lib.Dec.{ltb}
 use lib.ListN.{length}
 use Rattle.refusal.specs.Number as number
 use Rattle.refusal.specs.Outcome.{Outcome, answered, refused, refusedAt, require}
@@ -11,18 +11,18 @@ use Rattle.item.specs.declared.Item.{Item}
 use Rattle.item.specs.declared.Parts.{Parts}
 use Rattle.item.specs.declared.Parts.the-variants as parts
 use Rattle.item.specs.Item.{partsOf}
-use Rattle.phase.specs.Cases.{isOpen, isChange}
+use Rattle.phase.specs.Turn.{itemTurn}
+use Rattle.pass.specs.Lent.{longIn, placesIn}
 use Rattle.prover.specs.declared.Run.{Run}
 use Rattle.pass.specs.declared.Pass.{Pass}
 use Rattle.prover.specs.declared.Step.{Step}
 use Rattle.prover.specs.Records.{Out, refusedStep, refusedAtStep}
-use Rattle.prover.specs.Level.{foldSize}
+use Rattle.prover.specs.Level.{stageOf}
 use Rattle.prover.specs.WellFormed.{wellFormed}
 use Rattle.prover.specs.Take.{nextIndex, takes}
 
--- both buffers are as long as the current fold
 abbrev pub bothLong : Run → ℕ → ℕ → Bool
-bothLong r flen glen = cond (leb (foldSize r) flen) (leb (foldSize r) glen) false
+bothLong r flen glen = longIn (stageOf r) flen glen
 
 -- what an item contributes, or its refusal
 abbrev pub withItem : {A : Type 0} → Outcome Item → (Item → Outcome A) → Outcome A
@@ -38,11 +38,10 @@ refusedParts r s (parts.RefusedAt k i) = refusedAtStep r s k i
 
 -- a record that a call returned, with a pass open
 abbrev pub passOpen : ℕ → Run → Pass → Bool
-passOpen p r s = cond (wellFormed p r s) (isOpen (s .kind)) false
+passOpen p r s = itemTurn (wellFormed p r s) (s .kind)
 
--- in a change pass the buffers hold the fold; elsewhere they do not matter
 abbrev pub placesThere : Run → Pass → ℕ → ℕ → Bool
-placesThere r s flen glen = cond (isChange (s .kind)) (bothLong r flen glen) true
+placesThere r s flen glen = placesIn (stageOf r) (s .kind) flen glen
 
 abbrev pub itemPlaces : ℕ → Run → Pass → List ℕ → List ℕ → Item → Outcome Out
 itemPlaces p r s f g x = require (placesThere r s (length f) (length g)) number.buffer (answered (takes p r s x f g))

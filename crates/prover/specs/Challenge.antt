@@ -1,16 +1,15 @@
 -- A challenge, in either mode: document 01, "A run".
 use Prim.Native.Nat.{ℕ, _+_, _/_}
-use mathlib.Core.Bool.{Bool, false, cond}
+use mathlib.Core.Bool.{Bool}
 use mathlib.Core.List.{List}
 use lib.ListN.{set}
 use Rattle.refusal.specs.Number as number
 use Rattle.refusal.specs.Outcome.{Outcome, answered, require}
 use Rattle.field.specs.Number.{isNonzero}
 use Rattle.vector.specs.Slice.{foldSlice}
-use Rattle.phase.specs.declared.Next.the-variants as next
 use Rattle.phase.specs.declared.Mode.{Mode}
 use Rattle.phase.specs.declared.Mode.the-variants.{Small, Full}
-use Rattle.phase.specs.Cases.{waits}
+use Rattle.phase.specs.Turn as turn
 use Rattle.phase.specs.Order.{roundOrEnds}
 use Rattle.prover.specs.declared.Run.{Run}
 use Rattle.pass.specs.declared.Pass.{Pass}
@@ -22,7 +21,7 @@ use Rattle.prover.specs.WellFormed.{wellFormed}
 use Rattle.prover.specs.Full.{lentFolds}
 
 abbrev pub challengeTurn : ℕ → Run → Pass → Bool
-challengeTurn p r s = cond (wellFormed p r s) (waits next.Challenge (r .next)) false
+challengeTurn p r s = turn.challengeTurn (wellFormed p r s) (r .next)
 
 -- the run keeps the challenge of its round; the next message is next, or the ends after the last round
 abbrev pub keptChallenge : Run → ℕ → Run

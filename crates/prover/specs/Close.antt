@@ -1,19 +1,17 @@
 -- The close of a pass: in small mode each answer comes with it.
 use Prim.Native.Nat.{ℕ, _+_, _*_}
-use mathlib.Core.Bool.{Bool, true, cond}
+use mathlib.Core.Bool.{Bool, cond}
 use mathlib.Core.List.{List}
 use lib.Dec.{eqb}
 use lib.IntN.{ℤ}
 use lib.ListN.{getD, set}
 use Rattle.refusal.specs.Number as number
 use Rattle.refusal.specs.Outcome.{Outcome, answered, refused, refusedAt, require}
-use Rattle.field.specs.Total.{inLimits}
 use Rattle.phase.specs.declared.Mode.the-variants.{Full}
 use Rattle.phase.specs.declared.Next.{Next}
 use Rattle.phase.specs.declared.Next.the-variants.{Total, Message, Challenge, Ends, Openings}
 use Rattle.phase.specs.declared.Kind.{Kind}
 use Rattle.phase.specs.declared.Kind.the-variants.{Shut, Asked, Change}
-use Rattle.phase.specs.Cases.{waits}
 use Rattle.phase.specs.Order.{roundOrEnds}
 use Rattle.prover.specs.declared.Run.{Run}
 use Rattle.pass.specs.declared.Pass.{Pass}
@@ -22,6 +20,7 @@ use Rattle.prover.specs.declared.Answer.the-variants as answer
 use Rattle.prover.specs.Records.{answeredStep, refusedStep, refusedAtStep}
 use Rattle.prover.specs.Calls.{passOpen}
 use Rattle.pass.specs.Open.{emptyPass}
+use Rattle.pass.specs.Formed.{totalWithin}
 use Rattle.pass.specs.Values.{valuesOf}
 
 -- the run with another next, messages, total and end values
@@ -84,7 +83,7 @@ changedStep r = answeredStep (inFull r) shutPass answer.Changed
 
 -- 7: a plain total within its limits
 abbrev pub totalFits : ℕ → Run → Pass → Bool
-totalFits p r s = cond (waits Total (r .next)) (cond (r .start .plain) (inLimits p (s .total)) true) true
+totalFits p r s = totalWithin p (r .next) (r .start .plain) (s .total)
 
 -- the three numbers of message i, from place 3i on
 abbrev pub messagesWith : List ℕ → ℕ → ℕ → ℕ → ℕ → List ℕ

@@ -1,47 +1,37 @@
 -- The calls of full mode: "In full mode both vectors lie in lent 32-bit buffers and are folded there".
 use Prim.Native.Nat.{ℕ, _/_}
-use mathlib.Core.Bool.{Bool, false, cond}
+use mathlib.Core.Bool.{Bool}
 use mathlib.Core.List.{List}
 use lib.ListN.{length}
 use Rattle.refusal.specs.Number as number
 use Rattle.refusal.specs.Outcome.{Outcome, answered, require}
 use Rattle.vector.specs.Vector.{at}
 use Rattle.vector.specs.Message.{Message}
-use Rattle.vector.specs.Slice.{messageSlice, allReduced}
-use Rattle.phase.specs.declared.Next.{Next}
+use Rattle.vector.specs.Slice.{messageSlice}
 use Rattle.phase.specs.declared.Next.the-variants as next
-use Rattle.phase.specs.Cases.{isFull, waits}
-use Rattle.phase.specs.Order.{openingsAt}
+use Rattle.phase.specs.Turn as turn
+use Rattle.pass.specs.Lent.{reducedIn}
 use Rattle.prover.specs.declared.Run.{Run}
 use Rattle.pass.specs.declared.Pass.{Pass}
 use Rattle.prover.specs.declared.Answer.the-variants as answer
 use Rattle.prover.specs.Records.{Out, out, answeredStep}
-use Rattle.prover.specs.Level.{foldSize}
+use Rattle.prover.specs.Level.{stageOf, foldSize}
 use Rattle.prover.specs.WellFormed.{wellFormed}
 use Rattle.prover.specs.Calls.{bothLong}
 use Rattle.prover.specs.Close.{withMessage, withEnds}
 
--- a record that a call returned, of a run in full mode
-abbrev pub fullFormed : ℕ → Run → Pass → Bool
-fullFormed p r s = cond (wellFormed p r s) (isFull (r .mode)) false
-
 -- whose turn it is
-abbrev pub fullTurn : ℕ → Run → Pass → Next → Bool
-fullTurn p r s wanted = cond (fullFormed p r s) (waits wanted (r .next)) false
-
 abbrev pub messageTurn : ℕ → Run → Pass → Bool
-messageTurn p r s = fullTurn p r s next.Message
+messageTurn p r s = turn.fullTurn (wellFormed p r s) (r .mode) next.Message (r .next)
 
 abbrev pub endsTurn : ℕ → Run → Pass → Bool
-endsTurn p r s = fullTurn p r s next.Ends
+endsTurn p r s = turn.fullTurn (wellFormed p r s) (r .mode) next.Ends (r .next)
 
--- "openings .. with n = 0" are refused
 abbrev pub openingTurn : ℕ → Run → Pass → Bool
-openingTurn p r s = cond (fullFormed p r s) (openingsAt (r .next) (r .start .rounds)) false
+openingTurn p r s = turn.openingTurn (wellFormed p r s) (r .mode) (r .next) (r .start .rounds)
 
--- "in the places a full-mode call reads, a number P or more" is refused
 abbrev pub bothReduced : ℕ → Run → List ℕ → List ℕ → Bool
-bothReduced p r f g = cond (allReduced p (foldSize r) f) (allReduced p (foldSize r) g) false
+bothReduced p r f g = reducedIn p (stageOf r) f g
 
 -- "A full-mode call reads as many first places as the current fold is long": they are there (9) and are field numbers (16)
 abbrev pub lentFolds : ℕ → Run → List ℕ → List ℕ → Outcome Out → Outcome Out

@@ -1,6 +1,6 @@
 -- The calls that open a pass of small mode, and the return to small mode, which is refused.
 use Prim.Native.Nat.{ℕ}
-use mathlib.Core.Bool.{Bool, false, cond}
+use mathlib.Core.Bool.{Bool}
 use mathlib.Core.List.{[]}
 use Rattle.refusal.specs.Number as number
 use Rattle.refusal.specs.Outcome.{Outcome, answered, refused, require}
@@ -8,8 +8,7 @@ use Rattle.field.specs.Number.{isNonzero}
 use Rattle.kernel.specs.declared.Kernel.{Kernel}
 use Rattle.kernel.specs.declared.Points.{Points}
 use Rattle.phase.specs.declared.Kind.the-variants.{Asked}
-use Rattle.phase.specs.Cases.{isSmall}
-use Rattle.phase.specs.Order.{openNext, openingsAt}
+use Rattle.phase.specs.Turn.{passTurn, pointTurn}
 use Rattle.pass.specs.Open.{noPoints, pointsOf, newPass, paddedIn, openIn}
 use Rattle.prover.specs.declared.Run.{Run}
 use Rattle.pass.specs.declared.Pass.{Pass}
@@ -18,17 +17,12 @@ use Rattle.prover.specs.Records.{Out, out, answeredStep}
 use Rattle.prover.specs.Level.{stageOf}
 use Rattle.prover.specs.WellFormed.{wellFormed}
 
--- a record that a call returned, of a run in small mode
-abbrev pub smallFormed : ℕ → Run → Pass → Bool
-smallFormed p r s = cond (wellFormed p r s) (isSmall (r .mode)) false
-
--- "In small mode each answer needs a pass": the run is small, and a pass is next
+-- whose turn it is
 abbrev pub mayOpen : ℕ → Run → Pass → Bool
-mayOpen p r s = cond (smallFormed p r s) (openNext (r .next)) false
+mayOpen p r s = passTurn (wellFormed p r s) (r .mode) (r .next)
 
--- the run is small, the openings are next and there are rounds: "openings .. with n = 0" are refused
 abbrev pub mayOpenAt : ℕ → Run → Pass → Bool
-mayOpenAt p r s = cond (smallFormed p r s) (openingsAt (r .next) (r .start .rounds)) false
+mayOpenAt p r s = pointTurn (wellFormed p r s) (r .mode) (r .next) (r .start .rounds)
 
 abbrev pub paddedKernel : Run → Kernel
 paddedKernel r = paddedIn (stageOf r)

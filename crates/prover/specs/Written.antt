@@ -1,12 +1,11 @@
 -- The proof file of a plain run: "It serves plain runs only."
 use Prim.Native.Nat.{ℕ}
-use mathlib.Core.Bool.{Bool, false, cond}
+use mathlib.Core.Bool.{Bool}
 use mathlib.Core.List.{List}
 use Rattle.refusal.specs.Number as number
 use Rattle.refusal.specs.Outcome.{Outcome, answered, refused, refusedAt, require}
 use Rattle.wire.specs.Proof.{proofFile, proofValues, writeProof}
-use Rattle.phase.specs.declared.Next.the-variants as next
-use Rattle.phase.specs.Cases.{waits}
+use Rattle.phase.specs.Turn.{proofTurn}
 use Rattle.prover.specs.declared.Run.{Run}
 use Rattle.pass.specs.declared.Pass.{Pass}
 use Rattle.prover.specs.declared.Step.{Step}
@@ -16,7 +15,7 @@ use Rattle.prover.specs.WellFormed.{wellFormed}
 
 -- 10: "a proof file written .. for a twisted run", or before the ends were given
 abbrev pub mayWrite : ℕ → Run → Pass → Bool
-mayWrite p r s = cond (wellFormed p r s) (cond (r .start .plain) (waits next.Openings (r .next)) false) false
+mayWrite p r s = proofTurn (wellFormed p r s) (r .start .plain) (r .next)
 
 -- then what the writer of the file answers; of a run that calls made it refuses only a short buffer (9)
 unfoldable pub writeCall : ℕ → Run → Pass → List ℕ → Outcome ℕ

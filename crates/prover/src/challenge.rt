@@ -3,20 +3,24 @@ ghost use mathlib.Core.Path.{_≡_};
 ghost use Prim.Native.Nat.{_<_};
 ghost use Rattle.item.specs.Start.{modulusOf};
 ghost use Rattle.prover.specs.Records.{out, leaves};
+ghost use Rattle.refusal.specs.Outcome.{answered};
+ghost use Rattle.prover.specs.Full.{lentFolds};
 ghost use Rattle.prover.specs.Challenge.{keptChallenge, challengedSmall, challengedFull, challengeCall};
 use super::Answer;
 use super::Run;
 use super::Step;
 use super::answers::answered;
 use super::answers::refuse;
-use super::checks;
-use super::full_checks;
+use super::formed::well_formed;
+use super::stage::stage_of;
 use field::Checked;
 use field::Field;
 use pass::Pass;
+use pass::lent;
 use phase::cases;
 use phase::folds;
 use phase::order;
+use phase::turns;
 use refusal::Check;
 
 fn keep_challenge(run: Run, c: u32) -> Run
@@ -48,8 +52,15 @@ fn challenge_small(run: Run, pass: Pass, c: u32) -> Step
 // A challenge in full mode: "writes as many as the new fold is long; all other places stay".
 fn challenge_full(p: u32, run: Run, pass: Pass, c: u32, f: &mut [u32], g: &mut [u32]) -> Step
     requires { ⌜ run .round < 15 ⌝ }
-    ensures { λ r. ⌜ out r (now (f .exit)) (now (g .exit)) ≡ challengedFull p run pass c (now (f .entry)) (now (g .entry)) ⌝ }
+    ensures { λ r. ⌜ out r (now (f .exit)) (now (g .exit)) ≡ leaves run pass (now (f .entry)) (now (g .entry)) (lentFolds p run (now (f .entry)) (now (g .entry)) (answered (challengedFull p run pass c (now (f .entry)) (now (g .entry))))) ⌝ }
 {
+    let stage = stage_of(run);
+    let Check::Passed = lent::both_long(stage, f.len(), g.len()) else {
+        return refuse(run, pass, refusal::BUFFER);
+    };
+    let Check::Passed = lent::both_reduced(p, stage, f, g) else {
+        return refuse(run, pass, refusal::VECTOR);
+    };
     let start = run.start;
     let next = run.next;
     folds::fold(p, c, start.rounds, run.round, next, f);
@@ -63,7 +74,8 @@ impl Run {
         ensures { λ r. ⌜ out r (now (f .exit)) (now (g .exit)) ≡ leaves self pass (now (f .entry)) (now (g .entry)) (challengeCall (modulusOf (self .start)) self pass c (now (f .entry)) (now (g .entry))) ⌝ }
     {
         let p = item::modulus_of(self.start);
-        let Check::Passed = full_checks::challenge_next(p, self, pass) else {
+        let next = self.next;
+        let Check::Passed = turns::challenge(well_formed(p, self, pass), next) else {
             return refuse(self, pass, refusal::ORDER);
         };
         let Checked::Number(number) = Field::nonzero_in(p, c) else {
@@ -74,12 +86,6 @@ impl Run {
         if cases::is_small(mode) {
             return challenge_small(self, pass, x);
         }
-        let Check::Passed = checks::both_long(self, f.len(), g.len()) else {
-            return refuse(self, pass, refusal::BUFFER);
-        };
-        let Check::Passed = full_checks::both_reduced(p, self, f, g) else {
-            return refuse(self, pass, refusal::VECTOR);
-        };
         challenge_full(p, self, pass, x, f, g)
     }
 }

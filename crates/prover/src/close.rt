@@ -3,42 +3,26 @@ ghost use mathlib.Core.Path.{_≡_};
 ghost use Prim.Native.Nat.{_≤_, _<_};
 ghost use mathlib.Core.Bool.{true};
 ghost use mathlib.Core.List.{[]};
-ghost use Rattle.refusal.specs.Check.{passed};
 ghost use Rattle.item.specs.Start.{modulusOf};
 ghost use Rattle.phase.specs.Order.{roundFits};
 ghost use Rattle.prover.specs.Records.{out};
-ghost use Rattle.prover.specs.Close.{totalFits, totalStep, messageStep, endsStep, openingStep, changedStep, finished, closing, closeCall, leavesStep, goneTo, withMessage, withEnds, inFull};
+ghost use Rattle.prover.specs.Close.{totalStep, messageStep, endsStep, openingStep, changedStep, finished, closing, closeCall, leavesStep, goneTo, withMessage, withEnds, inFull};
 use super::Answer;
 use super::Run;
 use super::Step;
 use super::answers::answered;
 use super::answers::refuse;
-use super::checks;
+use super::formed::well_formed;
 use pass::Pass;
+use pass::formed::total_fits;
 use pass::open::empty_pass;
 use pass::values;
 use phase::Kind;
 use phase::Mode;
 use phase::Next;
-use phase::cases;
 use phase::order;
+use phase::turns;
 use refusal::Check;
-use refusal::pass_if;
-
-// 7: a plain total within its limits.
-fn total_fits(p: u32, run: Run, pass: Pass) -> Check
-    ensures { λ r. ⌜ passed r ≡ totalFits p run pass ⌝ }
-{
-    let next = run.next;
-    if cases::waits(Next::Total, next) {} else {
-        return Check::Passed;
-    }
-    let start = run.start;
-    if start.plain {} else {
-        return Check::Passed;
-    }
-    pass_if(field::total::within(p, pass.total))
-}
 
 pub fn gone_to(run: Run, next: Next) -> Run
     ensures { λ r. ⌜ r ≡ goneTo run next ⌝ }
@@ -175,14 +159,16 @@ impl Run {
         ensures { λ r. ⌜ out r [] [] ≡ out (leavesStep self pass (closeCall (modulusOf (self .start)) self pass)) [] [] ⌝ }
     {
         let start = self.start;
+        let next = self.next;
         let p = item::modulus_of(start);
-        let Check::Passed = checks::pass_open(p, self, pass) else {
+        let kind = pass.kind;
+        let Check::Passed = turns::item(well_formed(p, self, pass), kind) else {
             return refuse(self, pass, refusal::ORDER);
         };
         let Check::Passed = order::all_taken(pass.taken, start.items) else {
             return refuse(self, pass, refusal::ITEMS);
         };
-        let Check::Passed = total_fits(p, self, pass) else {
+        let Check::Passed = total_fits(p, next, start.plain, pass.total) else {
             return refuse(self, pass, refusal::TOTAL);
         };
         close_kind(self, pass)

@@ -11,13 +11,15 @@ use super::Run;
 use super::Step;
 use super::answers::answered;
 use super::answers::refuse;
-use super::checks;
 use super::close::keep_ends;
 use super::close::keep_message;
-use super::full_checks;
+use super::formed::well_formed;
+use super::stage::stage_of;
 use pass::Pass;
+use pass::lent;
 use phase::Next;
 use phase::folds;
+use phase::turns;
 use refusal::Check;
 use vector::Message;
 
@@ -52,13 +54,17 @@ impl Run {
         ensures { λ r. ⌜ out r (now (f .entry)) (now (g .entry)) ≡ leaves self pass (now (f .entry)) (now (g .entry)) (messageCall (modulusOf (self .start)) self pass (now (f .entry)) (now (g .entry))) ⌝ }
     {
         let p = item::modulus_of(self.start);
-        let Check::Passed = full_checks::full_next(p, self, pass, Next::Message) else {
+        let well = well_formed(p, self, pass);
+        let mode = self.mode;
+        let next = self.next;
+        let Check::Passed = turns::full_next(well, mode, Next::Message, next) else {
             return refuse(self, pass, refusal::ORDER);
         };
-        let Check::Passed = checks::both_long(self, f.len(), g.len()) else {
+        let stage = stage_of(self);
+        let Check::Passed = lent::both_long(stage, f.len(), g.len()) else {
             return refuse(self, pass, refusal::BUFFER);
         };
-        let Check::Passed = full_checks::both_reduced(p, self, f, g) else {
+        let Check::Passed = lent::both_reduced(p, stage, f, g) else {
             return refuse(self, pass, refusal::VECTOR);
         };
         give_message(p, self, pass, f, g)
@@ -69,13 +75,17 @@ impl Run {
         ensures { λ r. ⌜ out r (now (f .entry)) (now (g .entry)) ≡ leaves self pass (now (f .entry)) (now (g .entry)) (endsCall (modulusOf (self .start)) self pass (now (f .entry)) (now (g .entry))) ⌝ }
     {
         let p = item::modulus_of(self.start);
-        let Check::Passed = full_checks::full_next(p, self, pass, Next::Ends) else {
+        let well = well_formed(p, self, pass);
+        let mode = self.mode;
+        let next = self.next;
+        let Check::Passed = turns::full_next(well, mode, Next::Ends, next) else {
             return refuse(self, pass, refusal::ORDER);
         };
-        let Check::Passed = checks::both_long(self, f.len(), g.len()) else {
+        let stage = stage_of(self);
+        let Check::Passed = lent::both_long(stage, f.len(), g.len()) else {
             return refuse(self, pass, refusal::BUFFER);
         };
-        let Check::Passed = full_checks::both_reduced(p, self, f, g) else {
+        let Check::Passed = lent::both_reduced(p, stage, f, g) else {
             return refuse(self, pass, refusal::VECTOR);
         };
         give_ends(self, pass, f, g)

@@ -1,10 +1,8 @@
 // The items of a pass.
 ghost use mathlib.Core.Path.{_≡_};
-ghost use Prim.Native.Nat.{_≤_, _<_};
 ghost use Rattle.item.specs.Start.{modulusOf};
 ghost use Rattle.item.specs.declared.Given.the-variants as Given;
 ghost use Rattle.prover.specs.Records.{out, leaves};
-ghost use Rattle.prover.specs.Take.{takes};
 ghost use Rattle.prover.specs.Calls.{refusedParts, giveCall};
 use super::Answer;
 use super::Run;
@@ -12,24 +10,16 @@ use super::Step;
 use super::answers::answered;
 use super::answers::refuse;
 use super::answers::refuse_at;
-use super::checks;
+use super::formed::well_formed;
 use super::stage::stage_of;
 use item::Given;
-use item::Item;
 use item::Parts;
 use pass::Pass;
 use pass::items;
+use pass::lent;
 use phase::order;
+use phase::turns;
 use refusal::Check;
-
-// An answered item.
-fn take(p: u32, run: Run, pass: Pass, x: Item, f: &mut [u32], g: &mut [u32]) -> Step
-    requires { ⌜ (run .start .rounds ≤ 15) × (run .start .items ≤ 32768) × (pass .taken < run .start .items) ⌝ }
-    ensures { λ r. ⌜ out r (now (f .exit)) (now (g .exit)) ≡ takes p run pass x (now (f .entry)) (now (g .entry)) ⌝ }
-{
-    let after = items::take(p, stage_of(run), pass, x, f, g);
-    answered(run, after, Answer::Taken)
-}
 
 // The refusal of an item by its own checks.
 fn refuse_parts(run: Run, pass: Pass, parts: Parts) -> Step
@@ -47,7 +37,8 @@ fn refuse_parts(run: Run, pass: Pass, parts: Parts) -> Step
 fn give(p: u32, run: Run, pass: Pass, given: Given, f: &mut [u32], g: &mut [u32]) -> Step
     ensures { λ r. ⌜ out r (now (f .exit)) (now (g .exit)) ≡ leaves run pass (now (f .entry)) (now (g .entry)) (giveCall p run pass given (now (f .entry)) (now (g .entry))) ⌝ }
 {
-    let Check::Passed = checks::pass_open(p, run, pass) else {
+    let kind = pass.kind;
+    let Check::Passed = turns::item(well_formed(p, run, pass), kind) else {
         return refuse(run, pass, refusal::ORDER);
     };
     let start = run.start;
@@ -58,10 +49,12 @@ fn give(p: u32, run: Run, pass: Pass, given: Given, f: &mut [u32], g: &mut [u32]
     let Parts::Item(x) = parts else {
         return refuse_parts(run, pass, parts);
     };
-    let Check::Passed = checks::places_there(run, pass, f.len(), g.len()) else {
+    let stage = stage_of(run);
+    let Check::Passed = lent::places_there(stage, kind, f.len(), g.len()) else {
         return refuse(run, pass, refusal::BUFFER);
     };
-    take(p, run, pass, x, f, g)
+    let after = items::take(p, stage, pass, x, f, g);
+    answered(run, after, Answer::Taken)
 }
 
 impl Run {

@@ -9,12 +9,13 @@ use super::Run;
 use super::Step;
 use super::answers::answered;
 use super::answers::refuse;
-use super::open_checks;
+use super::formed::well_formed;
 use super::stage::stage_of;
 use field::Checked;
 use field::Field;
 use pass::Pass;
 use pass::open;
+use phase::turns;
 use refusal::Check;
 
 impl Run {
@@ -22,7 +23,10 @@ impl Run {
     pub fn open_pass(self, pass: Pass) -> Step
         ensures { λ r. ⌜ out r [] [] ≡ leaves self pass [] [] (openCall (modulusOf (self .start)) self pass) ⌝ }
     {
-        let Check::Passed = open_checks::may_open(item::modulus_of(self.start), self, pass) else {
+        let well = well_formed(item::modulus_of(self.start), self, pass);
+        let mode = self.mode;
+        let next = self.next;
+        let Check::Passed = turns::pass(well, mode, next) else {
             return refuse(self, pass, refusal::ORDER);
         };
         answered(self, open::asked(stage_of(self)), Answer::Opened)
@@ -33,7 +37,10 @@ impl Run {
         ensures { λ r. ⌜ out r [] [] ≡ leaves self pass [] [] (openAtCall (modulusOf (self .start)) self pass point) ⌝ }
     {
         let p = item::modulus_of(self.start);
-        let Check::Passed = open_checks::may_open_at(p, self, pass) else {
+        let well = well_formed(p, self, pass);
+        let mode = self.mode;
+        let next = self.next;
+        let Check::Passed = turns::point(well, mode, next, self.start.rounds) else {
             return refuse(self, pass, refusal::ORDER);
         };
         let Checked::Number(b) = Field::nonzero_in(p, point) else {

@@ -2,37 +2,19 @@
 ghost use mathlib.Core.Path.{_≡_};
 ghost use Rattle.wire.specs.Proof.{writtenOf, writtenIn};
 ghost use mathlib.Core.List.{[]};
-ghost use Rattle.refusal.specs.Check.{passed};
 ghost use Rattle.item.specs.Start.{modulusOf};
 ghost use Rattle.prover.specs.Records.{out};
-ghost use Rattle.prover.specs.Written.{mayWrite, writeCall, writtenStep, runProof};
+ghost use Rattle.prover.specs.Written.{writeCall, writtenStep, runProof};
 use super::Answer;
 use super::Run;
 use super::Step;
 use super::answers::answered;
 use super::answers::refuse;
-use super::formed;
+use super::formed::well_formed;
 use pass::Pass;
-use phase::Next;
-use phase::cases;
+use phase::turns;
 use refusal::Check;
-use refusal::pass_if;
 use wire::proof::ProofWritten;
-
-// 10: plain, and the ends were given.
-fn may_write(p: u32, run: Run, pass: Pass) -> Check
-    ensures { λ r. ⌜ passed r ≡ mayWrite p run pass ⌝ }
-{
-    if formed::well_formed(p, run, pass) {} else {
-        return Check::Failed;
-    }
-    let start = run.start;
-    if start.plain {} else {
-        return Check::Failed;
-    }
-    let next = run.next;
-    pass_if(cases::waits(Next::Openings, next))
-}
 
 fn written_step(run: Run, pass: Pass, written: ProofWritten) -> Step
     ensures { λ r. ⌜ r ≡ writtenStep run pass (writtenOf written) ⌝ }
@@ -50,7 +32,8 @@ impl Run {
     {
         let start = self.start;
         let p = item::modulus_of(start);
-        let Check::Passed = may_write(p, self, pass) else {
+        let next = self.next;
+        let Check::Passed = turns::proof(well_formed(p, self, pass), start.plain, next) else {
             return refuse(self, pass, refusal::ORDER);
         };
         let messages = self.messages;

@@ -32,7 +32,8 @@ use Rattle.prover.specs.WellFormed.{runFormed}
 use Rattle.pass.specs.Take.{placedIn}
 use Rattle.prover.specs.Take.{entering, placedItem, takenItem, takes}
 use Rattle.prover.proofs.Outcomes.{takes-sum, takes-enter, takes-place}
-use Rattle.prover.specs.Change.{cleared, paddedBuffer}
+use Rattle.pass.specs.Lent.{cleared}
+use Rattle.prover.specs.Change.{paddedBuffer}
 use Rattle.runs.specs.Buffers.{Unchanged, Written}
 use Rattle.runs.proofs.RunFacts.{run-facts, run-level, run-items, run-padding, run-fold}
 use Rattle.runs.proofs.Places.{cleared-kept, cleared-zero, placed-kept, placed-written}

@@ -15,7 +15,7 @@ use lib.Seq.{getD-set-same, getD-set-other}
 use Rattle.algebra.proofs.Primes.{by-dec}
 use Rattle.vector.specs.Vector.{Vector, at}
 use Rattle.vector.proofs.Arrivals.{multiple-completes}
-use Rattle.prover.specs.Change.{cleared}
+use Rattle.pass.specs.Lent.{cleared}
 use Rattle.runs.specs.Buffers.{Unchanged, Written}
 
 -- no item of level i is complete at any other count

@@ -8,16 +8,25 @@ use Rattle.prover.specs.Opening.{openingGiven, openingCall}
 use Rattle.prover.proofs.FullOutcomes.{number-turn, number-bad, number-good, lent-short, lent-unreduced, lent-read}
 use Rattle.prover.proofs.OpeningLaws.{fold-there}
 use Rattle.field.proofs.Checks.{number-nonzero, none-nonzero}
-use Rattle.prover.specs.Records.{leaves}
+use Rattle.prover.specs.Records.{out, leaves}
 use borrow.Author.Needs.{needs}
+use lib.ListN.{length}
+use Rattle.pass.specs.Lent.{longIn, reducedIn, openedLent}
+use Rattle.pass.proofs.LentFacts.{opened-so}
+use Rattle.prover.specs.declared.Answer.the-variants as answer
+use Rattle.prover.specs.Level.{stageOf}
+use Rattle.phase.specs.Turn as turn
 use Rattle.prover.proofs.Run.opening.Statement.{statement}
 use Rattle.prover.proofs.Run.opening.Tie as tie
 
 modulus-of-requires : tie.Need-modulus-of-requires
 modulus-of-requires c κs = search needs
 
-openings-next-requires : tie.Need-openings-next-requires
-openings-next-requires c κs = search needs
+well-formed-requires : tie.Need-well-formed-requires
+well-formed-requires c κs = search needs
+
+opening-requires : tie.Need-opening-requires
+opening-requires c κs = search needs
 
 enum-told : tie.Need-enum-told
 enum-told c = search needs
@@ -31,8 +40,8 @@ refuse-requires c κs = search needs
 returns : tie.Need-returns
 unfolding openingCall
 returns c =
-    let s = c .before .before .before .before .before .before .before .args in
-    rw (c .refuse .ensures) (sym (number-turn (c .before .before .before .before .modulus-of .result) (s .self) (s .pass) (now (s .f)) (now (s .g)) (openingTurn (c .before .before .before .before .modulus-of .result) (s .self) (s .pass)) (isNonzero (c .before .before .before .before .modulus-of .result) (s .point)) (lentFolds (c .before .before .before .before .modulus-of .result) (s .self) (now (s .f)) (now (s .g)) (answered (openingGiven (c .before .before .before .before .modulus-of .result) (s .self) (s .pass) (s .point) (now (s .f)) (now (s .g))))) (sym (c .before .before .before .openings-next .ensures) ∙ ap passed (c .before .enum-told2 .given .1))) ∙ ap (λ p. leaves (s .self) (s .pass) (now (s .f)) (now (s .g)) (openingCall p (s .self) (s .pass) (s .point) (now (s .f)) (now (s .g)))) (c .before .before .before .before .modulus-of .ensures))
+    let s = c .before .before .before .before .before .before .before .before .args in
+    rw (c .refuse .ensures) (sym (number-turn (c .before .before .before .before .before .modulus-of .result) (s .self) (s .pass) (now (s .f)) (now (s .g)) (openingTurn (c .before .before .before .before .before .modulus-of .result) (s .self) (s .pass)) (isNonzero (c .before .before .before .before .before .modulus-of .result) (s .point)) (lentFolds (c .before .before .before .before .before .modulus-of .result) (s .self) (now (s .f)) (now (s .g)) (answered (openingGiven (c .before .before .before .before .before .modulus-of .result) (s .self) (s .pass) (s .point) (now (s .f)) (now (s .g))))) ((ap (λ w. turn.openingTurn w (s .self .mode) (s .self .next) (s .self .start .rounds)) (sym (c .before .before .before .before .well-formed .ensures)) ∙ sym (c .before .before .before .opening .ensures)) ∙ ap passed (c .before .enum-told2 .given .1))) ∙ ap (λ p. leaves (s .self) (s .pass) (now (s .f)) (now (s .g)) (openingCall p (s .self) (s .pass) (s .point) (now (s .f)) (now (s .g)))) (c .before .before .before .before .before .modulus-of .ensures))
 
 nonzero-in-requires : tie.Need-nonzero-in-requires
 nonzero-in-requires c κs = search needs
@@ -49,8 +58,11 @@ refuse-requires-2 c κs = search needs
 returns-2 : tie.Need-returns-2
 unfolding openingCall
 returns-2 c =
-    let s = c .before .before .before .before .before .before .before .before .before .before .args in
-    rw (c .refuse2 .ensures) (sym (number-bad (c .before .before .before .before .before .before .before .modulus-of .result) (s .self) (s .pass) (now (s .f)) (now (s .g)) (openingTurn (c .before .before .before .before .before .before .before .modulus-of .result) (s .self) (s .pass)) (isNonzero (c .before .before .before .before .before .before .before .modulus-of .result) (s .point)) (lentFolds (c .before .before .before .before .before .before .before .modulus-of .result) (s .self) (now (s .f)) (now (s .g)) (answered (openingGiven (c .before .before .before .before .before .before .before .modulus-of .result) (s .self) (s .pass) (s .point) (now (s .f)) (now (s .g))))) (sym (c .before .before .before .before .before .before .openings-next .ensures) ∙ ap passed (c .before .before .before .before .enum-told .given .1)) (none-nonzero (c .before .before .before .before .before .before .before .modulus-of .result) (s .point) (sym (c .before .before .before .nonzero-in .ensures) ∙ c .before .enum-told3 .given .1))) ∙ ap (λ p. leaves (s .self) (s .pass) (now (s .f)) (now (s .g)) (openingCall p (s .self) (s .pass) (s .point) (now (s .f)) (now (s .g)))) (c .before .before .before .before .before .before .before .modulus-of .ensures))
+    let s = c .before .before .before .before .before .before .before .before .before .before .before .args in
+    rw (c .refuse2 .ensures) (sym (number-bad (c .before .before .before .before .before .before .before .before .modulus-of .result) (s .self) (s .pass) (now (s .f)) (now (s .g)) (openingTurn (c .before .before .before .before .before .before .before .before .modulus-of .result) (s .self) (s .pass)) (isNonzero (c .before .before .before .before .before .before .before .before .modulus-of .result) (s .point)) (lentFolds (c .before .before .before .before .before .before .before .before .modulus-of .result) (s .self) (now (s .f)) (now (s .g)) (answered (openingGiven (c .before .before .before .before .before .before .before .before .modulus-of .result) (s .self) (s .pass) (s .point) (now (s .f)) (now (s .g))))) ((ap (λ w. turn.openingTurn w (s .self .mode) (s .self .next) (s .self .start .rounds)) (sym (c .before .before .before .before .before .before .before .well-formed .ensures)) ∙ sym (c .before .before .before .before .before .before .opening .ensures)) ∙ ap passed (c .before .before .before .before .enum-told .given .1)) (none-nonzero (c .before .before .before .before .before .before .before .before .modulus-of .result) (s .point) (sym (c .before .before .before .nonzero-in .ensures) ∙ c .before .enum-told3 .given .1))) ∙ ap (λ p. leaves (s .self) (s .pass) (now (s .f)) (now (s .g)) (openingCall p (s .self) (s .pass) (s .point) (now (s .f)) (now (s .g)))) (c .before .before .before .before .before .before .before .before .modulus-of .ensures))
+
+stage-of-requires : tie.Need-stage-of-requires
+stage-of-requires c κs = search needs
 
 both-long-requires : tie.Need-both-long-requires
 both-long-requires c κs = search needs
@@ -67,8 +79,8 @@ refuse-requires-3 c κs = search needs
 returns-3 : tie.Need-returns-3
 unfolding openingCall
 returns-3 c =
-    let s = c .before .before .before .before .before .before .before .before .before .before .before .before .before .before .args in
-    rw (c .refuse3 .ensures) (sym (number-good (c .before .before .before .before .before .before .before .before .before .before .before .modulus-of .result) (s .self) (s .pass) (now (s .f)) (now (s .g)) (openingTurn (c .before .before .before .before .before .before .before .before .before .before .before .modulus-of .result) (s .self) (s .pass)) (isNonzero (c .before .before .before .before .before .before .before .before .before .before .before .modulus-of .result) (s .point)) (lentFolds (c .before .before .before .before .before .before .before .before .before .before .before .modulus-of .result) (s .self) (now (s .f)) (now (s .g)) (answered (openingGiven (c .before .before .before .before .before .before .before .before .before .before .before .modulus-of .result) (s .self) (s .pass) (s .point) (now (s .f)) (now (s .g))))) (sym (c .before .before .before .before .before .before .before .before .before .before .openings-next .ensures) ∙ ap passed (c .before .before .before .before .before .before .before .before .enum-told .given .1)) (number-nonzero (c .before .before .before .before .before .before .before .before .before .before .before .modulus-of .result) (s .point) (c .before .before .before .before .before .b .given .0 .0) (sym (c .before .before .before .before .before .before .before .nonzero-in .ensures) ∙ c .before .before .before .before .before .b .given .1) .0) ∙ lent-short (c .before .before .before .before .before .before .before .before .before .before .before .modulus-of .result) (s .self) (s .pass) (now (s .f)) (now (s .g)) (answered (openingGiven (c .before .before .before .before .before .before .before .before .before .before .before .modulus-of .result) (s .self) (s .pass) (s .point) (now (s .f)) (now (s .g)))) (sym (c .before .before .before .both-long .ensures) ∙ ap passed (c .before .enum-told5 .given .1))) ∙ ap (λ p. leaves (s .self) (s .pass) (now (s .f)) (now (s .g)) (openingCall p (s .self) (s .pass) (s .point) (now (s .f)) (now (s .g)))) (c .before .before .before .before .before .before .before .before .before .before .before .modulus-of .ensures))
+    let s = c .before .before .before .before .before .before .before .before .before .before .before .before .before .before .before .before .args in
+    rw (c .refuse3 .ensures) (sym (number-good (c .before .before .before .before .before .before .before .before .before .before .before .before .before .modulus-of .result) (s .self) (s .pass) (now (s .f)) (now (s .g)) (openingTurn (c .before .before .before .before .before .before .before .before .before .before .before .before .before .modulus-of .result) (s .self) (s .pass)) (isNonzero (c .before .before .before .before .before .before .before .before .before .before .before .before .before .modulus-of .result) (s .point)) (lentFolds (c .before .before .before .before .before .before .before .before .before .before .before .before .before .modulus-of .result) (s .self) (now (s .f)) (now (s .g)) (answered (openingGiven (c .before .before .before .before .before .before .before .before .before .before .before .before .before .modulus-of .result) (s .self) (s .pass) (s .point) (now (s .f)) (now (s .g))))) ((ap (λ w. turn.openingTurn w (s .self .mode) (s .self .next) (s .self .start .rounds)) (sym (c .before .before .before .before .before .before .before .before .before .before .before .before .well-formed .ensures)) ∙ sym (c .before .before .before .before .before .before .before .before .before .before .before .opening .ensures)) ∙ ap passed (c .before .before .before .before .before .before .before .before .before .enum-told .given .1)) (number-nonzero (c .before .before .before .before .before .before .before .before .before .before .before .before .before .modulus-of .result) (s .point) (c .before .before .before .before .before .before .b .given .0 .0) (sym (c .before .before .before .before .before .before .before .before .nonzero-in .ensures) ∙ c .before .before .before .before .before .before .b .given .1) .0) ∙ lent-short (c .before .before .before .before .before .before .before .before .before .before .before .before .before .modulus-of .result) (s .self) (s .pass) (now (s .f)) (now (s .g)) (answered (openingGiven (c .before .before .before .before .before .before .before .before .before .before .before .before .before .modulus-of .result) (s .self) (s .pass) (s .point) (now (s .f)) (now (s .g)))) ((ap (λ w. longIn w (length (now (s .f))) (length (now (s .g)))) (sym (c .before .before .before .before .stage-of .ensures)) ∙ sym (c .before .before .before .both-long .ensures)) ∙ ap passed (c .before .enum-told5 .given .1))) ∙ ap (λ p. leaves (s .self) (s .pass) (now (s .f)) (now (s .g)) (openingCall p (s .self) (s .pass) (s .point) (now (s .f)) (now (s .g)))) (c .before .before .before .before .before .before .before .before .before .before .before .before .before .modulus-of .ensures))
 
 both-reduced-requires : tie.Need-both-reduced-requires
 both-reduced-requires c κs = search needs
@@ -85,29 +97,37 @@ refuse-requires-4 c κs = search needs
 returns-4 : tie.Need-returns-4
 unfolding openingCall
 returns-4 c =
-    let s = c .before .before .before .before .before .before .before .before .before .before .before .before .before .before .before .before .before .args in
-    rw (c .refuse4 .ensures) (sym (number-good (c .before .before .before .before .before .before .before .before .before .before .before .before .before .before .modulus-of .result) (s .self) (s .pass) (now (s .f)) (now (s .g)) (openingTurn (c .before .before .before .before .before .before .before .before .before .before .before .before .before .before .modulus-of .result) (s .self) (s .pass)) (isNonzero (c .before .before .before .before .before .before .before .before .before .before .before .before .before .before .modulus-of .result) (s .point)) (lentFolds (c .before .before .before .before .before .before .before .before .before .before .before .before .before .before .modulus-of .result) (s .self) (now (s .f)) (now (s .g)) (answered (openingGiven (c .before .before .before .before .before .before .before .before .before .before .before .before .before .before .modulus-of .result) (s .self) (s .pass) (s .point) (now (s .f)) (now (s .g))))) (sym (c .before .before .before .before .before .before .before .before .before .before .before .before .before .openings-next .ensures) ∙ ap passed (c .before .before .before .before .before .before .before .before .before .before .before .enum-told .given .1)) (number-nonzero (c .before .before .before .before .before .before .before .before .before .before .before .before .before .before .modulus-of .result) (s .point) (c .before .before .before .before .before .before .before .before .b .given .0 .0) (sym (c .before .before .before .before .before .before .before .before .before .before .nonzero-in .ensures) ∙ c .before .before .before .before .before .before .before .before .b .given .1) .0) ∙ lent-unreduced (c .before .before .before .before .before .before .before .before .before .before .before .before .before .before .modulus-of .result) (s .self) (s .pass) (now (s .f)) (now (s .g)) (answered (openingGiven (c .before .before .before .before .before .before .before .before .before .before .before .before .before .before .modulus-of .result) (s .self) (s .pass) (s .point) (now (s .f)) (now (s .g)))) (sym (c .before .before .before .before .before .before .both-long .ensures) ∙ ap passed (c .before .before .before .before .enum-told4 .given .1)) (sym (c .before .before .before .both-reduced .ensures) ∙ ap passed (c .before .enum-told7 .given .1))) ∙ ap (λ p. leaves (s .self) (s .pass) (now (s .f)) (now (s .g)) (openingCall p (s .self) (s .pass) (s .point) (now (s .f)) (now (s .g)))) (c .before .before .before .before .before .before .before .before .before .before .before .before .before .before .modulus-of .ensures))
+    let s = c .before .before .before .before .before .before .before .before .before .before .before .before .before .before .before .before .before .before .before .args in
+    rw (c .refuse4 .ensures) (sym (number-good (c .before .before .before .before .before .before .before .before .before .before .before .before .before .before .before .before .modulus-of .result) (s .self) (s .pass) (now (s .f)) (now (s .g)) (openingTurn (c .before .before .before .before .before .before .before .before .before .before .before .before .before .before .before .before .modulus-of .result) (s .self) (s .pass)) (isNonzero (c .before .before .before .before .before .before .before .before .before .before .before .before .before .before .before .before .modulus-of .result) (s .point)) (lentFolds (c .before .before .before .before .before .before .before .before .before .before .before .before .before .before .before .before .modulus-of .result) (s .self) (now (s .f)) (now (s .g)) (answered (openingGiven (c .before .before .before .before .before .before .before .before .before .before .before .before .before .before .before .before .modulus-of .result) (s .self) (s .pass) (s .point) (now (s .f)) (now (s .g))))) ((ap (λ w. turn.openingTurn w (s .self .mode) (s .self .next) (s .self .start .rounds)) (sym (c .before .before .before .before .before .before .before .before .before .before .before .before .before .before .before .well-formed .ensures)) ∙ sym (c .before .before .before .before .before .before .before .before .before .before .before .before .before .before .opening .ensures)) ∙ ap passed (c .before .before .before .before .before .before .before .before .before .before .before .before .enum-told .given .1)) (number-nonzero (c .before .before .before .before .before .before .before .before .before .before .before .before .before .before .before .before .modulus-of .result) (s .point) (c .before .before .before .before .before .before .before .before .before .b .given .0 .0) (sym (c .before .before .before .before .before .before .before .before .before .before .before .nonzero-in .ensures) ∙ c .before .before .before .before .before .before .before .before .before .b .given .1) .0) ∙ lent-unreduced (c .before .before .before .before .before .before .before .before .before .before .before .before .before .before .before .before .modulus-of .result) (s .self) (s .pass) (now (s .f)) (now (s .g)) (answered (openingGiven (c .before .before .before .before .before .before .before .before .before .before .before .before .before .before .before .before .modulus-of .result) (s .self) (s .pass) (s .point) (now (s .f)) (now (s .g)))) ((ap (λ w. longIn w (length (now (s .f))) (length (now (s .g)))) (sym (c .before .before .before .before .before .before .before .stage-of .ensures)) ∙ sym (c .before .before .before .before .before .before .both-long .ensures)) ∙ ap passed (c .before .before .before .before .enum-told4 .given .1)) ((ap (λ w. reducedIn (c .before .before .before .before .before .before .before .before .before .before .before .before .before .before .before .before .modulus-of .result) w (now (s .f)) (now (s .g))) (sym (c .before .before .before .before .before .before .before .stage-of .ensures)) ∙ sym (c .before .before .before .both-reduced .ensures)) ∙ ap passed (c .before .enum-told7 .given .1))) ∙ ap (λ p. leaves (s .self) (s .pass) (now (s .f)) (now (s .g)) (openingCall p (s .self) (s .pass) (s .point) (now (s .f)) (now (s .g)))) (c .before .before .before .before .before .before .before .before .before .before .before .before .before .before .before .before .modulus-of .ensures))
 
 to-u32-requires : tie.Need-to-u32-requires
 to-u32-requires c κs = search needs
 
-give-opening-requires : tie.Need-give-opening-requires
-give-opening-requires c κs =
-    let s = c .before .before .before .before .before .before .before .before .before .before .before .before .before .before .before .before .before .args in
-    fold-there (c .before .before .before .before .before .before .before .before .before .before .before .before .before .before .modulus-of .result) (s .self) (s .pass) (now (s .f)) (now (s .g)) (sym (c .before .before .before .before .before .before .before .before .before .before .before .before .before .openings-next .ensures) ∙ ap passed (c .before .before .before .before .before .before .before .before .before .before .before .enum-told .given .1)) (sym (c .before .before .before .before .before .before .both-long .ensures) ∙ ap passed (c .before .before .before .before .enum-told4 .given .1))
+opening-requires-2 : tie.Need-opening-requires-2
+opening-requires-2 c κs = search needs
 
 returns-5 : tie.Need-returns-5
-unfolding openingCall
+unfolding openingCall openingGiven
 returns-5 c =
-    let s = c .before .before .before .before .before .before .before .before .before .before .before .before .before .before .before .before .before .before .args in
-    c .give-opening .ensures ∙ ap (λ x. openingGiven (c .before .before .before .before .before .before .before .before .before .before .before .before .before .before .before .modulus-of .result) (s .self) (s .pass) x (now (s .f)) (now (s .g))) (c .before .to-u32 .ensures ∙ number-nonzero (c .before .before .before .before .before .before .before .before .before .before .before .before .before .before .before .modulus-of .result) (s .point) (c .before .before .before .before .before .before .before .before .before .b .given .0 .0) (sym (c .before .before .before .before .before .before .before .before .before .before .before .nonzero-in .ensures) ∙ c .before .before .before .before .before .before .before .before .before .b .given .1) .1) ∙ sym (number-good (c .before .before .before .before .before .before .before .before .before .before .before .before .before .before .before .modulus-of .result) (s .self) (s .pass) (now (s .f)) (now (s .g)) (openingTurn (c .before .before .before .before .before .before .before .before .before .before .before .before .before .before .before .modulus-of .result) (s .self) (s .pass)) (isNonzero (c .before .before .before .before .before .before .before .before .before .before .before .before .before .before .before .modulus-of .result) (s .point)) (lentFolds (c .before .before .before .before .before .before .before .before .before .before .before .before .before .before .before .modulus-of .result) (s .self) (now (s .f)) (now (s .g)) (answered (openingGiven (c .before .before .before .before .before .before .before .before .before .before .before .before .before .before .before .modulus-of .result) (s .self) (s .pass) (s .point) (now (s .f)) (now (s .g))))) (sym (c .before .before .before .before .before .before .before .before .before .before .before .before .before .before .openings-next .ensures) ∙ ap passed (c .before .before .before .before .before .before .before .before .before .before .before .before .enum-told .given .1)) (number-nonzero (c .before .before .before .before .before .before .before .before .before .before .before .before .before .before .before .modulus-of .result) (s .point) (c .before .before .before .before .before .before .before .before .before .b .given .0 .0) (sym (c .before .before .before .before .before .before .before .before .before .before .before .nonzero-in .ensures) ∙ c .before .before .before .before .before .before .before .before .before .b .given .1) .0) ∙ lent-read (c .before .before .before .before .before .before .before .before .before .before .before .before .before .before .before .modulus-of .result) (s .self) (s .pass) (now (s .f)) (now (s .g)) (answered (openingGiven (c .before .before .before .before .before .before .before .before .before .before .before .before .before .before .before .modulus-of .result) (s .self) (s .pass) (s .point) (now (s .f)) (now (s .g)))) (sym (c .before .before .before .before .before .before .before .both-long .ensures) ∙ ap passed (c .before .before .before .before .before .enum-told4 .given .1)) (sym (c .before .before .before .before .both-reduced .ensures) ∙ ap passed (c .before .before .enum-told6 .given .1))) ∙ ap (λ p. leaves (s .self) (s .pass) (now (s .f)) (now (s .g)) (openingCall p (s .self) (s .pass) (s .point) (now (s .f)) (now (s .g)))) (c .before .before .before .before .before .before .before .before .before .before .before .before .before .before .before .modulus-of .ensures)
+    let s = c .before .before .before .before .before .before .before .before .before .before .before .before .before .before .before .before .before .before .before .before .args in
+    let P = c .before .before .before .before .before .before .before .before .before .before .before .before .before .before .before .before .before .modulus-of .result in
+    let w = stageOf (s .self) in
+    let x = c .before .to-u32 .ensures ∙ number-nonzero (c .before .before .before .before .before .before .before .before .before .before .before .before .before .before .before .before .before .modulus-of .result) (s .point) (c .before .before .before .before .before .before .before .before .before .before .b .given .0 .0) (sym (c .before .before .before .before .before .before .before .before .before .before .before .before .nonzero-in .ensures) ∙ c .before .before .before .before .before .before .before .before .before .before .b .given .1) .1 in
+    let there = fold-there P (s .self) (s .pass) (now (s .f)) (now (s .g)) ((ap (λ w. turn.openingTurn w (s .self .mode) (s .self .next) (s .self .start .rounds)) (sym (c .before .before .before .before .before .before .before .before .before .before .before .before .before .before .before .before .well-formed .ensures)) ∙ sym (c .before .before .before .before .before .before .before .before .before .before .before .before .before .before .before .opening .ensures)) ∙ ap passed (c .before .before .before .before .before .before .before .before .before .before .before .before .before .enum-told .given .1)) ((ap (λ w. longIn w (length (now (s .f))) (length (now (s .g)))) (sym (c .before .before .before .before .before .before .before .before .stage-of .ensures)) ∙ sym (c .before .before .before .before .before .before .before .both-long .ensures)) ∙ ap passed (c .before .before .before .before .before .enum-told4 .given .1)) in
+    let values =
+    c .opening2 .ensures
+    ∙ ap (λ w. openedLent P w (c .before .to-u32 .result) (now (s .f)) (now (s .g))) (c .before .before .before .before .before .before .before .before .stage-of .ensures)
+    ∙ ap (λ b. openedLent P w b (now (s .f)) (now (s .g))) x
+    ∙ opened-so P w (s .point) (now (s .f)) (now (s .g)) (there .0) (there .1) (there .2) in
+    ap (λ v. out (record { run = s .self; pass = s .pass; answer = answer.Opening; values = v }) (now (s .f)) (now (s .g))) values ∙ sym (number-good (c .before .before .before .before .before .before .before .before .before .before .before .before .before .before .before .before .before .modulus-of .result) (s .self) (s .pass) (now (s .f)) (now (s .g)) (openingTurn (c .before .before .before .before .before .before .before .before .before .before .before .before .before .before .before .before .before .modulus-of .result) (s .self) (s .pass)) (isNonzero (c .before .before .before .before .before .before .before .before .before .before .before .before .before .before .before .before .before .modulus-of .result) (s .point)) (lentFolds (c .before .before .before .before .before .before .before .before .before .before .before .before .before .before .before .before .before .modulus-of .result) (s .self) (now (s .f)) (now (s .g)) (answered (openingGiven (c .before .before .before .before .before .before .before .before .before .before .before .before .before .before .before .before .before .modulus-of .result) (s .self) (s .pass) (s .point) (now (s .f)) (now (s .g))))) ((ap (λ w. turn.openingTurn w (s .self .mode) (s .self .next) (s .self .start .rounds)) (sym (c .before .before .before .before .before .before .before .before .before .before .before .before .before .before .before .before .well-formed .ensures)) ∙ sym (c .before .before .before .before .before .before .before .before .before .before .before .before .before .before .before .opening .ensures)) ∙ ap passed (c .before .before .before .before .before .before .before .before .before .before .before .before .before .enum-told .given .1)) (number-nonzero (c .before .before .before .before .before .before .before .before .before .before .before .before .before .before .before .before .before .modulus-of .result) (s .point) (c .before .before .before .before .before .before .before .before .before .before .b .given .0 .0) (sym (c .before .before .before .before .before .before .before .before .before .before .before .before .nonzero-in .ensures) ∙ c .before .before .before .before .before .before .before .before .before .before .b .given .1) .0) ∙ lent-read (c .before .before .before .before .before .before .before .before .before .before .before .before .before .before .before .before .before .modulus-of .result) (s .self) (s .pass) (now (s .f)) (now (s .g)) (answered (openingGiven (c .before .before .before .before .before .before .before .before .before .before .before .before .before .before .before .before .before .modulus-of .result) (s .self) (s .pass) (s .point) (now (s .f)) (now (s .g)))) ((ap (λ w. longIn w (length (now (s .f))) (length (now (s .g)))) (sym (c .before .before .before .before .before .before .before .before .stage-of .ensures)) ∙ sym (c .before .before .before .before .before .before .before .both-long .ensures)) ∙ ap passed (c .before .before .before .before .before .enum-told4 .given .1)) ((ap (λ w. reducedIn (c .before .before .before .before .before .before .before .before .before .before .before .before .before .before .before .before .before .modulus-of .result) w (now (s .f)) (now (s .g))) (sym (c .before .before .before .before .before .before .before .before .stage-of .ensures)) ∙ sym (c .before .before .before .before .both-reduced .ensures)) ∙ ap passed (c .before .before .enum-told6 .given .1))) ∙ ap (λ p. leaves (s .self) (s .pass) (now (s .f)) (now (s .g)) (openingCall p (s .self) (s .pass) (s .point) (now (s .f)) (now (s .g)))) (c .before .before .before .before .before .before .before .before .before .before .before .before .before .before .before .before .before .modulus-of .ensures)
 
 pub opening-spec : {M : Type 1} → statement M
 opening-spec =
     tie.close
     (tie.spec
     modulus-of-requires
-    openings-next-requires
+    well-formed-requires
+    opening-requires
     enum-told
     enum-told-2
     refuse-requires
@@ -117,6 +137,7 @@ opening-spec =
     enum-told-3
     refuse-requires-2
     returns-2
+    stage-of-requires
     both-long-requires
     enum-told-4
     enum-told-5
@@ -128,5 +149,5 @@ opening-spec =
     refuse-requires-4
     returns-4
     to-u32-requires
-    give-opening-requires
+    opening-requires-2
     returns-5)

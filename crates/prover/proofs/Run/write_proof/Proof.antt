@@ -9,14 +9,23 @@ use Rattle.prover.proofs.Outcomes.{write-never, write-then}
 use mathlib.Core.List.{[]}
 use Rattle.prover.specs.Records.{out}
 use borrow.Author.Needs.{needs}
+use Rattle.phase.specs.Turn.{proofTurn}
 use Rattle.prover.proofs.Run.write_proof.Statement.{statement}
 use Rattle.prover.proofs.Run.write_proof.Tie as tie
+
+kept : (c : tie.After-struct-told)
+    → toZ w64 (ofZ w64 (c .before .before .before .before .before .before .before .before .before .before .args .self .total))
+    ≡ c .before .before .before .before .before .before .before .before .before .before .args .self .total
+kept c = search needs
 
 modulus-of-requires : tie.Need-modulus-of-requires
 modulus-of-requires c κs = search needs
 
-may-write-requires : tie.Need-may-write-requires
-may-write-requires c κs = search needs
+well-formed-requires : tie.Need-well-formed-requires
+well-formed-requires c κs = search needs
+
+proof-requires : tie.Need-proof-requires
+proof-requires c κs = search needs
 
 enum-told : tie.Need-enum-told
 enum-told c = search needs
@@ -30,8 +39,8 @@ refuse-requires c κs = search needs
 returns : tie.Need-returns
 unfolding writtenIn
 returns c =
-    let s = c .before .before .before .before .before .before .before .args in
-    let e = ap (λ p. writeCall p (s .self) (s .pass) (now (s .file))) (sym (c .before .before .before .before .modulus-of .ensures)) ∙ write-never (c .before .before .before .before .modulus-of .result) (s .self) (s .pass) (now (s .file)) (sym (c .before .before .before .may-write .ensures) ∙ ap passed (c .before .enum-told2 .given .1)) in
+    let s = c .before .before .before .before .before .before .before .before .args in
+    let e = ap (λ p. writeCall p (s .self) (s .pass) (now (s .file))) (sym (c .before .before .before .before .before .modulus-of .ensures)) ∙ write-never (c .before .before .before .before .before .modulus-of .result) (s .self) (s .pass) (now (s .file)) ((ap (λ w. proofTurn w (s .self .start .plain) (s .self .next)) (sym (c .before .before .before .before .well-formed .ensures)) ∙ sym (c .before .before .before .proof .ensures)) ∙ ap passed (c .before .enum-told2 .given .1)) in
     (ap (λ o. out o [] []) (c .refuse .ensures ∙ ap (writtenStep (s .self) (s .pass)) (sym e)), ap (λ o. writtenIn o (runProof (s .self)) (now (s .file))) (sym e))
 
 write-proof-in-requires : tie.Need-write-proof-in-requires
@@ -43,18 +52,11 @@ written-step-requires c κs = search needs
 same-length : tie.Need-same-length
 same-length c = search needs
 
--- the total, as the code passes it on
-
-kept : (c : tie.After-struct-told)
-    → toZ w64 (ofZ w64 (c .before .before .before .before .before .before .before .before .before .args .self .total))
-    ≡ c .before .before .before .before .before .before .before .before .before .args .self .total
-kept c = search needs
-
 returns-2 : tie.Need-returns-2
 returns-2 c =
-    let s = c .before .before .before .before .before .before .before .before .before .before .before .before .before .args in
+    let s = c .before .before .before .before .before .before .before .before .before .before .before .before .before .before .args in
     let e =
-    ap (λ p. writeCall p (s .self) (s .pass) (now (s .file))) (sym (c .before .before .before .before .before .before .before .before .before .before .modulus-of .ensures)) ∙ write-then (c .before .before .before .before .before .before .before .before .before .before .modulus-of .result) (s .self) (s .pass) (now (s .file)) (sym (c .before .before .before .before .before .before .before .before .before .may-write .ensures) ∙ ap passed (c .before .before .before .before .before .before .before .enum-told .given .1)) in
+    ap (λ p. writeCall p (s .self) (s .pass) (now (s .file))) (sym (c .before .before .before .before .before .before .before .before .before .before .before .modulus-of .ensures)) ∙ write-then (c .before .before .before .before .before .before .before .before .before .before .before .modulus-of .result) (s .self) (s .pass) (now (s .file)) ((ap (λ w. proofTurn w (s .self .start .plain) (s .self .next)) (sym (c .before .before .before .before .before .before .before .before .before .before .well-formed .ensures)) ∙ sym (c .before .before .before .before .before .before .before .before .before .proof .ensures)) ∙ ap passed (c .before .before .before .before .before .before .before .enum-told .given .1)) in
     let z = s .self .total in
     let t : toZ w64 (ofZ w64 z) ≡ z = kept (c .before .before .before .before) in
     let w = simp t at (c .before .before .before .write-proof-in .ensures) in
@@ -65,7 +67,8 @@ write-proof-spec =
     tie.close
     (tie.spec
     modulus-of-requires
-    may-write-requires
+    well-formed-requires
+    proof-requires
     enum-told
     enum-told-2
     refuse-requires

@@ -1,50 +1,104 @@
+use mathlib.Core.Path.{_≡_, sym, ap, _∙_}
+use denote.Ref.{now}
+use lib.ListN.{length}
+use Rattle.refusal.specs.Check.{passed}
+use Rattle.refusal.specs.Outcome.{answered}
+use Rattle.pass.specs.Lent.{longIn, reducedIn}
 use Rattle.prover.specs.Challenge.{challengedFull}
+use Rattle.prover.proofs.FullOutcomes.{lent-short, lent-unreduced, lent-read}
 use borrow.Author.Needs.{needs}
 use Rattle.prover.proofs.challenge.challenge_full.Statement.{statement}
 use Rattle.prover.proofs.challenge.challenge_full.Tie as tie
-use Rattle.prover.proofs.challenge.challenge_full.Reads as reads
-use Rattle.prover.proofs.challenge.challenge_full.Lts as lts
-use Rattle.phase.proofs.folds.fold.Reads as fold-reads
-use Rattle.prover.proofs.answers.answered.Reads as answered-reads
-use Rattle.prover.proofs.challenge.keep_challenge.Reads as keep-challenge-reads
 
--- src/challenge.rt:55:5
-fold-requires : tie.Need-fold-requires
-fold-requires c κs = search needs
+stage-of-requires : tie.Need-stage-of-requires
+stage-of-requires c κs = search needs
 
--- src/challenge.rt:56:5
-fold-requires-2 : tie.Need-fold-requires-2
-fold-requires-2 c κs = search needs
+both-long-requires : tie.Need-both-long-requires
+both-long-requires c κs = search needs
 
--- src/challenge.rt:57:14
-keep-challenge-requires : tie.Need-keep-challenge-requires
-keep-challenge-requires c κs = search needs
+enum-told : tie.Need-enum-told
+enum-told c = search needs
 
--- src/challenge.rt:57:5
-answered-requires : tie.Need-answered-requires
-answered-requires c κs = search needs
+enum-told-2 : tie.Need-enum-told-2
+enum-told-2 c = search needs
 
--- src/challenge.rt:49:1
+refuse-requires : tie.Need-refuse-requires
+refuse-requires c κs = search needs
+
+returns : tie.Need-returns
+returns c =
+    let s = c .before .before .before .before .before .before .before .args in
+    rw (c .refuse .ensures) (sym (lent-short (s .p) (s .run) (s .pass) (now (s .f)) (now (s .g)) (answered (challengedFull (s .p) (s .run) (s .pass) (s .c) (now (s .f)) (now (s .g)))) ((ap (λ w. longIn w (length (now (s .f))) (length (now (s .g)))) (sym (c .before .before .before .before .stage-of .ensures)) ∙ sym (c .before .before .before .both-long .ensures)) ∙ ap passed (c .before .enum-told2 .given .1))))
+
+both-reduced-requires : tie.Need-both-reduced-requires
+both-reduced-requires c κs = search needs
+
+enum-told-3 : tie.Need-enum-told-3
+enum-told-3 c = search needs
+
+enum-told-4 : tie.Need-enum-told-4
+enum-told-4 c = search needs
+
+refuse-requires-2 : tie.Need-refuse-requires-2
+refuse-requires-2 c κs = search needs
+
 same-length : tie.Need-same-length
 same-length c = search needs
 
--- src/challenge.rt:49:1
 same-length-2 : tie.Need-same-length-2
 same-length-2 c = search needs
 
--- src/challenge.rt:49:1
-returns : tie.Need-returns
+returns-2 : tie.Need-returns-2
+returns-2 c =
+    let s = c .before .before .before .before .before .before .before .before .before .before .before .before .args in
+    rw (c .refuse2 .ensures) (sym (lent-unreduced (s .p) (s .run) (s .pass) (now (s .f)) (now (s .g)) (answered (challengedFull (s .p) (s .run) (s .pass) (s .c) (now (s .f)) (now (s .g)))) ((ap (λ w. longIn w (length (now (s .f))) (length (now (s .g)))) (sym (c .before .before .before .before .before .before .before .before .before .stage-of .ensures)) ∙ sym (c .before .before .before .before .before .before .before .before .both-long .ensures)) ∙ ap passed (c .before .before .before .before .before .before .enum-told .given .1)) ((ap (λ w. reducedIn (s .p) w (now (s .f)) (now (s .g))) (sym (c .before .before .before .before .before .before .before .before .before .stage-of .ensures)) ∙ sym (c .before .before .before .both-reduced .ensures)) ∙ ap passed (c .before .enum-told4 .given .1))))
+
+fold-requires : tie.Need-fold-requires
+fold-requires c κs = search needs
+
+fold-requires-2 : tie.Need-fold-requires-2
+fold-requires-2 c κs = search needs
+
+keep-challenge-requires : tie.Need-keep-challenge-requires
+keep-challenge-requires c κs = search needs
+
+answered-requires : tie.Need-answered-requires
+answered-requires c κs = search needs
+
+same-length-3 : tie.Need-same-length-3
+same-length-3 c = search needs
+
+same-length-4 : tie.Need-same-length-4
+same-length-4 c = search needs
+
+returns-3 : tie.Need-returns-3
 unfolding challengedFull
-returns c = rw (c .before .before .before .before .before .before .before .before .fold .ensures, c .before .before .before .before .fold2 .ensures, c .answered .ensures, c .before .keep-challenge .ensures)
+returns-3 c =
+    let s = c .before .before .before .before .before .before .before .before .before .before .before .before .before .before .before .before .before .before .before .before .before .before .args in
+    rw (c .before .before .before .before .before .before .before .before .fold .ensures, c .before .before .before .before .fold2 .ensures, c .answered .ensures, c .before .keep-challenge .ensures)
+    (sym (lent-read (s .p) (s .run) (s .pass) (now (s .f)) (now (s .g)) (answered (challengedFull (s .p) (s .run) (s .pass) (s .c) (now (s .f)) (now (s .g)))) ((ap (λ w. longIn w (length (now (s .f))) (length (now (s .g)))) (sym (c .before .before .before .before .before .before .before .before .before .before .before .before .before .before .before .before .before .before .before .stage-of .ensures)) ∙ sym (c .before .before .before .before .before .before .before .before .before .before .before .before .before .before .before .before .before .before .both-long .ensures)) ∙ ap passed (c .before .before .before .before .before .before .before .before .before .before .before .before .before .before .before .before .enum-told .given .1)) ((ap (λ w. reducedIn (s .p) w (now (s .f)) (now (s .g))) (sym (c .before .before .before .before .before .before .before .before .before .before .before .before .before .before .before .before .before .before .before .stage-of .ensures)) ∙ sym (c .before .before .before .before .before .before .before .before .before .before .before .before .before .both-reduced .ensures)) ∙ ap passed (c .before .before .before .before .before .before .before .before .before .before .before .enum-told3 .given .1))))
 
 pub challenge-full-spec : {M : Type 1} → statement M
 challenge-full-spec =
     tie.close
     (tie.spec
+    stage-of-requires
+    both-long-requires
+    enum-told
+    enum-told-2
+    refuse-requires
+    returns
+    both-reduced-requires
+    enum-told-3
+    enum-told-4
+    refuse-requires-2
+    same-length
+    same-length-2
+    returns-2
     fold-requires
     fold-requires-2
     keep-challenge-requires
     answered-requires
-    same-length
-    same-length-2
-    returns)
+    same-length-3
+    same-length-4
+    returns-3)
