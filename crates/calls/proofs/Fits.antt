@@ -23,6 +23,7 @@ use Rattle.phase.specs.declared.Kind.{Kind}
 use Rattle.phase.specs.declared.Kind.the-variants.{Shut}
 use Rattle.phase.specs.Cases.{waits}
 use Rattle.phase.specs.Order.{roundFits, kindFits}
+use Rattle.pass.specs.Formed.{turnFormed}
 use Rattle.prover.specs.WellFormed.{runFormed, wellFormed}
 use Rattle.item.specs.declared.Start.{Start}
 use Rattle.item.specs.declared.Given.{Given}
