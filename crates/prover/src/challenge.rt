@@ -3,9 +3,7 @@ ghost use mathlib.Core.Path.{_≡_};
 ghost use Prim.Native.Nat.{_<_};
 ghost use Rattle.item.specs.Start.{modulusOf};
 ghost use Rattle.prover.specs.Records.{out, leaves};
-ghost use Rattle.refusal.specs.Outcome.{answered};
-ghost use Rattle.prover.specs.Full.{lentFolds};
-ghost use Rattle.prover.specs.Challenge.{keptChallenge, challengedSmall, challengedFull, challengeCall};
+ghost use Rattle.prover.specs.Challenge.{keptChallenge, challenged, challengeCall};
 use super::Answer;
 use super::Run;
 use super::Step;
@@ -41,19 +39,16 @@ fn keep_challenge(run: Run, c: u32) -> Run
     }
 }
 
-// A challenge in small mode. Nothing is lent.
-fn challenge_small(run: Run, pass: Pass, c: u32) -> Step
+// A challenge whose number is good. In full mode it "writes as many as the new fold is long; all other places stay"; in small mode
+// nothing is lent.
+fn take(p: u32, run: Run, pass: Pass, c: u32, f: &mut [u32], g: &mut [u32]) -> Step
     requires { ⌜ run .round < 15 ⌝ }
-    ensures { λ r. ⌜ r ≡ challengedSmall run pass c ⌝ }
+    ensures { λ r. ⌜ out r (now (f .exit)) (now (g .exit)) ≡ leaves run pass (now (f .entry)) (now (g .entry)) (challenged p run pass c (now (f .entry)) (now (g .entry)) (run .mode)) ⌝ }
 {
-    answered(keep_challenge(run, c), pass, Answer::Challenged)
-}
-
-// A challenge in full mode: "writes as many as the new fold is long; all other places stay".
-fn challenge_full(p: u32, run: Run, pass: Pass, c: u32, f: &mut [u32], g: &mut [u32]) -> Step
-    requires { ⌜ run .round < 15 ⌝ }
-    ensures { λ r. ⌜ out r (now (f .exit)) (now (g .exit)) ≡ leaves run pass (now (f .entry)) (now (g .entry)) (lentFolds p run (now (f .entry)) (now (g .entry)) (answered (challengedFull p run pass c (now (f .entry)) (now (g .entry))))) ⌝ }
-{
+    let mode = run.mode;
+    if cases::is_small(mode) {
+        return answered(keep_challenge(run, c), pass, Answer::Challenged);
+    }
     let stage = stage_of(run);
     let Check::Passed = lent::both_long(stage, f.len(), g.len()) else {
         return refuse(run, pass, refusal::BUFFER);
@@ -81,11 +76,6 @@ impl Run {
         let Checked::Number(number) = Field::nonzero_in(p, c) else {
             return refuse(self, pass, refusal::ARGUMENT);
         };
-        let x = number.to_u32();
-        let mode = self.mode;
-        if cases::is_small(mode) {
-            return challenge_small(self, pass, x);
-        }
-        challenge_full(p, self, pass, x, f, g)
+        take(p, self, pass, number.to_u32(), f, g)
     }
 }

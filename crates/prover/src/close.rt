@@ -6,7 +6,7 @@ ghost use mathlib.Core.List.{[]};
 ghost use Rattle.item.specs.Start.{modulusOf};
 ghost use Rattle.phase.specs.Order.{roundFits};
 ghost use Rattle.prover.specs.Records.{out};
-ghost use Rattle.prover.specs.Close.{totalStep, messageStep, endsStep, openingStep, changedStep, finished, closing, closeCall, leavesStep, goneTo, withMessage, withEnds, inFull};
+ghost use Rattle.prover.specs.Close.{totalStep, messageStep, endsStep, openingStep, changedStep, finished, closing, closeCall, leavesStep, withMessage, withEnds, inFull};
 use super::Answer;
 use super::Run;
 use super::Step;
@@ -24,12 +24,6 @@ use phase::order;
 use phase::turns;
 use refusal::Check;
 
-pub fn gone_to(run: Run, next: Next) -> Run
-    ensures { λ r. ⌜ r ≡ goneTo run next ⌝ }
-{
-    Run { next, ..run }
-}
-
 fn close_total(run: Run, pass: Pass) -> Step
     ensures { λ r. ⌜ r ≡ totalStep run pass ⌝ }
 {
@@ -40,7 +34,7 @@ fn close_total(run: Run, pass: Pass) -> Step
         let total = pass.total;
         return answered(Run { next, total, ..run }, shut, Answer::Total(total));
     }
-    answered(gone_to(run, next), shut, Answer::FieldTotal(pass.dot))
+    answered(Run { next, ..run }, shut, Answer::FieldTotal(pass.dot))
 }
 
 // The run with the message of its round.

@@ -1,13 +1,11 @@
 use mathlib.Core.Path.{sym, ap, _∙_}
 use denote.Ref.{now}
-use Rattle.refusal.specs.Outcome.{answered}
 use Rattle.field.specs.Number.{isNonzero}
 use Rattle.refusal.specs.Check.{passed}
 use Rattle.prover.specs.Records.{leaves}
-use Rattle.prover.specs.Full.{lentFolds}
-use Rattle.prover.specs.Challenge.{challengeTurn, challengedFull, challenged, challengeCall}
+use Rattle.prover.specs.Challenge.{challengeTurn, challenged, challengeCall}
 use Rattle.prover.proofs.FullFacts.{challenge-round}
-use Rattle.prover.proofs.FullOutcomes.{number-turn, number-bad, number-good, mode-small, mode-full}
+use Rattle.prover.proofs.FullOutcomes.{number-turn, number-bad, number-good}
 use Rattle.field.proofs.Checks.{number-nonzero, none-nonzero}
 use borrow.Author.Needs.{needs}
 use Rattle.phase.specs.Turn as turn
@@ -59,24 +57,10 @@ returns-2 c =
 to-u32-requires : tie.Need-to-u32-requires
 to-u32-requires c κs = search needs
 
-is-small-requires : tie.Need-is-small-requires
-is-small-requires c κs = search needs
-
-challenge-small-requires : tie.Need-challenge-small-requires
-challenge-small-requires c κs =
+take-requires : tie.Need-take-requires
+take-requires c κs =
     let s = c .before .before .before .before .before .before .before .before .before .before .before .before .before .before .args in
     challenge-round (c .before .before .before .before .before .before .before .before .before .before .before .modulus-of .result) (s .self) (s .pass) ((ap (λ w. turn.challengeTurn w (s .self .next)) (sym (c .before .before .before .before .before .before .before .before .before .before .well-formed .ensures)) ∙ sym (c .before .before .before .before .before .before .before .before .before .challenge .ensures)) ∙ ap passed (c .before .before .before .before .before .before .before .enum-told .given .1)) .few
-
-returns-3 : tie.Need-returns-3
-unfolding challengeCall
-returns-3 c =
-    let s = c .before .before .before .before .before .before .before .before .before .before .before .before .before .before .before .args in
-    rw (c .challenge-small .ensures, c .before .before .before .to-u32 .ensures ∙ number-nonzero (c .before .before .before .before .before .before .before .before .before .before .before .before .modulus-of .result) (s .c) (c .before .before .before .before .before .number .given .0 .0) (sym (c .before .before .before .before .before .before .before .nonzero-in .ensures) ∙ c .before .before .before .before .before .number .given .1) .1) (sym (number-good (c .before .before .before .before .before .before .before .before .before .before .before .before .modulus-of .result) (s .self) (s .pass) (now (s .f)) (now (s .g)) (challengeTurn (c .before .before .before .before .before .before .before .before .before .before .before .before .modulus-of .result) (s .self) (s .pass)) (isNonzero (c .before .before .before .before .before .before .before .before .before .before .before .before .modulus-of .result) (s .c)) (challenged (c .before .before .before .before .before .before .before .before .before .before .before .before .modulus-of .result) (s .self) (s .pass) (s .c) (now (s .f)) (now (s .g)) (s .self .mode)) ((ap (λ w. turn.challengeTurn w (s .self .next)) (sym (c .before .before .before .before .before .before .before .before .before .before .before .well-formed .ensures)) ∙ sym (c .before .before .before .before .before .before .before .before .before .before .challenge .ensures)) ∙ ap passed (c .before .before .before .before .before .before .before .before .enum-told .given .1)) (number-nonzero (c .before .before .before .before .before .before .before .before .before .before .before .before .modulus-of .result) (s .c) (c .before .before .before .before .before .number .given .0 .0) (sym (c .before .before .before .before .before .before .before .nonzero-in .ensures) ∙ c .before .before .before .before .before .number .given .1) .0) ∙ ap (leaves (s .self) (s .pass) (now (s .f)) (now (s .g))) (mode-small (c .before .before .before .before .before .before .before .before .before .before .before .before .modulus-of .result) (s .self) (s .pass) (now (s .f)) (now (s .g)) (s .c) (s .self .mode) (sym (c .before .before .is-small .ensures) ∙ c .before .if1 .taken))) ∙ ap (λ p. leaves (s .self) (s .pass) (now (s .f)) (now (s .g)) (challengeCall p (s .self) (s .pass) (s .c) (now (s .f)) (now (s .g)))) (c .before .before .before .before .before .before .before .before .before .before .before .before .modulus-of .ensures))
-
-challenge-full-requires : tie.Need-challenge-full-requires
-challenge-full-requires c κs =
-    let s = c .before .before .before .before .before .before .before .before .before .before .before .before .before .before .before .before .args in
-    challenge-round (c .before .before .before .before .before .before .before .before .before .before .before .before .before .modulus-of .result) (s .self) (s .pass) ((ap (λ w. turn.challengeTurn w (s .self .next)) (sym (c .before .before .before .before .before .before .before .before .before .before .before .before .well-formed .ensures)) ∙ sym (c .before .before .before .before .before .before .before .before .before .before .before .challenge .ensures)) ∙ ap passed (c .before .before .before .before .before .before .before .before .before .enum-told .given .1)) .few
 
 same-length : tie.Need-same-length
 same-length c = search needs
@@ -84,14 +68,14 @@ same-length c = search needs
 same-length-2 : tie.Need-same-length-2
 same-length-2 c = search needs
 
-returns-4 : tie.Need-returns-4
+returns-3 : tie.Need-returns-3
 unfolding challengeCall
-returns-4 c =
-    let s = c .before .before .before .before .before .before .before .before .before .before .before .before .before .before .before .before .before .before .before .before .before .args in
-    let x = c .before .before .before .before .before .before .before .before .before .to-u32 .ensures ∙ number-nonzero (c .before .before .before .before .before .before .before .before .before .before .before .before .before .before .before .before .before .before .modulus-of .result) (s .c) (c .before .before .before .before .before .before .before .before .before .before .before .number .given .0 .0) (sym (c .before .before .before .before .before .before .before .before .before .before .before .before .before .nonzero-in .ensures) ∙ c .before .before .before .before .before .before .before .before .before .before .before .number .given .1) .1 in
-    c .before .before .before .before .challenge-full .ensures
-    ∙ ap (λ x. leaves (s .self) (s .pass) (now (s .f)) (now (s .g)) (lentFolds (c .before .before .before .before .before .before .before .before .before .before .before .before .before .before .before .before .before .before .modulus-of .result) (s .self) (now (s .f)) (now (s .g)) (answered (challengedFull (c .before .before .before .before .before .before .before .before .before .before .before .before .before .before .before .before .before .before .modulus-of .result) (s .self) (s .pass) x (now (s .f)) (now (s .g)))))) x
-    ∙ sym (number-good (c .before .before .before .before .before .before .before .before .before .before .before .before .before .before .before .before .before .before .modulus-of .result) (s .self) (s .pass) (now (s .f)) (now (s .g)) (challengeTurn (c .before .before .before .before .before .before .before .before .before .before .before .before .before .before .before .before .before .before .modulus-of .result) (s .self) (s .pass)) (isNonzero (c .before .before .before .before .before .before .before .before .before .before .before .before .before .before .before .before .before .before .modulus-of .result) (s .c)) (challenged (c .before .before .before .before .before .before .before .before .before .before .before .before .before .before .before .before .before .before .modulus-of .result) (s .self) (s .pass) (s .c) (now (s .f)) (now (s .g)) (s .self .mode)) ((ap (λ w. turn.challengeTurn w (s .self .next)) (sym (c .before .before .before .before .before .before .before .before .before .before .before .before .before .before .before .before .before .well-formed .ensures)) ∙ sym (c .before .before .before .before .before .before .before .before .before .before .before .before .before .before .before .before .challenge .ensures)) ∙ ap passed (c .before .before .before .before .before .before .before .before .before .before .before .before .before .before .enum-told .given .1)) (number-nonzero (c .before .before .before .before .before .before .before .before .before .before .before .before .before .before .before .before .before .before .modulus-of .result) (s .c) (c .before .before .before .before .before .before .before .before .before .before .before .number .given .0 .0) (sym (c .before .before .before .before .before .before .before .before .before .before .before .before .before .nonzero-in .ensures) ∙ c .before .before .before .before .before .before .before .before .before .before .before .number .given .1) .0) ∙ ap (leaves (s .self) (s .pass) (now (s .f)) (now (s .g))) (mode-full (c .before .before .before .before .before .before .before .before .before .before .before .before .before .before .before .before .before .before .modulus-of .result) (s .self) (s .pass) (now (s .f)) (now (s .g)) (s .c) (s .self .mode) (sym (c .before .before .before .before .before .before .before .before .is-small .ensures) ∙ c .before .before .before .before .before .before .before .if1 .left))) ∙ ap (λ p. leaves (s .self) (s .pass) (now (s .f)) (now (s .g)) (challengeCall p (s .self) (s .pass) (s .c) (now (s .f)) (now (s .g)))) (c .before .before .before .before .before .before .before .before .before .before .before .before .before .before .before .before .before .before .modulus-of .ensures)
+returns-3 c =
+    let s = c .before .before .before .before .before .before .before .before .before .before .before .before .before .before .before .before .before .before .before .args in
+    let x = c .before .before .before .before .before .before .before .to-u32 .ensures ∙ number-nonzero (c .before .before .before .before .before .before .before .before .before .before .before .before .before .before .before .before .modulus-of .result) (s .c) (c .before .before .before .before .before .before .before .before .before .number .given .0 .0) (sym (c .before .before .before .before .before .before .before .before .before .before .before .nonzero-in .ensures) ∙ c .before .before .before .before .before .before .before .before .before .number .given .1) .1 in
+    c .before .before .before .before .take .ensures
+    ∙ ap (λ x. leaves (s .self) (s .pass) (now (s .f)) (now (s .g)) (challenged (c .before .before .before .before .before .before .before .before .before .before .before .before .before .before .before .before .modulus-of .result) (s .self) (s .pass) x (now (s .f)) (now (s .g)) (s .self .mode))) x
+    ∙ sym (number-good (c .before .before .before .before .before .before .before .before .before .before .before .before .before .before .before .before .modulus-of .result) (s .self) (s .pass) (now (s .f)) (now (s .g)) (challengeTurn (c .before .before .before .before .before .before .before .before .before .before .before .before .before .before .before .before .modulus-of .result) (s .self) (s .pass)) (isNonzero (c .before .before .before .before .before .before .before .before .before .before .before .before .before .before .before .before .modulus-of .result) (s .c)) (challenged (c .before .before .before .before .before .before .before .before .before .before .before .before .before .before .before .before .modulus-of .result) (s .self) (s .pass) (s .c) (now (s .f)) (now (s .g)) (s .self .mode)) ((ap (λ w. turn.challengeTurn w (s .self .next)) (sym (c .before .before .before .before .before .before .before .before .before .before .before .before .before .before .before .well-formed .ensures)) ∙ sym (c .before .before .before .before .before .before .before .before .before .before .before .before .before .before .challenge .ensures)) ∙ ap passed (c .before .before .before .before .before .before .before .before .before .before .before .before .enum-told .given .1)) (number-nonzero (c .before .before .before .before .before .before .before .before .before .before .before .before .before .before .before .before .modulus-of .result) (s .c) (c .before .before .before .before .before .before .before .before .before .number .given .0 .0) (sym (c .before .before .before .before .before .before .before .before .before .before .before .nonzero-in .ensures) ∙ c .before .before .before .before .before .before .before .before .before .number .given .1) .0)) ∙ ap (λ p. leaves (s .self) (s .pass) (now (s .f)) (now (s .g)) (challengeCall p (s .self) (s .pass) (s .c) (now (s .f)) (now (s .g)))) (c .before .before .before .before .before .before .before .before .before .before .before .before .before .before .before .before .modulus-of .ensures)
 
 pub challenge-spec : {M : Type 1} → statement M
 challenge-spec =
@@ -110,10 +94,7 @@ challenge-spec =
     refuse-requires-2
     returns-2
     to-u32-requires
-    is-small-requires
-    challenge-small-requires
-    returns-3
-    challenge-full-requires
+    take-requires
     same-length
     same-length-2
-    returns-4)
+    returns-3)

@@ -1,4 +1,4 @@
-use mathlib.Core.Path.{_≡_, sym, ap, _∙_}
+use mathlib.Core.Path.{_≡_}
 use mir.Syntax.{w64}
 use mir.Val.{toZ, ofZ}
 use borrow.Author.Needs.{needs}
@@ -20,21 +20,14 @@ returns c =
     let t : toZ w64 (ofZ w64 z) ≡ z = search needs in
     rw (c .answered .ensures, c .before .before .before .before .before .before .empty-pass .ensures, c .before .before .before .before .before .before .before .round-or-ends .ensures, t, c .before .before .before .before .before .if1 .taken)
 
-gone-to-requires : tie.Need-gone-to-requires
-gone-to-requires c κs = search needs
-
 answered-requires-2 : tie.Need-answered-requires-2
 answered-requires-2 c κs = search needs
 
 returns-2 : tie.Need-returns-2
 returns-2 c =
-    rw (
-      c .answered2 .ensures,
-      c .before .gone-to .ensures,
-      c .before .before .before .empty-pass .ensures,
-      c .before .before .before .before .round-or-ends .ensures,
-      c .before .before .if1 .left,
-    )
+    let z = c .before .before .before .before .before .before .before .before .before .args .run .total in
+    let t : toZ w64 (ofZ w64 z) ≡ z = search needs in
+    rw (c .answered2 .ensures, c .before .before .before .before .before .before .empty-pass .ensures, c .before .before .before .before .before .before .before .round-or-ends .ensures, t, c .before .before .before .before .before .if1 .left)
 
 pub close-total-spec : {M : Type 1} → statement M
 close-total-spec =
@@ -44,6 +37,5 @@ close-total-spec =
     empty-pass-requires
     answered-requires
     returns
-    gone-to-requires
     answered-requires-2
     returns-2)
