@@ -38,29 +38,29 @@ use Rattle.calls.specs.Step.{step}
 use Rattle.calls.specs.World.{freshWorld}
 use Rattle.calls.specs.Table.{table}
 use Rattle.calls.specs.Example.{P, tripStart, trip, callsOf, answersOf, refusalsOf, lastOf, TripList}
-use Rattle.calls.specs.ExampleSmall.{inSmall}
-use Rattle.calls.specs.ExampleFull.{inFull}
+use Rattle.calls.specs.ExampleSmall.{smallCalls}
+use Rattle.calls.specs.ExampleFull.{fullCalls}
 use Rattle.calls.specs.ExampleChange.{changing}
 use Rattle.calls.proofs.ExampleKept.{allTrue, all-sized, all-kept}
 
 module _ (f g : List ℕ) where
-  pub small-run : TripList inSmall (freshWorld tripStart f g)
+  pub small-run : TripList smallCalls (freshWorld tripStart f g)
   unfolding each allTrue lastOf callsOf answersOf refusalsOf table sumOf step messageCall giveCall openCall openAtCall closeCall challengeCall toFullCall writeCall wellFormed turnFormed passFormed powers firstFrom inLimits sizeIn32 partsOf takes takesIn entersIn summedItem enteredIn plus image residue negMod addMod mulMod valuesOf tripleValues bytes bits allBelow numbers proofHeader writeProof writtenIn hornerAt arrived topAt climbFrom evaluatedFrom climbed evaluated meetsAt summed settled sumsAfter stacksFit entered streamed paddingFrom paddingBelow left placed placedAll placedIn
   small-run =
       record {
-        sized = all-sized P (freshWorld tripStart f g) (callsOf inSmall) refl;
-        kept = all-kept P true trip (freshWorld tripStart f g) (callsOf inSmall) refl;
+        sized = all-sized P (freshWorld tripStart f g) (callsOf smallCalls) refl;
+        kept = all-kept P true trip (freshWorld tripStart f g) (callsOf smallCalls) refl;
         replies = refl;
         refusals = refl;
         file = refl;
       }
 
-  pub full-run : TripList inFull (freshWorld tripStart f g)
+  pub full-run : TripList fullCalls (freshWorld tripStart f g)
   unfolding each allTrue lastOf callsOf answersOf refusalsOf every table sumOf step messageGiven messageCall endsCall giveCall openCall toSmallCall closeCall challengedFull challengeCall cleared toFullCall openingGiven openingCall writeCall wellFormed turnFormed passFormed powers firstFrom inLimits sizeIn32 partsOf takes takesIn entersIn summedItem enteredIn plus image residue negMod addMod mulMod sum foldWith overwrite foldSlice messageSlice tripleValues bytes bits allBelow numbers proofHeader writeProof writtenIn hornerAt arrived topAt climbFrom evaluatedFrom climbed evaluated meetsAt summed settled sumsAfter stacksFit entered streamed paddingFrom paddingBelow left placed placedAll placedIn
   full-run =
       record {
-        sized = all-sized P (freshWorld tripStart f g) (callsOf inFull) refl;
-        kept = all-kept P true trip (freshWorld tripStart f g) (callsOf inFull) refl;
+        sized = all-sized P (freshWorld tripStart f g) (callsOf fullCalls) refl;
+        kept = all-kept P true trip (freshWorld tripStart f g) (callsOf fullCalls) refl;
         replies = refl;
         refusals = refl;
         file = refl;

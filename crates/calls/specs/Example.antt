@@ -99,8 +99,8 @@ answeredPass opens closes =
     ∷ []
 
 -- the lines of the output
-abbrev pub tripTotal : Answer
-tripTotal = says (reply.total (negsuc 5099))
+abbrev pub totalGiven : Answer
+totalGiven = says (reply.total (negsuc 5099))
 
 abbrev pub round0 : Answer
 round0 = says (reply.message 2147482047 2147478297 2147480147)

@@ -3,12 +3,12 @@ use mathlib.Core.List.{List, [], _∷_, _++_}
 use Rattle.prover.specs.Reply as reply
 use Rattle.calls.specs.declared.Call.the-variants as call
 use Rattle.calls.specs.Meaning.{says}
-use Rattle.calls.specs.Example.{item0, item1, item2, alone, lent, proofInto, Exchange, refuses, answeredPass, tripTotal, round0, round1, tripEnds, tripOpening}
+use Rattle.calls.specs.Example.{item0, item1, item2, alone, lent, proofInto, Exchange, refuses, answeredPass, totalGiven, round0, round1, tripEnds, tripOpening}
 
 abbrev pub changing : List Exchange
 changing =
     (lent call.ToFull (91 ∷ 92 ∷ 93 ∷ []) (81 ∷ 82 ∷ 83 ∷ []), refuses 10)
-    ∷ answeredPass call.OpenPass tripTotal
+    ∷ answeredPass call.OpenPass totalGiven
     ++ answeredPass call.OpenPass round0
     ++ (lent call.ToFull (91 ∷ 92 ∷ 93 ∷ []) (81 ∷ 82 ∷ 83 ∷ []), refuses 10)
     ∷ (alone (call.Challenge 2), says reply.challenged)

@@ -3,11 +3,11 @@ use mathlib.Core.List.{List, [], _∷_, _++_}
 use Rattle.prover.specs.Reply as reply
 use Rattle.calls.specs.declared.Call.the-variants as call
 use Rattle.calls.specs.Meaning.{says}
-use Rattle.calls.specs.Example.{P, item0, item1, item2, alone, lent, proofInto, Exchange, refuses, answeredPass, tripTotal, round0, round1, tripEnds, tripOpening}
+use Rattle.calls.specs.Example.{P, item0, item1, item2, alone, lent, proofInto, Exchange, refuses, answeredPass, totalGiven, round0, round1, tripEnds, tripOpening}
 
-abbrev pub inFull : List Exchange
-inFull =
-    answeredPass call.OpenPass tripTotal
+abbrev pub fullCalls : List Exchange
+fullCalls =
+    answeredPass call.OpenPass totalGiven
     ++ (lent call.Ends (1 ∷ 2 ∷ 3 ∷ []) (1 ∷ 2 ∷ 3 ∷ []), refuses 10)
     ∷ (lent call.ToFull (91 ∷ 92 ∷ 93 ∷ 94 ∷ 95 ∷ []) (1 ∷ 2 ∷ 3 ∷ []), refuses 9)
     ∷ (lent call.ToFull (91 ∷ 92 ∷ 93 ∷ 94 ∷ 95 ∷ []) (81 ∷ 82 ∷ 83 ∷ 84 ∷ 85 ∷ []), says reply.opened)

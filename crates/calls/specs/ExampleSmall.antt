@@ -7,10 +7,10 @@ use Rattle.prover.specs.Reply as reply
 use Rattle.pass.specs.Values.{noValues}
 use Rattle.calls.specs.declared.Call.the-variants as call
 use Rattle.calls.specs.Meaning.{says}
-use Rattle.calls.specs.Example.{P, item0, item1, item2, alone, proofInto, Exchange, refuses, answeredPass, tripTotal, round0, round1, tripEnds, tripOpening}
+use Rattle.calls.specs.Example.{P, item0, item1, item2, alone, proofInto, Exchange, refuses, answeredPass, totalGiven, round0, round1, tripEnds, tripOpening}
 
-abbrev pub inSmall : List Exchange
-inSmall =
+abbrev pub smallCalls : List Exchange
+smallCalls =
     (alone call.Message, refuses 10)
     ∷ (alone item2, refuses 10)
     ∷ (alone call.OpenPass, says reply.opened)
@@ -21,7 +21,7 @@ inSmall =
     ∷ (alone call.Close, refuses 8)
     ∷ (alone item0, says reply.taken)
     ∷ (alone item0, refuses 8)
-    ∷ (alone call.Close, tripTotal)
+    ∷ (alone call.Close, totalGiven)
     ∷ answeredPass call.OpenPass round0
     ++ (alone call.OpenPass, refuses 10)
     ∷ (alone call.ToFull, refuses 10)

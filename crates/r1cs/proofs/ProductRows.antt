@@ -11,7 +11,7 @@ use Rattle.refusal.specs.Outcome.{Outcome, answered, refused, refusedAt}
 use Rattle.vector.specs.Slice.{overwrite}
 use Rattle.wire.specs.Matrix.{Shape, matrixRounds, readMatrix}
 use Rattle.wire.proofs.MatrixSays.{GoodMatrix, MatrixSays, matrix-says}
-use Rattle.r1cs.specs.Product.{Fits, productOf, ruleVector, afterFile, productIn}
+use Rattle.r1cs.specs.Product.{Fits, productOf, ruleVector, afterShape, productIn}
 
 -- the answer of an outcome, beside the buffer that it leaves
 module _ (p : ℕ) (file z out : List ℕ) (call : Outcome ℕ) where
@@ -29,18 +29,18 @@ module _ (p : ℕ) (file z out : List ℕ) (call : Outcome ℕ) where
   left-done n after e q = (sym e, q ∙ sym (ap (productIn p file z out) e))
 
 module _ (p : ℕ) (z out : List ℕ) (shape : Shape) where
-  pub row-vector : ruleVector p (2 ^ (shape .rounds)) z ≡ false → afterFile p z out (answered shape) ≡ refused number.vector
-  unfolding afterFile
+  pub row-vector : ruleVector p (2 ^ (shape .rounds)) z ≡ false → afterShape p z out (answered shape) ≡ refused number.vector
+  unfolding afterShape
   row-vector a = rw a
 
   pub row-buffer : ruleVector p (2 ^ (shape .rounds)) z ≡ true → leb (2 ^ (shape .rounds)) (length out) ≡ false
-      → afterFile p z out (answered shape) ≡ refused number.buffer
-  unfolding afterFile
+      → afterShape p z out (answered shape) ≡ refused number.buffer
+  unfolding afterShape
   row-buffer a b = rw (a, b)
 
   pub row-done : ruleVector p (2 ^ (shape .rounds)) z ≡ true → leb (2 ^ (shape .rounds)) (length out) ≡ true
-      → afterFile p z out (answered shape) ≡ answered (shape .rounds)
-  unfolding afterFile
+      → afterShape p z out (answered shape) ≡ answered (shape .rounds)
+  unfolding afterShape
   row-done a b = rw (a, b)
 
 -- what a file that was read says

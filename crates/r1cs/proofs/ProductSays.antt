@@ -11,7 +11,7 @@ use Rattle.refusal.specs.Outcome.{Outcome, answered, refused, refusedAt}
 use Rattle.refusal.proofs.Outcome.{failed, fails, require-says}
 use Rattle.wire.specs.Matrix.{Shape, readMatrix}
 use Rattle.wire.proofs.MatrixSays.{GoodMatrix, MatrixRefused, Faulty, MatrixSays, matrix-says, matrix-said}
-use Rattle.r1cs.specs.Product.{ruleVector, afterFile, productCall}
+use Rattle.r1cs.specs.Product.{ruleVector, afterShape, productCall}
 use Rattle.r1cs.proofs.Vectors.{RuleVector, vector-of, of-vector}
 use Rattle.r1cs.proofs.ProductRows.{row-vector, row-buffer, row-done}
 
@@ -35,8 +35,8 @@ ProductSays p file z out (refused k) = ProductRefused p file z out k
 ProductSays p file z out (refusedAt k i) = Faulty p file k i
 
 module _ (p : ℕ) (file z out : List ℕ) where
-  after-says : (o : Outcome Shape) → MatrixSays p file o → ProductSays p file z out (afterFile p z out o)
-  unfolding afterFile
+  after-says : (o : Outcome Shape) → MatrixSays p file o → ProductSays p file z out (afterShape p z out o)
+  unfolding afterShape
   after-says (answered shape) good =
       let n = shape .rounds in
       require-says (ProductSays p file z out) (ruleVector p (2 ^ n) z) _ _
@@ -53,24 +53,24 @@ module _ (p : ℕ) (file z out : List ℕ) where
   product-says = after-says (readMatrix p file) (matrix-says p file)
 
   -- what follows a file that was read
-  past-file : (shape : Shape) → GoodMatrix p file shape → productCall p file z out ≡ afterFile p z out (answered shape)
-  past-file shape good = ap (afterFile p z out) (matrix-said p file (answered shape) good)
+  past-file : (shape : Shape) → GoodMatrix p file shape → productCall p file z out ≡ afterShape p z out (answered shape)
+  past-file shape good = ap (afterShape p z out) (matrix-said p file (answered shape) good)
 
   -- each outcome, both ways
   pub product-said : (o : Outcome ℕ) → ProductSays p file z out o → productCall p file z out ≡ o
-  unfolding afterFile
+  unfolding afterShape
   product-said (answered n) h =
       let shape : Shape = record { rounds = n; count = h .count } in
       past-file shape (h .matrix)
       ∙ row-done p z out shape (of-vector p (2 ^ n) z (h .vector)) (le-leb (2 ^ n) (length out) (h .buffer))
-  product-said (refused k) (by-file h) = ap (afterFile p z out) (matrix-said p file (refused k) h)
+  product-said (refused k) (by-file h) = ap (afterShape p z out) (matrix-said p file (refused k) h)
   product-said (refused k) (by-vector shape good bad) =
       let size = 2 ^ (shape .rounds) in
       past-file shape good ∙ row-vector p z out shape (fails (ruleVector p size z) (λ e. bad (vector-of p size z e)))
   product-said (refused k) (by-buffer shape good v short) =
       let size = 2 ^ (shape .rounds) in
       past-file shape good ∙ row-buffer p z out shape (of-vector p size z v) (lt-leb size (length out) short)
-  product-said (refusedAt k i) h = ap (afterFile p z out) (matrix-said p file (refusedAt k i) h)
+  product-said (refusedAt k i) h = ap (afterShape p z out) (matrix-said p file (refusedAt k i) h)
 
   -- an answered product
   pub product-answered : (n : ℕ) → (productCall p file z out ≡ answered n) ↔ Multiplies p file z out n

@@ -10,7 +10,7 @@ use Rattle.vector.specs.Slice.{overwrite, every}
 use Rattle.wire.specs.Number.{num, numAt}
 use Rattle.wire.specs.Header.{marked}
 use Rattle.wire.specs.Matrix.{inOrder, readMatrix}
-use Rattle.r1cs.specs.Product.{addend, matrixIn, ruleVector, afterFile, productCall, productIn}
+use Rattle.r1cs.specs.Product.{addend, matrixIn, ruleVector, afterShape, productCall, productIn}
 use Rattle.r1cs.specs.Claim.{claimCall}
 
 abbrev P : ℕ
@@ -29,7 +29,7 @@ unfolding addend sum numAt num
 no-entry = refl
 
 pub answers : productCall P file (3 ∷ 4 ∷ []) (9 ∷ 9 ∷ 9 ∷ []) ≡ answered 1
-unfolding afterFile ruleVector every readMatrix marked numAt num requireAll inOrder
+unfolding afterShape ruleVector every readMatrix marked numAt num requireAll inOrder
 answers = refl
 
 -- 11·4 and 7·3; the third place is kept
@@ -44,19 +44,19 @@ reduces = refl
 
 -- "value 0", "rule vector's length not 2^n", "a number P or more", a buffer "shorter than the .. product"
 pub zero-value : productCall P (set file 20 0) (3 ∷ 4 ∷ []) (9 ∷ 9 ∷ []) ≡ refusedAt 15 1
-unfolding afterFile ruleVector every readMatrix marked numAt num requireAll inOrder
+unfolding afterShape ruleVector every readMatrix marked numAt num requireAll inOrder
 zero-value = refl
 
 pub long-vector : productCall P file (3 ∷ 4 ∷ 5 ∷ []) (9 ∷ 9 ∷ []) ≡ refused 16
-unfolding afterFile ruleVector every readMatrix marked numAt num requireAll inOrder
+unfolding afterShape ruleVector every readMatrix marked numAt num requireAll inOrder
 long-vector = refl
 
 pub unreduced-vector : productCall P file (3 ∷ P ∷ []) (9 ∷ []) ≡ refused 16
-unfolding afterFile ruleVector every readMatrix marked numAt num requireAll inOrder
+unfolding afterShape ruleVector every readMatrix marked numAt num requireAll inOrder
 unreduced-vector = refl
 
 pub short-buffer : productCall P file (3 ∷ 4 ∷ []) (9 ∷ []) ≡ refused 9
-unfolding afterFile ruleVector every readMatrix marked numAt num requireAll inOrder
+unfolding afterShape ruleVector every readMatrix marked numAt num requireAll inOrder
 short-buffer = refl
 
 -- 44 + 21·10: the first item on power 0

@@ -51,16 +51,16 @@ unfoldable pub ruleVector : ℕ → ℕ → List ℕ → Bool
 ruleVector p size xs = cond (eqb (length xs) size) (allReduced p size xs) false
 
 -- the rows of the table that follow the file's: the vector (16), then the buffer (9)
-unfoldable pub afterFile : ℕ → List ℕ → List ℕ → Outcome Shape → Outcome ℕ
-afterFile p z out (answered shape) =
+unfoldable pub afterShape : ℕ → List ℕ → List ℕ → Outcome Shape → Outcome ℕ
+afterShape p z out (answered shape) =
     require (ruleVector p (2 ^ shape .rounds) z) number.vector
     (require (leb (2 ^ shape .rounds) (length out)) number.buffer (answered (shape .rounds)))
-afterFile p z out (refused k) = refused k
-afterFile p z out (refusedAt k i) = refusedAt k i
+afterShape p z out (refused k) = refused k
+afterShape p z out (refusedAt k i) = refusedAt k i
 
 -- the file's rows (1 to 4, 13 to 15), then those; an answered product answers n
 abbrev pub productCall : ℕ → List ℕ → List ℕ → List ℕ → Outcome ℕ
-productCall p file z out = afterFile p z out (readMatrix p file)
+productCall p file z out = afterShape p z out (readMatrix p file)
 
 -- the buffer after: A z in its first 2^n places, every other place kept; refused: "state and buffers are unchanged"
 unfoldable pub productIn : ℕ → List ℕ → List ℕ → List ℕ → Outcome ℕ → List ℕ

@@ -3,7 +3,7 @@ ghost use mathlib.Core.Path.{_≡_};
 ghost use Rattle.refusal.specs.Outcome.{answered};
 ghost use Rattle.field.specs.Modulus.{modulus};
 ghost use Rattle.wire.specs.Matrix.{readMatrix};
-ghost use Rattle.r1cs.specs.Product.{multipliedOf, productCall, productLeaves, productIn, afterFile};
+ghost use Rattle.r1cs.specs.Product.{multipliedOf, productCall, productLeaves, productIn, afterShape};
 ghost use Rattle.r1cs.specs.Claim.{claimedOf, claimCall};
 use field::Checked;
 use field::Field;
@@ -56,7 +56,7 @@ fn multiply(
     out: &mut [u32],
 ) -> Multiplied
     requires { ⌜ readMatrix p (now matrix) ≡ answered (record { rounds = rounds; count = count }) ⌝ }
-    ensures { λ r. ⌜ (multipliedOf r ≡ afterFile p (now (z .entry)) (now (out .entry)) (answered (record { rounds = rounds; count = count }))) × (now (out .exit) ≡ productIn p (now (matrix .entry)) (now (z .entry)) (now (out .entry)) (afterFile p (now (z .entry)) (now (out .entry)) (answered (record { rounds = rounds; count = count })))) ⌝ }
+    ensures { λ r. ⌜ (multipliedOf r ≡ afterShape p (now (z .entry)) (now (out .entry)) (answered (record { rounds = rounds; count = count }))) × (now (out .exit) ≡ productIn p (now (matrix .entry)) (now (z .entry)) (now (out .entry)) (afterShape p (now (z .entry)) (now (out .entry)) (answered (record { rounds = rounds; count = count })))) ⌝ }
 {
     let size = vector::sizes::size_of(rounds, 0) as usize;
     let Check::Passed = checks::vector_fits(p, z, size) else {

@@ -7,7 +7,6 @@ use super::state::Prover;
 use super::state::State;
 use prover::Step;
 use records::Record;
-use records::lists::Lists;
 use records::lists::numbers;
 use records::parts::within;
 use records::parts::within_bytes;
@@ -39,7 +38,8 @@ fn slot(s: State, run: bool, k: u32, f: &mut [u32; 4096], g: &mut [u32; 4096]) -
     let size = sizes[k as usize];
     let part = bytes_from(&bytes, at, size);
     if run {
-        return to_run(s, part, f, g);
+        let prover = to_run(s.prover, s.lists.flent, s.lists.glent, part, f, g);
+        return State { prover, ..s };
     }
     let judge = to_judge(s.judge, part);
     State { judge, ..s }
@@ -57,18 +57,31 @@ fn bytes_of(bytes: &[u8], size: usize) -> &[u8] {
     &bytes[..n]
 }
 
-fn to_run(s: State, block: &[u8], f: &mut [u32], g: &mut [u32]) -> State {
-    if s.prover.on {
-        let prover = took(items(s.prover, s.lists, block, f, g));
-        return State { prover, ..s };
+fn to_run(
+    p: Prover,
+    flent: usize,
+    glent: usize,
+    block: &[u8],
+    f: &mut [u32],
+    g: &mut [u32],
+) -> Prover {
+    if p.on {
+        return took(items(p, flent, glent, block, f, g));
     }
     print::line(b"no run");
-    s
+    p
 }
 
-fn items(p: Prover, l: Lists, block: &[u8], f: &mut [u32], g: &mut [u32]) -> Step {
-    let n = within(l.flent, f);
-    let m = within(l.glent, g);
+fn items(
+    p: Prover,
+    flent: usize,
+    glent: usize,
+    block: &[u8],
+    f: &mut [u32],
+    g: &mut [u32],
+) -> Step {
+    let n = within(flent, f);
+    let m = within(glent, g);
     let pass = p.pass;
     p.run.items(pass, block, &mut f[..n], &mut g[..m])
 }
@@ -104,24 +117,48 @@ fn parts(s: State, run: bool, a: u32, b: u32, f: &mut [u32; 4096], g: &mut [u32;
     }
     let end = n + m;
     if run {
-        return numbers_to_run(s, &held[..n], &held[n..end], f, g);
+        let prover = numbers_to_run(
+            s.prover,
+            s.lists.flent,
+            s.lists.glent,
+            &held[..n],
+            &held[n..end],
+            f,
+            g,
+        );
+        return State { prover, ..s };
     }
     let judge = numbers_to_judge(s.judge, &held[..n], &held[n..end]);
     State { judge, ..s }
 }
 
-fn numbers_to_run(s: State, a: &[u32], b: &[u32], f: &mut [u32], g: &mut [u32]) -> State {
-    if s.prover.on {
-        let prover = took(field_items(s.prover, s.lists, a, b, f, g));
-        return State { prover, ..s };
+fn numbers_to_run(
+    p: Prover,
+    flent: usize,
+    glent: usize,
+    a: &[u32],
+    b: &[u32],
+    f: &mut [u32],
+    g: &mut [u32],
+) -> Prover {
+    if p.on {
+        return took(field_items(p, flent, glent, a, b, f, g));
     }
     print::line(b"no run");
-    s
+    p
 }
 
-fn field_items(p: Prover, l: Lists, a: &[u32], b: &[u32], f: &mut [u32], g: &mut [u32]) -> Step {
-    let n = within(l.flent, f);
-    let m = within(l.glent, g);
+fn field_items(
+    p: Prover,
+    flent: usize,
+    glent: usize,
+    a: &[u32],
+    b: &[u32],
+    f: &mut [u32],
+    g: &mut [u32],
+) -> Step {
+    let n = within(flent, f);
+    let m = within(glent, g);
     let pass = p.pass;
     p.run.field_items(pass, a, b, &mut f[..n], &mut g[..m])
 }

@@ -10,7 +10,6 @@ use prover::Answer;
 use prover::Run;
 use prover::Step;
 use records::Record;
-use records::lists::Lists;
 use records::lists::numbers;
 use records::parts::within;
 use records::parts::within_bytes;
@@ -106,7 +105,17 @@ fn write_proof(size: u32) -> Named {
 fn made(s: State, call: Call, a: u32, f: &mut [u32; 4096], g: &mut [u32; 4096]) -> State {
     let proof = s.proof;
     let mut bytes = proof.bytes;
-    let step = make(s.prover, call, s.lists, a, f, g, &mut bytes);
+    let lists = s.lists;
+    let step = make(
+        s.prover,
+        call,
+        lists.flent,
+        lists.glent,
+        a,
+        f,
+        g,
+        &mut bytes,
+    );
     answers::step(step);
     let answer = step.answer;
     let size = size_after(proof.size, answer);
@@ -120,27 +129,29 @@ fn made(s: State, call: Call, a: u32, f: &mut [u32; 4096], g: &mut [u32; 4096]) 
 fn make(
     p: Prover,
     call: Call,
-    l: Lists,
+    flent: usize,
+    glent: usize,
     a: u32,
     f: &mut [u32; 4096],
     g: &mut [u32; 4096],
     proof: &mut [u8; 256],
 ) -> Step {
-    lent(p, call, l, a as usize, f, g, proof)
+    lent(p, call, flent, glent, a as usize, f, g, proof)
 }
 
 // With the lent places of both buffers, and the first bytes of the proof file, which one call alone uses.
 fn lent(
     p: Prover,
     call: Call,
-    l: Lists,
+    flent: usize,
+    glent: usize,
     size: usize,
     f: &mut [u32],
     g: &mut [u32],
     proof: &mut [u8],
 ) -> Step {
-    let n = within(l.flent, f);
-    let m = within(l.glent, g);
+    let n = within(flent, f);
+    let m = within(glent, g);
     let k = within_bytes(size, proof);
     dispatch::make(
         p.run,

@@ -12,7 +12,7 @@ use Rattle.refusal.specs.Number as number
 use Rattle.refusal.specs.Limit.{maxWeight, maxItems}
 use Rattle.refusal.specs.Outcome.{Outcome, answered, require, requireAt, requireAll, refused}
 use Rattle.wire.specs.Header.{marked, versionOf}
-use Rattle.wire.specs.Log.{logCount, itemAt, weightOf, requireItem, readLog}
+use Rattle.wire.specs.Log.{logCount, itemStart, weightOf, requireItem, readLog}
 use Rattle.wire.proofs.Marks.{mark-of}
 use Rattle.trip.specs.Input.{limit, headedIn, readLimited}
 
@@ -50,10 +50,10 @@ headed-all file i (suc n) count = headed-at (leb (weightOf file i) maxWeight) i 
 
 -- the rows 4 and 5
 abbrev items : List ℕ → Outcome ℕ
-items file = require (eqb (length file) (itemAt (logCount file))) number.size (requireAll (requireItem file) 0 (logCount file) (answered (logCount file)))
+items file = require (eqb (length file) (itemStart (logCount file))) number.size (requireAll (requireItem file) 0 (logCount file) (answered (logCount file)))
 
 headed-items : (file : List ℕ) → headedIn (items file) ≡ true
-headed-items file = headed-size (eqb (length file) (itemAt (logCount file))) (requireAll (requireItem file) 0 (logCount file) (answered (logCount file))) (headed-all file 0 (logCount file) (logCount file))
+headed-items file = headed-size (eqb (length file) (itemStart (logCount file))) (requireAll (requireItem file) 0 (logCount file) (answered (logCount file))) (headed-all file 0 (logCount file) (logCount file))
 
 module _ (file : List ℕ) where
   pub before-count : headedIn (readLog file) ≡ false → readLog file ≡ readLimited file

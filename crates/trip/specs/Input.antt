@@ -11,7 +11,7 @@ use Rattle.vector.specs.Rounds.{roundsOf}
 use Rattle.vector.specs.Slice.{every, isNonzero}
 use Rattle.wire.specs.Number.{numAt}
 use Rattle.wire.specs.Header.{requireHeader}
-use Rattle.wire.specs.Log.{logCount, itemAt, requireItem}
+use Rattle.wire.specs.Log.{logCount, itemStart, requireItem}
 use Rattle.trip.specs.declared.input.Input.{Input}
 use Rattle.trip.specs.declared.input.Input.the-variants.{Items, Refused}
 
@@ -24,7 +24,7 @@ unfoldable pub readLimited : List ℕ → Outcome ℕ
 readLimited file =
     requireHeader 76 7 file
     (require (leb 1 (logCount file) && leb (logCount file) limit) number.count
-    (require (eqb (length file) (itemAt (logCount file))) number.size
+    (require (eqb (length file) (itemStart (logCount file))) number.size
     (requireAll (requireItem file) 0 (logCount file)
     (answered (logCount file)))))
 
