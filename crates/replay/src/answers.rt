@@ -29,17 +29,23 @@ fn prover_answer(answer: Answer) {
         Answer::Started => line(b"started"),
         Answer::Opened => line(b"opened"),
         Answer::Taken => line(b"taken"),
+        Answer::Challenged => line(b"challenged"),
+        Answer::Changed => line(b"changed"),
+        _ => prover_numbers(answer),
+    }
+}
+
+fn prover_numbers(answer: Answer) {
+    match answer {
         Answer::Total(total) => total_line(total),
         Answer::FieldTotal(total) => one(b"total", total),
         Answer::Message(even, cross, odd) => three(b"message", even, cross, odd),
-        Answer::Challenged => line(b"challenged"),
         Answer::Ends(f, g) => two(b"ends", f, g),
-        // `step` prints it, with its values.
-        Answer::Opening => line(b"opening"),
-        Answer::Changed => line(b"changed"),
         Answer::Written(size) => written(size),
         Answer::Refused(k) => refused(k),
         Answer::RefusedAt(k, i) => refused_at(k, i),
+        // `step` prints an opening, `prover_answer` the others.
+        _ => {}
     }
 }
 
@@ -99,13 +105,21 @@ pub(crate) fn told(told: Told) {
         Told::Taken => line(b"taken"),
         Told::Closed => line(b"closed"),
         Told::Passed => line(b"passed"),
-        Told::Failed(round) => one(b"no", round),
         Told::Yes => line(b"yes"),
-        Told::No(round) => one(b"no", round),
         Told::Opens => line(b"yes"),
+        _ => told_numbers(told),
+    }
+}
+
+fn told_numbers(told: Told) {
+    match told {
+        Told::Failed(round) => one(b"no", round),
+        Told::No(round) => one(b"no", round),
         Told::FailsF(j) => one(b"no f", j),
         Told::FailsG(j) => one(b"no g", j),
         Told::Refused(k) => refused(k),
         Told::RefusedAt(k, i) => refused_at(k, i),
+        // `told` prints the others.
+        _ => {}
     }
 }

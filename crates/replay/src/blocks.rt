@@ -4,45 +4,44 @@ use super::print;
 use super::proving;
 use super::state::Judge;
 use super::state::Prover;
-use super::state::State;
 use prover::Step;
-use records::Record;
+use records::lists::Lists;
 use records::lists::numbers;
 use records::parts::within;
 use records::parts::within_bytes;
+use records::slots::Slots;
 
-// Ops 26, 27, 43 and 44.
-pub(crate) fn call(s: State, r: Record, f: &mut [u32; 4096], g: &mut [u32; 4096]) -> State {
-    let op = r.op;
-    match op {
-        26 => slot(s, true, r.a, f, g),
-        43 => slot(s, false, r.a, f, g),
-        27 => parts(s, true, r.a, r.b, f, g),
-        _ => parts(s, false, r.a, r.b, f, g),
-    }
-}
-
-fn bad(s: State) -> State {
-    print::bad();
-    s
-}
-
-fn slot(s: State, run: bool, k: u32, f: &mut [u32; 4096], g: &mut [u32; 4096]) -> State {
+// Op 26.
+pub(crate) fn slot_to_run(
+    p: Prover,
+    l: Lists,
+    s: Slots,
+    k: u32,
+    f: &mut [u32; 4096],
+    g: &mut [u32; 4096],
+) -> Prover {
     if k > 7 {
-        return bad(s);
+        print::bad();
+        return p;
     }
-    let slots = s.slots;
-    let bytes = slots.bytes;
-    let sizes = slots.sizes;
+    let bytes = s.bytes;
+    let sizes = s.sizes;
     let at = (k as usize) * 256;
     let size = sizes[k as usize];
-    let part = bytes_from(&bytes, at, size);
-    if run {
-        let prover = to_run(s.prover, s.lists.flent, s.lists.glent, part, f, g);
-        return State { prover, ..s };
+    to_run(p, l.flent, l.glent, bytes_from(&bytes, at, size), f, g)
+}
+
+// Op 43.
+pub(crate) fn slot_to_judge(j: Judge, s: Slots, k: u32) -> Judge {
+    if k > 7 {
+        print::bad();
+        return j;
     }
-    let judge = to_judge(s.judge, part);
-    State { judge, ..s }
+    let bytes = s.bytes;
+    let sizes = s.sizes;
+    let at = (k as usize) * 256;
+    let size = sizes[k as usize];
+    to_judge(j, bytes_from(&bytes, at, size))
 }
 
 fn bytes_from(bytes: &[u8], at: usize, size: usize) -> &[u8] {
@@ -106,30 +105,37 @@ fn heard(step: verifier::Step) -> Judge {
     Judge { on: true, verifier }
 }
 
-// The first a numbers of the scratch list, and the next b.
-fn parts(s: State, run: bool, a: u32, b: u32, f: &mut [u32; 4096], g: &mut [u32; 4096]) -> State {
-    let scratch = s.lists.scratch;
-    let held = numbers(s.lists.held, &scratch);
+// Op 27: the first a numbers of the scratch list, and the next b.
+pub(crate) fn parts_to_run(
+    p: Prover,
+    l: Lists,
+    a: u32,
+    b: u32,
+    f: &mut [u32; 4096],
+    g: &mut [u32; 4096],
+) -> Prover {
+    let scratch = l.scratch;
+    let held = numbers(l.held, &scratch);
     let n = a as usize;
-    let m = b as usize;
-    if held.len() < n + m {
-        return bad(s);
+    let end = n + (b as usize);
+    if held.len() < end {
+        print::bad();
+        return p;
     }
-    let end = n + m;
-    if run {
-        let prover = numbers_to_run(
-            s.prover,
-            s.lists.flent,
-            s.lists.glent,
-            &held[..n],
-            &held[n..end],
-            f,
-            g,
-        );
-        return State { prover, ..s };
+    numbers_to_run(p, l.flent, l.glent, &held[..n], &held[n..end], f, g)
+}
+
+// Op 44: likewise.
+pub(crate) fn parts_to_judge(j: Judge, l: Lists, a: u32, b: u32) -> Judge {
+    let scratch = l.scratch;
+    let held = numbers(l.held, &scratch);
+    let n = a as usize;
+    let end = n + (b as usize);
+    if held.len() < end {
+        print::bad();
+        return j;
     }
-    let judge = numbers_to_judge(s.judge, &held[..n], &held[n..end]);
-    State { judge, ..s }
+    numbers_to_judge(j, &held[..n], &held[n..end])
 }
 
 fn numbers_to_run(

@@ -1,21 +1,21 @@
 // The dump of stacks and buffers: op 5.
 use super::print;
-use super::state::State;
+use super::state::Prover;
 use pass::Pass;
 use phase::Kind;
 use phase::Next;
 use prover::Run;
 
-pub(crate) fn call(s: State, a: u32, f: &[u32; 4096], g: &[u32; 4096]) -> State {
+pub(crate) fn call(p: Prover, a: u32, f: &[u32; 4096], g: &[u32; 4096]) -> Prover {
     if a > 4096 {
         print::bad();
-        return s;
+        return p;
     }
-    if s.prover.on {
-        stacks(s.prover.run, s.prover.pass);
+    if p.on {
+        stacks(p.run, p.pass);
     }
     print::buffers(a as usize, f, g);
-    s
+    p
 }
 
 // Printed while a small pass for a round, the ends or the openings is open.

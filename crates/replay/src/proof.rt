@@ -1,6 +1,5 @@
 // The proof file: ops 6 to 8.
 use super::print;
-use super::state::State;
 use records::Record;
 use records::parts::within_bytes;
 
@@ -16,19 +15,19 @@ pub(crate) fn none() -> Proof {
     }
 }
 
-pub(crate) fn call(s: State, r: Record) -> State {
+pub(crate) fn call(p: Proof, r: Record) -> Proof {
     let op = r.op;
-    if op == 8 {
-        let bytes = s.proof.bytes;
-        dump(s.proof.size, &bytes);
-        return s;
+    match op {
+        6 => set(p, r.a, r.b),
+        7 => resized(p, r.a),
+        _ => shown(p),
     }
-    let proof = if op == 6 {
-        set(s.proof, r.a, r.b)
-    } else {
-        resized(s.proof, r.a)
-    };
-    State { proof, ..s }
+}
+
+fn shown(p: Proof) -> Proof {
+    let bytes = p.bytes;
+    dump(p.size, &bytes);
+    p
 }
 
 fn set(p: Proof, at: u32, byte: u32) -> Proof {

@@ -1,20 +1,24 @@
 // The prover's calls, each made as data.
 use super::answers;
+use super::blocks;
+use super::dump;
 use super::print;
 use super::proof::Proof;
+use super::state::Held;
 use super::state::Prover;
-use super::state::State;
 use calls::Call;
 use item::Given;
 use prover::Answer;
 use prover::Run;
 use prover::Step;
 use records::Record;
+use records::lists::Lists;
 use records::lists::numbers;
 use records::parts::within;
 use records::parts::within_bytes;
 use records::signs;
 use records::signs::Plain;
+use records::slots::Slots;
 
 // The call that an op names, with its numbers.
 pub enum Named {
@@ -22,10 +26,54 @@ pub enum Named {
     Nothing,
 }
 
-pub(crate) fn start(s: State, r: Record) -> State {
-    let scratch = s.lists.scratch;
-    let prover = started(s.prover, start_of(r, numbers(s.lists.held, &scratch)));
-    State { prover, ..s }
+// What the calls leave of the run and of the proof file.
+pub struct Made {
+    pub prover: Prover,
+    pub proof: Proof,
+}
+
+// Ops 5, 10 to 24, 26 and 27.
+pub(crate) fn call(
+    p: Prover,
+    h: Held,
+    r: Record,
+    f: &mut [u32; 4096],
+    g: &mut [u32; 4096],
+) -> Made {
+    let op = r.op;
+    if 13 <= op {
+        if op <= 24 {
+            return called(p, h.lists, h.proof, r, f, g);
+        }
+    }
+    let proof = h.proof;
+    Made {
+        prover: run_op(p, h.lists, h.slots, r, f, g),
+        proof,
+    }
+}
+
+fn run_op(
+    p: Prover,
+    l: Lists,
+    s: Slots,
+    r: Record,
+    f: &mut [u32; 4096],
+    g: &mut [u32; 4096],
+) -> Prover {
+    let op = r.op;
+    match op {
+        5 => dump::call(p, r.a, f, g),
+        10..=12 => start(p, l, r),
+        26 => blocks::slot_to_run(p, l, s, r.a, f, g),
+        27 => blocks::parts_to_run(p, l, r.a, r.b, f, g),
+        _ => p,
+    }
+}
+
+fn start(p: Prover, l: Lists, r: Record) -> Prover {
+    let scratch = l.scratch;
+    started(p, start_of(r, numbers(l.held, &scratch)))
 }
 
 fn start_of(r: Record, twists: &[u32]) -> Step {
@@ -57,16 +105,23 @@ pub(crate) fn left_by(step: Step) -> Prover {
     }
 }
 
-pub(crate) fn call(s: State, r: Record, f: &mut [u32; 4096], g: &mut [u32; 4096]) -> State {
+fn called(
+    p: Prover,
+    l: Lists,
+    proof: Proof,
+    r: Record,
+    f: &mut [u32; 4096],
+    g: &mut [u32; 4096],
+) -> Made {
     let Named::Call(call) = call_of(r) else {
         print::bad();
-        return s;
+        return Made { prover: p, proof };
     };
-    if s.prover.on {
-        return made(s, call, r.a, f, g);
+    if p.on {
+        return after(p, call, l, proof, r.a, f, g);
     }
     print::line(b"no run");
-    s
+    Made { prover: p, proof }
 }
 
 fn call_of(r: Record) -> Named {
@@ -102,27 +157,23 @@ fn write_proof(size: u32) -> Named {
     Named::Call(Call::WriteProof)
 }
 
-fn made(s: State, call: Call, a: u32, f: &mut [u32; 4096], g: &mut [u32; 4096]) -> State {
-    let proof = s.proof;
+fn after(
+    p: Prover,
+    call: Call,
+    l: Lists,
+    proof: Proof,
+    a: u32,
+    f: &mut [u32; 4096],
+    g: &mut [u32; 4096],
+) -> Made {
     let mut bytes = proof.bytes;
-    let lists = s.lists;
-    let step = make(
-        s.prover,
-        call,
-        lists.flent,
-        lists.glent,
-        a,
-        f,
-        g,
-        &mut bytes,
-    );
+    let step = make(p, call, l.flent, l.glent, a, f, g, &mut bytes);
     answers::step(step);
     let answer = step.answer;
     let size = size_after(proof.size, answer);
-    State {
-        proof: Proof { bytes, size },
+    Made {
         prover: left_by(step),
-        ..s
+        proof: Proof { bytes, size },
     }
 }
 

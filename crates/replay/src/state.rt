@@ -1,4 +1,4 @@
-// What the tool holds beside the buffers.
+// What the tool holds beside the buffers: the lists, the slots and the proof file; at most one run with its pass; at most one verifier.
 use super::print;
 use super::proof;
 use super::proof::Proof;
@@ -11,39 +11,33 @@ use records::slots;
 use records::slots::Slots;
 use verifier::Verifier;
 
-// At most one run, with its pass.
+pub struct Held {
+    pub lists: Lists,
+    pub slots: Slots,
+    pub proof: Proof,
+}
+
 pub struct Prover {
     pub on: bool,
     pub run: Run,
     pub pass: Pass,
 }
 
-// At most one verifier.
 pub struct Judge {
     pub on: bool,
     pub verifier: Verifier,
 }
 
-pub struct State {
-    pub lists: Lists,
-    pub slots: Slots,
-    pub proof: Proof,
-    pub prover: Prover,
-    pub judge: Judge,
-}
-
-pub(crate) fn fresh() -> State {
-    State {
+pub(crate) fn none() -> Held {
+    Held {
         lists: lists::none(),
         slots: slots::none(),
         proof: proof::none(),
-        prover: no_prover(),
-        judge: no_judge(),
     }
 }
 
 // A refused start hands back zeros.
-fn no_prover() -> Prover {
+pub(crate) fn no_prover() -> Prover {
     let step = Run::start_plain(0);
     let run = step.run;
     let pass = step.pass;
@@ -54,7 +48,7 @@ fn no_prover() -> Prover {
     }
 }
 
-fn no_judge() -> Judge {
+pub(crate) fn no_judge() -> Judge {
     let none = [0u32; 1];
     let verifier = Verifier::start_plain(0, &none).verifier;
     Judge {
@@ -63,18 +57,34 @@ fn no_judge() -> Judge {
     }
 }
 
-pub(crate) fn keep(s: State, r: Record, f: &mut [u32; 4096], g: &mut [u32; 4096]) -> State {
-    let kept = lists::keep(s.lists, r, f, g);
+// Ops 1 to 4, 6 to 8, 60 and 61.
+pub(crate) fn call(h: Held, r: Record, f: &mut [u32; 4096], g: &mut [u32; 4096]) -> Held {
+    let op = r.op;
+    match op {
+        1..=4 => keep(h, r, f, g),
+        6..=8 => filed(h, r),
+        60..=61 => fill(h, r),
+        _ => h,
+    }
+}
+
+fn keep(h: Held, r: Record, f: &mut [u32; 4096], g: &mut [u32; 4096]) -> Held {
+    let kept = lists::keep(h.lists, r, f, g);
     let said = kept.said;
     print::said(said);
     let lists = kept.lists;
-    State { lists, ..s }
+    Held { lists, ..h }
 }
 
-pub(crate) fn fill(s: State, r: Record) -> State {
-    let filled = slots::fill(s.slots, r);
+fn filed(h: Held, r: Record) -> Held {
+    let proof = proof::call(h.proof, r);
+    Held { proof, ..h }
+}
+
+fn fill(h: Held, r: Record) -> Held {
+    let filled = slots::fill(h.slots, r);
     let said = filled.said;
     print::said(said);
     let slots = filled.slots;
-    State { slots, ..s }
+    Held { slots, ..h }
 }

@@ -1,9 +1,10 @@
 // The verifier's calls, each made as data.
 use super::answers;
+use super::blocks;
 use super::print;
 use super::proof::Proof;
+use super::state::Held;
 use super::state::Judge;
-use super::state::State;
 use calls::query::Query;
 use item::Given;
 use records::Record;
@@ -23,10 +24,21 @@ pub enum Posed {
     Nothing,
 }
 
-pub(crate) fn start(s: State, r: Record) -> State {
-    let scratch = s.lists.scratch;
-    let judge = start_with(s.judge, r, numbers(s.lists.held, &scratch));
-    State { judge, ..s }
+// Ops 30 to 40, 43 and 44.
+pub(crate) fn call(j: Judge, h: Held, r: Record) -> Judge {
+    let op = r.op;
+    match op {
+        30..=32 => start(j, h.lists, r),
+        33..=40 => called(j, h.lists, h.proof, r),
+        43 => blocks::slot_to_judge(j, h.slots, r.a),
+        44 => blocks::parts_to_judge(j, h.lists, r.a, r.b),
+        _ => j,
+    }
+}
+
+fn start(j: Judge, l: Lists, r: Record) -> Judge {
+    let scratch = l.scratch;
+    start_with(j, r, numbers(l.held, &scratch))
 }
 
 fn start_with(j: Judge, r: Record, values: &[u32]) -> Judge {
@@ -61,17 +73,16 @@ fn started(j: Judge, step: Step) -> Judge {
     Judge { on: true, verifier }
 }
 
-pub(crate) fn call(s: State, r: Record) -> State {
+fn called(j: Judge, l: Lists, p: Proof, r: Record) -> Judge {
     let Posed::Query(query) = query_of(r) else {
         print::bad();
-        return s;
+        return j;
     };
-    if s.judge.on {
-        let judge = asked(s.judge, query, s.lists, s.proof);
-        return State { judge, ..s };
+    if j.on {
+        return asked(j, query, l, p);
     }
     print::line(b"no verifier");
-    s
+    j
 }
 
 fn query_of(r: Record) -> Posed {

@@ -1,15 +1,22 @@
+use native.Mathlib.Omega.{arith}
 use borrow.Author.Needs.{needs}
 use Rattle.replay.proofs.replay.Statement.{statement}
 use Rattle.replay.proofs.replay.Tie as tie
 
 abbrev Inv-loop : tie.InvT-loop
-Inv-loop f₀ g₀ s₀ turns₀ f g s turns = Unit {0}
+Inv-loop f₀ g₀ h₀ p₀ j₀ turns₀ f g h p j turns = Unit {0}
 
 abbrev μ-loop : tie.MeasureT-loop
-μ-loop f₀ g₀ s₀ turns₀ f g s turns = turns
+μ-loop f₀ g₀ h₀ p₀ j₀ turns₀ f g h p j turns = turns
 
-fresh-requires : tie.Need-fresh-requires Inv-loop μ-loop
-fresh-requires c κs = search needs
+none-requires : tie.Need-none-requires Inv-loop μ-loop
+none-requires c κs = search needs
+
+no-prover-requires : tie.Need-no-prover-requires Inv-loop μ-loop
+no-prover-requires c κs = search needs
+
+no-judge-requires : tie.Need-no-judge-requires Inv-loop μ-loop
+no-judge-requires c κs = search needs
 
 loop-holds : tie.Need-loop-holds Inv-loop μ-loop
 loop-holds c = search needs
@@ -29,11 +36,20 @@ enum-told c = search needs
 returns : tie.Need-returns Inv-loop μ-loop
 returns c = search needs
 
+unknown-requires : tie.Need-unknown-requires Inv-loop μ-loop
+unknown-requires c κs = search needs
+
 call-requires : tie.Need-call-requires Inv-loop μ-loop
 call-requires c κs = search needs
 
+call-requires-2 : tie.Need-call-requires-2 Inv-loop μ-loop
+call-requires-2 c κs = search needs
+
+call-requires-3 : tie.Need-call-requires-3 Inv-loop μ-loop
+call-requires-3 c κs = search needs
+
 loop-less : tie.Need-loop-less Inv-loop μ-loop
-loop-less c = search needs
+loop-less c = omega (arith, c .before .before .before .before .before .before .before .before .before .before .before .before .before .before .before .before .loop-test .taken)
 
 loop-again : tie.Need-loop-again Inv-loop μ-loop
 loop-again c = search needs
@@ -47,14 +63,19 @@ replay-spec =
     (tie.spec
     Inv-loop
     μ-loop
-    fresh-requires
+    none-requires
+    no-prover-requires
+    no-judge-requires
     loop-holds
     sub-turns
     next-requires
     enum-known-r
     enum-told
     returns
+    unknown-requires
     call-requires
+    call-requires-2
+    call-requires-3
     loop-less
     loop-again
     returns-2)
