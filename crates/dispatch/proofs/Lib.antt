@@ -1,2 +1,3 @@
 pub mod Dispatch
 pub mod QueryArms
+pub mod Three

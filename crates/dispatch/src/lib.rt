@@ -7,6 +7,7 @@ ghost use Rattle.calls.specs.Step.{lending, step};
 ghost use Rattle.dispatch.specs.Made.{result};
 
 pub mod query;
+pub mod within;
 
 use calls::Call;
 use item::Given;

@@ -4,10 +4,11 @@ use super::print;
 use super::proving;
 use super::state::Judge;
 use super::state::Prover;
+use dispatch::within::field_items_within;
+use dispatch::within::items_within;
 use prover::Step;
 use records::lists::Lists;
 use records::lists::numbers;
-use records::parts::within;
 use records::parts::within_bytes;
 use records::slots::Slots;
 
@@ -65,24 +66,10 @@ fn to_run(
     g: &mut [u32],
 ) -> Prover {
     if p.on {
-        return took(items(p, flent, glent, block, f, g));
+        return took(items_within(p.run, p.pass, block, flent, glent, f, g));
     }
     print::line(b"no run");
     p
-}
-
-fn items(
-    p: Prover,
-    flent: usize,
-    glent: usize,
-    block: &[u8],
-    f: &mut [u32],
-    g: &mut [u32],
-) -> Step {
-    let n = within(flent, f);
-    let m = within(glent, g);
-    let pass = p.pass;
-    p.run.items(pass, block, &mut f[..n], &mut g[..m])
 }
 
 fn took(step: Step) -> Prover {
@@ -148,25 +135,10 @@ fn numbers_to_run(
     g: &mut [u32],
 ) -> Prover {
     if p.on {
-        return took(field_items(p, flent, glent, a, b, f, g));
+        return took(field_items_within(p.run, p.pass, a, b, flent, glent, f, g));
     }
     print::line(b"no run");
     p
-}
-
-fn field_items(
-    p: Prover,
-    flent: usize,
-    glent: usize,
-    a: &[u32],
-    b: &[u32],
-    f: &mut [u32],
-    g: &mut [u32],
-) -> Step {
-    let n = within(flent, f);
-    let m = within(glent, g);
-    let pass = p.pass;
-    p.run.field_items(pass, a, b, &mut f[..n], &mut g[..m])
 }
 
 fn numbers_to_judge(j: Judge, a: &[u32], b: &[u32]) -> Judge {

@@ -7,6 +7,7 @@ use super::proof::Proof;
 use super::state::Held;
 use super::state::Prover;
 use calls::Call;
+use dispatch::within::make_within;
 use item::Given;
 use prover::Answer;
 use prover::Run;
@@ -14,8 +15,6 @@ use prover::Step;
 use records::Record;
 use records::lists::Lists;
 use records::lists::numbers;
-use records::parts::within;
-use records::parts::within_bytes;
 use records::signs;
 use records::signs::Plain;
 use records::slots::Slots;
@@ -167,7 +166,17 @@ fn after(
     g: &mut [u32; 4096],
 ) -> Made {
     let mut bytes = proof.bytes;
-    let step = make(p, call, l.flent, l.glent, a, f, g, &mut bytes);
+    let step = make_within(
+        p.run,
+        p.pass,
+        call,
+        l.flent,
+        l.glent,
+        a as usize,
+        f,
+        g,
+        &mut bytes,
+    );
     answers::step(step);
     let answer = step.answer;
     let size = size_after(proof.size, answer);
@@ -175,43 +184,6 @@ fn after(
         prover: left_by(step),
         proof: Proof { bytes, size },
     }
-}
-
-fn make(
-    p: Prover,
-    call: Call,
-    flent: usize,
-    glent: usize,
-    a: u32,
-    f: &mut [u32; 4096],
-    g: &mut [u32; 4096],
-    proof: &mut [u8; 256],
-) -> Step {
-    lent(p, call, flent, glent, a as usize, f, g, proof)
-}
-
-// With the lent places of both buffers, and the first bytes of the proof file, which one call alone uses.
-fn lent(
-    p: Prover,
-    call: Call,
-    flent: usize,
-    glent: usize,
-    size: usize,
-    f: &mut [u32],
-    g: &mut [u32],
-    proof: &mut [u8],
-) -> Step {
-    let n = within(flent, f);
-    let m = within(glent, g);
-    let k = within_bytes(size, proof);
-    dispatch::make(
-        p.run,
-        p.pass,
-        call,
-        &mut f[..n],
-        &mut g[..m],
-        &mut proof[..k],
-    )
 }
 
 // A written proof sets the file's size.

@@ -1,0 +1,67 @@
+// The same calls on longer buffers, of which only the first places are lent; as many as there are.
+ghost use mathlib.Core.Path.{_≡_};
+ghost use lib.ListN.{take, drop};
+ghost use Rattle.item.specs.Start.{modulusOf};
+ghost use Rattle.block.specs.Block.{ofBytes, ofNumbers};
+ghost use Rattle.prover.specs.Records.{out, leaves};
+ghost use Rattle.prover.specs.Blocks.{itemsCall};
+ghost use Rattle.calls.specs.Step.{lending, step};
+ghost use Rattle.dispatch.specs.Made.{result};
+use calls::Call;
+use pass::Pass;
+use prover::Run;
+use prover::Step;
+use records::parts::within;
+use records::parts::within_bytes;
+
+pub fn make_within(
+    run: Run,
+    pass: Pass,
+    call: Call,
+    flent: usize,
+    glent: usize,
+    size: usize,
+    f: &mut [u32],
+    g: &mut [u32],
+    file: &mut [u8],
+) -> Step
+    ensures { λ r. ⌜ (result r (take flent (now (f .exit))) (take glent (now (g .exit))) (take size (now (file .exit))) ≡ step (modulusOf (run .start)) run pass call (lending (take flent (now (f .entry))) (take glent (now (g .entry))) (take size (now (file .entry))))) × (drop flent (now (f .exit)) ≡ drop flent (now (f .entry))) × (drop glent (now (g .exit)) ≡ drop glent (now (g .entry))) × (drop size (now (file .exit)) ≡ drop size (now (file .entry))) ⌝ }
+{
+    let n = within(flent, f);
+    let m = within(glent, g);
+    let k = within_bytes(size, file);
+    super::make(run, pass, call, &mut f[..n], &mut g[..m], &mut file[..k])
+}
+
+pub fn items_within(
+    run: Run,
+    pass: Pass,
+    block: &[u8],
+    flent: usize,
+    glent: usize,
+    f: &mut [u32],
+    g: &mut [u32],
+) -> Step
+    ensures { λ r. ⌜ (out r (take flent (now (f .exit))) (take glent (now (g .exit))) ≡ leaves run pass (take flent (now (f .entry))) (take glent (now (g .entry))) (itemsCall (modulusOf (run .start)) run pass (ofBytes (now (block .entry))) (take flent (now (f .entry))) (take glent (now (g .entry))))) × (drop flent (now (f .exit)) ≡ drop flent (now (f .entry))) × (drop glent (now (g .exit)) ≡ drop glent (now (g .entry))) ⌝ }
+{
+    let n = within(flent, f);
+    let m = within(glent, g);
+    run.items(pass, block, &mut f[..n], &mut g[..m])
+}
+
+pub fn field_items_within(
+    run: Run,
+    pass: Pass,
+    a: &[u32],
+    b: &[u32],
+    flent: usize,
+    glent: usize,
+    f: &mut [u32],
+    g: &mut [u32],
+) -> Step
+    ensures { λ r. ⌜ (out r (take flent (now (f .exit))) (take glent (now (g .exit))) ≡ leaves run pass (take flent (now (f .entry))) (take glent (now (g .entry))) (itemsCall (modulusOf (run .start)) run pass (ofNumbers (now (a .entry)) (now (b .entry))) (take flent (now (f .entry))) (take glent (now (g .entry))))) × (drop flent (now (f .exit)) ≡ drop flent (now (f .entry))) × (drop glent (now (g .exit)) ≡ drop glent (now (g .entry))) ⌝ }
+{
+    let n = within(flent, f);
+    let m = within(glent, g);
+    run.field_items(pass, a, b, &mut f[..n], &mut g[..m])
+}
