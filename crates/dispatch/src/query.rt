@@ -43,7 +43,8 @@ fn hands(verifier: Verifier, told: Told) -> Heard
     Heard { verifier, told }
 }
 
-fn stepped(step: Step) -> Heard
+// What a method of the verifier handed back, as a call that is given as data does.
+pub fn stepped(step: Step) -> Heard
     ensures { λ r. ⌜ heardIn r ≡ replying (stepIn step) ⌝ }
 {
     let verifier = step.verifier;

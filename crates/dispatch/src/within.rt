@@ -6,13 +6,18 @@ ghost use Rattle.block.specs.Block.{ofBytes, ofNumbers};
 ghost use Rattle.prover.specs.Records.{out, leaves};
 ghost use Rattle.prover.specs.Blocks.{itemsCall};
 ghost use Rattle.calls.specs.Step.{lending, step};
+ghost use Rattle.calls.specs.QueryStep.{ask};
 ghost use Rattle.dispatch.specs.Made.{result};
+ghost use Rattle.dispatch.specs.Told.{heardIn};
+use super::query::Heard;
 use calls::Call;
+use calls::query::Query;
 use pass::Pass;
 use prover::Run;
 use prover::Step;
 use records::parts::within;
 use records::parts::within_bytes;
+use verifier::Verifier;
 
 pub fn make_within(
     run: Run,
@@ -64,4 +69,17 @@ pub fn field_items_within(
     let n = within(flent, f);
     let m = within(glent, g);
     run.field_items(pass, a, b, &mut f[..n], &mut g[..m])
+}
+
+pub fn ask_within(
+    verifier: Verifier,
+    query: Query,
+    size: usize,
+    file: &[u8],
+    values: &[u32],
+) -> Heard
+    ensures { λ r. ⌜ heardIn r ≡ ask (modulusOf (verifier .start)) verifier query (record { file = take size (now (file .entry)); values = now (values .entry) }) ⌝ }
+{
+    let n = within_bytes(size, file);
+    super::query::ask(verifier, query, &file[..n], values)
 }

@@ -6,7 +6,7 @@ use Prim.Native.Nat.{ℕ, zero, suc, _≤_}
 use native.Mathlib.Omega.{arith}
 use borrow.Author.Tests.{leb-true, leb-false}
 use lib.Dec.{leb}
-use lib.ListN.{length, take, drop, length-append, length-drop}
+use lib.ListN.{length, take, drop, length-append, length-drop, take-append-drop}
 use lib.Seq.{length-take-le, take-all, take-at, drop-at}
 use Rattle.records.specs.Counts.{Counts}
 
@@ -47,3 +47,7 @@ lent-back want n xs part c e = by (leb want (length xs)) refl
           rest = ap (drop want) whole ∙ drop-past want part (omega (arith, size)) ∙ sym (drop-past want xs long);
           lent = take-all n xs (omega arith) ∙ sym all;
         }
+
+-- the places that are lent
+pub lent-same : (want n : ℕ) (xs : List ℕ) → Counts want n xs → take n xs ≡ take want xs
+lent-same want n xs c = lent-back want n xs (take n xs) c (ap length (take-append-drop n xs)) .lent

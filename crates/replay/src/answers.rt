@@ -78,27 +78,6 @@ fn values_of(rounds: u32) -> usize {
     6 * (rounds as usize)
 }
 
-// A verifier's start.
-pub(crate) fn judge_start(answer: verifier::Answer) {
-    match answer {
-        verifier::Answer::Started => line(b"started"),
-        verifier::Answer::Refused(k) => refused(k),
-        // No other is a start's.
-        _ => {}
-    }
-}
-
-// A verifier's answer to a block.
-pub(crate) fn judge_block(answer: verifier::Answer) {
-    match answer {
-        verifier::Answer::Taken => line(b"taken"),
-        verifier::Answer::Refused(k) => refused(k),
-        verifier::Answer::RefusedAt(k, i) => refused_at(k, i),
-        // No other is a block's.
-        _ => {}
-    }
-}
-
 pub(crate) fn told(told: Told) {
     match told {
         Told::Started => line(b"started"),

@@ -1,12 +1,12 @@
 // Blocks of items: the bytes of a slot, or two parts of the scratch list.
-use super::answers;
 use super::print;
 use super::proving;
 use super::state::Judge;
 use super::state::Prover;
+use super::verifying::said;
+use dispatch::query::stepped;
 use dispatch::within::field_items_within;
 use dispatch::within::items_within;
-use prover::Step;
 use records::lists::Lists;
 use records::lists::numbers;
 use records::parts::within_bytes;
@@ -66,30 +66,18 @@ fn to_run(
     g: &mut [u32],
 ) -> Prover {
     if p.on {
-        return took(items_within(p.run, p.pass, block, flent, glent, f, g));
+        return proving::took(items_within(p.run, p.pass, block, flent, glent, f, g));
     }
     print::line(b"no run");
     p
 }
 
-fn took(step: Step) -> Prover {
-    answers::step(step);
-    proving::left_by(step)
-}
-
 fn to_judge(j: Judge, block: &[u8]) -> Judge {
     if j.on {
-        return heard(j.verifier.items(block));
+        return said(stepped(j.verifier.items(block)));
     }
     print::line(b"no verifier");
     j
-}
-
-fn heard(step: verifier::Step) -> Judge {
-    let answer = step.answer;
-    answers::judge_block(answer);
-    let verifier = step.verifier;
-    Judge { on: true, verifier }
 }
 
 // Op 27: the first a numbers of the scratch list, and the next b.
@@ -135,7 +123,7 @@ fn numbers_to_run(
     g: &mut [u32],
 ) -> Prover {
     if p.on {
-        return took(field_items_within(p.run, p.pass, a, b, flent, glent, f, g));
+        return proving::took(field_items_within(p.run, p.pass, a, b, flent, glent, f, g));
     }
     print::line(b"no run");
     p
@@ -143,7 +131,7 @@ fn numbers_to_run(
 
 fn numbers_to_judge(j: Judge, a: &[u32], b: &[u32]) -> Judge {
     if j.on {
-        return heard(j.verifier.field_items(a, b));
+        return said(stepped(j.verifier.field_items(a, b)));
     }
     print::line(b"no verifier");
     j

@@ -94,7 +94,7 @@ fn started(p: Prover, step: Step) -> Prover {
     left_by(step)
 }
 
-pub(crate) fn left_by(step: Step) -> Prover {
+fn left_by(step: Step) -> Prover {
     let run = step.run;
     let pass = step.pass;
     Prover {
@@ -177,13 +177,18 @@ fn after(
         g,
         &mut bytes,
     );
-    answers::step(step);
     let answer = step.answer;
     let size = size_after(proof.size, answer);
     Made {
-        prover: left_by(step),
+        prover: took(step),
         proof: Proof { bytes, size },
     }
+}
+
+// Prints what a call answers.
+pub(crate) fn took(step: Step) -> Prover {
+    answers::step(step);
+    left_by(step)
 }
 
 // A written proof sets the file's size.

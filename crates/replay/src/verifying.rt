@@ -6,11 +6,13 @@ use super::proof::Proof;
 use super::state::Held;
 use super::state::Judge;
 use calls::query::Query;
+use dispatch::query::Heard;
+use dispatch::query::stepped;
+use dispatch::within::ask_within;
 use item::Given;
 use records::Record;
 use records::lists::Lists;
 use records::lists::numbers;
-use records::parts::within_bytes;
 use records::signs;
 use records::signs::Plain;
 use records::signs::signed64;
@@ -64,12 +66,19 @@ fn start_twisted(j: Judge, a: u32, b: u32, scratch: &[u32]) -> Judge {
 
 // A refused start leaves the verifier that there is.
 fn started(j: Judge, step: Step) -> Judge {
+    let after = said(stepped(step));
     let answer = step.answer;
-    answers::judge_start(answer);
     let Answer::Started = answer else {
         return j;
     };
-    let verifier = step.verifier;
+    after
+}
+
+// Prints what a call answers.
+pub(crate) fn said(heard: Heard) -> Judge {
+    let told = heard.told;
+    answers::told(told);
+    let verifier = heard.verifier;
     Judge { on: true, verifier }
 }
 
@@ -111,10 +120,5 @@ fn give(item: Plain) -> Posed {
 fn asked(j: Judge, query: Query, l: Lists, p: Proof) -> Judge {
     let scratch = l.scratch;
     let bytes = p.bytes;
-    let n = within_bytes(p.size, &bytes);
-    let heard = dispatch::query::ask(j.verifier, query, &bytes[..n], numbers(l.held, &scratch));
-    let told = heard.told;
-    answers::told(told);
-    let verifier = heard.verifier;
-    Judge { on: true, verifier }
+    said(ask_within(j.verifier, query, p.size, &bytes, numbers(l.held, &scratch)))
 }
