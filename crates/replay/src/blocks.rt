@@ -29,7 +29,12 @@ pub(crate) fn slot_to_run(
     let sizes = s.sizes;
     let at = (k as usize) * 256;
     let size = sizes[k as usize];
-    to_run(p, l.flent, l.glent, bytes_from(&bytes, at, size), f, g)
+    if p.on {} else {
+        print::line(b"no run");
+        return p;
+    }
+    let block = bytes_from(&bytes, at, size);
+    proving::took(items_within(p.run, p.pass, block, l.flent, l.glent, f, g))
 }
 
 // Op 43.
@@ -42,7 +47,11 @@ pub(crate) fn slot_to_judge(j: Judge, s: Slots, k: u32) -> Judge {
     let sizes = s.sizes;
     let at = (k as usize) * 256;
     let size = sizes[k as usize];
-    to_judge(j, bytes_from(&bytes, at, size))
+    if j.on {} else {
+        print::line(b"no verifier");
+        return j;
+    }
+    said(stepped(j.verifier.items(bytes_from(&bytes, at, size))))
 }
 
 fn bytes_from(bytes: &[u8], at: usize, size: usize) -> &[u8] {
@@ -55,29 +64,6 @@ fn bytes_from(bytes: &[u8], at: usize, size: usize) -> &[u8] {
 fn bytes_of(bytes: &[u8], size: usize) -> &[u8] {
     let n = within_bytes(size, bytes);
     &bytes[..n]
-}
-
-fn to_run(
-    p: Prover,
-    flent: usize,
-    glent: usize,
-    block: &[u8],
-    f: &mut [u32],
-    g: &mut [u32],
-) -> Prover {
-    if p.on {
-        return proving::took(items_within(p.run, p.pass, block, flent, glent, f, g));
-    }
-    print::line(b"no run");
-    p
-}
-
-fn to_judge(j: Judge, block: &[u8]) -> Judge {
-    if j.on {
-        return said(stepped(j.verifier.items(block)));
-    }
-    print::line(b"no verifier");
-    j
 }
 
 // Op 27: the first a numbers of the scratch list, and the next b.
@@ -97,7 +83,20 @@ pub(crate) fn parts_to_run(
         print::bad();
         return p;
     }
-    numbers_to_run(p, l.flent, l.glent, &held[..n], &held[n..end], f, g)
+    if p.on {} else {
+        print::line(b"no run");
+        return p;
+    }
+    proving::took(field_items_within(
+        p.run,
+        p.pass,
+        &held[..n],
+        &held[n..end],
+        l.flent,
+        l.glent,
+        f,
+        g,
+    ))
 }
 
 // Op 44: likewise.
@@ -110,29 +109,9 @@ pub(crate) fn parts_to_judge(j: Judge, l: Lists, a: u32, b: u32) -> Judge {
         print::bad();
         return j;
     }
-    numbers_to_judge(j, &held[..n], &held[n..end])
-}
-
-fn numbers_to_run(
-    p: Prover,
-    flent: usize,
-    glent: usize,
-    a: &[u32],
-    b: &[u32],
-    f: &mut [u32],
-    g: &mut [u32],
-) -> Prover {
-    if p.on {
-        return proving::took(field_items_within(p.run, p.pass, a, b, flent, glent, f, g));
+    if j.on {} else {
+        print::line(b"no verifier");
+        return j;
     }
-    print::line(b"no run");
-    p
-}
-
-fn numbers_to_judge(j: Judge, a: &[u32], b: &[u32]) -> Judge {
-    if j.on {
-        return said(stepped(j.verifier.field_items(a, b)));
-    }
-    print::line(b"no verifier");
-    j
+    said(stepped(j.verifier.field_items(&held[..n], &held[n..end])))
 }

@@ -20,26 +20,41 @@ bad-requires c κs = search needs
 returns : tie.Need-returns
 returns c = search needs
 
-slice-aggregate-numbers-to-judge : tie.Need-slice-aggregate-numbers-to-judge
-slice-aggregate-numbers-to-judge c = sym (length-take-le _ _ (omega arith))
+slice-aggregate-line : tie.Need-slice-aggregate-line
+slice-aggregate-line c = search needs
 
-mul-numbers-to-judge : tie.Need-mul-numbers-to-judge
-mul-numbers-to-judge c = search needs
-
-sub-numbers-to-judge : tie.Need-sub-numbers-to-judge
-sub-numbers-to-judge c = search needs
-
-part-numbers-to-judge-start : tie.Need-part-numbers-to-judge-start
-part-numbers-to-judge-start c = search needs
-
-part-numbers-to-judge-end : tie.Need-part-numbers-to-judge-end
-part-numbers-to-judge-end c = search needs
-
-numbers-to-judge-requires : tie.Need-numbers-to-judge-requires
-numbers-to-judge-requires c κs = search needs
+line-requires : tie.Need-line-requires
+line-requires c κs = search needs
 
 returns-2 : tie.Need-returns-2
 returns-2 c = search needs
+
+slice-aggregate-field-items : tie.Need-slice-aggregate-field-items
+slice-aggregate-field-items c = sym (length-take-le _ _ (omega arith))
+
+mul-field-items : tie.Need-mul-field-items
+mul-field-items c = search needs
+
+sub-field-items : tie.Need-sub-field-items
+sub-field-items c = search needs
+
+part-field-items-start : tie.Need-part-field-items-start
+part-field-items-start c = search needs
+
+part-field-items-end : tie.Need-part-field-items-end
+part-field-items-end c = search needs
+
+field-items-requires : tie.Need-field-items-requires
+field-items-requires c κs = search needs
+
+stepped-requires : tie.Need-stepped-requires
+stepped-requires c κs = search needs
+
+said-requires : tie.Need-said-requires
+said-requires c κs = search needs
+
+returns-3 : tie.Need-returns-3
+returns-3 c = search needs
 
 pub parts-to-judge-spec : {M : Type 1} → statement M
 parts-to-judge-spec =
@@ -50,10 +65,15 @@ parts-to-judge-spec =
     add-end
     bad-requires
     returns
-    slice-aggregate-numbers-to-judge
-    mul-numbers-to-judge
-    sub-numbers-to-judge
-    part-numbers-to-judge-start
-    part-numbers-to-judge-end
-    numbers-to-judge-requires
-    returns-2)
+    slice-aggregate-line
+    line-requires
+    returns-2
+    slice-aggregate-field-items
+    mul-field-items
+    sub-field-items
+    part-field-items-start
+    part-field-items-end
+    field-items-requires
+    stepped-requires
+    said-requires
+    returns-3)

@@ -20,26 +20,38 @@ bad-requires c κs = search needs
 returns : tie.Need-returns
 returns c = search needs
 
-slice-aggregate-numbers-to-run : tie.Need-slice-aggregate-numbers-to-run
-slice-aggregate-numbers-to-run c = sym (length-take-le _ _ (omega arith))
+slice-aggregate-line : tie.Need-slice-aggregate-line
+slice-aggregate-line c = search needs
 
-mul-numbers-to-run : tie.Need-mul-numbers-to-run
-mul-numbers-to-run c = search needs
-
-sub-numbers-to-run : tie.Need-sub-numbers-to-run
-sub-numbers-to-run c = search needs
-
-part-numbers-to-run-start : tie.Need-part-numbers-to-run-start
-part-numbers-to-run-start c = search needs
-
-part-numbers-to-run-end : tie.Need-part-numbers-to-run-end
-part-numbers-to-run-end c = search needs
-
-numbers-to-run-requires : tie.Need-numbers-to-run-requires
-numbers-to-run-requires c κs = search needs
+line-requires : tie.Need-line-requires
+line-requires c κs = search needs
 
 returns-2 : tie.Need-returns-2
 returns-2 c = search needs
+
+slice-aggregate-field-items-within : tie.Need-slice-aggregate-field-items-within
+slice-aggregate-field-items-within c = sym (length-take-le _ _ (omega arith))
+
+mul-field-items-within : tie.Need-mul-field-items-within
+mul-field-items-within c = search needs
+
+sub-field-items-within : tie.Need-sub-field-items-within
+sub-field-items-within c = search needs
+
+part-field-items-within-start : tie.Need-part-field-items-within-start
+part-field-items-within-start c = search needs
+
+part-field-items-within-end : tie.Need-part-field-items-within-end
+part-field-items-within-end c = search needs
+
+field-items-within-requires : tie.Need-field-items-within-requires
+field-items-within-requires c κs = search needs
+
+took-requires : tie.Need-took-requires
+took-requires c κs = search needs
+
+returns-3 : tie.Need-returns-3
+returns-3 c = search needs
 
 pub parts-to-run-spec : {M : Type 1} → statement M
 parts-to-run-spec =
@@ -50,10 +62,14 @@ parts-to-run-spec =
     add-end
     bad-requires
     returns
-    slice-aggregate-numbers-to-run
-    mul-numbers-to-run
-    sub-numbers-to-run
-    part-numbers-to-run-start
-    part-numbers-to-run-end
-    numbers-to-run-requires
-    returns-2)
+    slice-aggregate-line
+    line-requires
+    returns-2
+    slice-aggregate-field-items-within
+    mul-field-items-within
+    sub-field-items-within
+    part-field-items-within-start
+    part-field-items-within-end
+    field-items-within-requires
+    took-requires
+    returns-3)
