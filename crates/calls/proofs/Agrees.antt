@@ -20,7 +20,7 @@ use Rattle.phase.specs.declared.Next.{Next}
 use Rattle.phase.specs.declared.Next.the-variants as next
 use Rattle.phase.specs.declared.Kind.{Kind}
 use Rattle.phase.specs.declared.Kind.the-variants.{Shut, Asked, Change}
-use Rattle.phase.specs.Cases.{waits, isChange, isFull, isOpen}
+use Rattle.phase.specs.Cases.{waits, isChange, isFull}
 use Rattle.phase.specs.Level.{levelAt}
 use Rattle.phase.specs.Order.{roundFits}
 use Rattle.pass.specs.declared.Pass.{Pass}

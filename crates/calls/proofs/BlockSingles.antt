@@ -27,10 +27,9 @@ use Rattle.item.specs.Item.{contributes}
 use Rattle.block.specs.Block.{Block, count, itemAt}
 use Rattle.prover.specs.declared.Run.{Run}
 use Rattle.pass.specs.declared.Pass.{Pass}
-use Rattle.prover.specs.declared.Answer.the-variants as answer
 use Rattle.prover.specs.Reply as reply
 use Rattle.pass.specs.Pass.{kernelOf}
-use Rattle.prover.specs.Records.{Out, out, answeredStep}
+use Rattle.prover.specs.Records.{Out}
 use Rattle.prover.specs.Level.{levelOf, foldSize, padding}
 use Rattle.pass.specs.Take.{moved, summedItem, placedIn, stackedIn, takesIn}
 use Rattle.pass.specs.Blocks.{takesAllIn}

@@ -29,7 +29,7 @@ use Rattle.pass.specs.Take.{entersIn, enteredIn, placedIn, takesIn}
 use Rattle.prover.specs.Take.{takes}
 use Rattle.pass.specs.Values.{valuesOf}
 use Rattle.pass.specs.Formed.{passFormed, turnFormed}
-use Rattle.prover.specs.WellFormed.{runFormed, wellFormed}
+use Rattle.prover.specs.WellFormed.{wellFormed}
 use Rattle.prover.specs.Written.{writeCall}
 use Rattle.item.specs.Item.{partsOf}
 use Rattle.runs.specs.Trip.{sumOf}

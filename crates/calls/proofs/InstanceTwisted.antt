@@ -19,7 +19,7 @@ use Rattle.kernel.specs.Kernel.{hornerAt, arrived, topAt, climbFrom, evaluatedF
 use Rattle.kernel.specs.Change.{left, placed, placedAll}
 use Rattle.prover.specs.Reply as reply
 use Rattle.pass.specs.Formed.{passFormed, turnFormed}
-use Rattle.prover.specs.WellFormed.{runFormed, wellFormed}
+use Rattle.prover.specs.WellFormed.{wellFormed}
 use Rattle.pass.specs.Values.{inNinety, valuesOf}
 use Rattle.pass.specs.Take.{summedItem}
 use Rattle.pass.specs.Take.{entersIn, enteredIn, placedIn, takesIn}

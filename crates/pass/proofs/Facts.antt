@@ -1,10 +1,11 @@
--- Sizes as the code has them; bounds of the padding; and what a fitting count of items tells.
-use mathlib.Core.Path.{_≡_, refl, sym, ap, _∙_}
-use mathlib.Core.Bool.{Bool, true, false, cond, _&&_, true≢false}
+-- Sizes as the code has them; bounds of the padding; what a count of items that fits tells.
+use mathlib.Core.Path.{_≡_, ap, _∙_}
+use mathlib.Core.Bool.{true, cond}
 use Prim.Native.Nat.{ℕ, _+_, _^_, _≤_}
 use native.Mathlib.Omega.{arith}
 use lib.Pow.{pow-mono}
 use borrow.Author.Tests.{lt-ltb, leb-true, le-leb}
+use Rattle.refusal.proofs.Outcome.{both}
 use Rattle.vector.specs.Rounds.{size}
 use Rattle.vector.specs.Power.{sizeIn32}
 use Rattle.vector.proofs.Rounds.{size-all}
@@ -22,10 +23,6 @@ padding-few items n t few within most =
     let e : sizeIn32 n 0 ≡ 2 ^ n = size-32 n 0 few ∙ size-all n in
     let b : 2 ^ n ≤ 2 ^ 15 = pow-mono few in
     omega arith
-
-both : (a b : Bool) → a && b ≡ true → (a ≡ true) × (b ≡ true)
-both true b e = (refl, e)
-both false b e = absurd (true≢false (sym e))
 
 pub fitting : (w : Stage) (taken n : ℕ) → fitsIn w taken n ≡ true → (w .start .rounds ≤ 15) × (w .start .items ≤ 32768) × (taken + n ≤ w .start .items)
 unfolding fitsIn

@@ -1,6 +1,5 @@
 // An item of a pass.
 ghost use mathlib.Core.Path.{_≡_};
-ghost use mathlib.Core.Bool.{true};
 ghost use Prim.Native.Nat.{_<_};
 ghost use Rattle.item.specs.Item.{entersAs};
 ghost use Rattle.kernel.specs.Kernel.{entered};

@@ -1,6 +1,6 @@
 -- What a test says: a statement, both ways.
-use mathlib.Core.Path.{_≡_, sym, ap, ap₂, _∙_}
-use mathlib.Core.Bool.{Bool, true, false, cond, _&&_}
+use mathlib.Core.Path.{_≡_, ap₂}
+use mathlib.Core.Bool.{Bool, true, false, _&&_}
 use Prim.Native.Nat.{ℕ, _≤_, _<_}
 use lib.Dec.{leb, ltb}
 use borrow.Author.Tests.{le-leb, leb-true, lt-ltb, ltb-true}
@@ -34,10 +34,3 @@ Nonzero p x = (0 < x) × (x < p)
 
 pub nonzero : (p x : ℕ) → Decides (isNonzero p x) (Nonzero p x)
 nonzero p x = decide-both (below 0 x) (below x p)
-
--- a test, and another where it holds
-pub test-fails : {a : Bool} (b : Bool) → a ≡ false → false ≡ cond a b false
-test-fails b h = ap (λ a. cond a b false) (sym h)
-
-pub test-passes : {a b c : Bool} → a ≡ true → c ≡ b → c ≡ cond a b false
-test-passes {b = b} h e = e ∙ ap (λ a. cond a b false) (sym h)

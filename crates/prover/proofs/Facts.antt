@@ -1,19 +1,16 @@
--- What a well-formed record tells, and bounds of levels and sizes.
-use mathlib.Core.Path.{_≡_, refl, sym, ap}
+-- What a well-formed record tells.
+use mathlib.Core.Path.{_≡_, refl, sym}
 use mathlib.Core.Bool.{Bool, true, false, cond, true≢false}
-use Prim.Native.Nat.{ℕ, _^_, _≤_}
+use Prim.Native.Nat.{ℕ, _≤_}
 use native.Mathlib.Omega.{arith}
 use lib.Dec.{eqb, ltb}
-use lib.Pow.{pow-mono}
-use borrow.Author.Tests.{eqb-true, ltb-false, lt-ltb}
-use Rattle.vector.specs.Rounds.{roundsOf, size}
-use Rattle.vector.specs.Power.{sizeIn32}
-use Rattle.vector.proofs.Rounds.{rounds-at-most, size-all}
+use borrow.Author.Tests.{eqb-true, ltb-false}
+use Rattle.vector.specs.Rounds.{roundsOf}
+use Rattle.vector.proofs.Rounds.{rounds-at-most}
 use Rattle.phase.specs.Order.{roundFits, kindFits}
 use Rattle.phase.proofs.Facts.{round-at-most}
 use Rattle.prover.specs.declared.Run.{Run}
 use Rattle.pass.specs.declared.Pass.{Pass}
-use Rattle.prover.specs.Level.{padding}
 use Rattle.pass.specs.Formed.{passFormed, turnFormed}
 use Rattle.prover.specs.WellFormed.{runFormed, wellFormed}
 
@@ -62,13 +59,3 @@ formed p r s e =
       counts = eqb-true _ _ (q .0);
       room = ltb-false _ _ (w .0);
     }
-
--- sizes as the code has them
-pub size-32 : (n j : ℕ) → n ≤ 15 → sizeIn32 n j ≡ size n j
-unfolding sizeIn32
-size-32 n j h = ap (λ b. cond b (size n j) 0) (lt-ltb n 32 (omega arith))
-
-pub padding-small : (r : Run) → r .start .rounds ≤ 15 → padding r ≤ 32768
-padding-small r h =
-    let m : 2 ^ (r .start .rounds) ≤ 2 ^ 15 = pow-mono h in
-    omega (arith, size-32 (r .start .rounds) 0 h, size-all (r .start .rounds), m)

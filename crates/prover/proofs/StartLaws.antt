@@ -1,6 +1,6 @@
 -- THE STARTS: each is refused exactly by 3 and 6, in this order, and otherwise gives its fresh run, which is well formed.
 use mathlib.Core.Path.{_≡_, refl, sym, ap, subst, _∙_}
-use mathlib.Core.Bool.{true, false}
+use mathlib.Core.Bool.{true}
 use mathlib.Core.List.{List}
 use Prim.Native.Nat.{ℕ, _^_, _≤_, _<_}
 use native.Mathlib.Omega.{arith}
@@ -21,7 +21,7 @@ use Rattle.vector.proofs.Every.{all-nonzero-iff}
 use Rattle.prover.specs.declared.Run.{Run}
 use Rattle.prover.specs.Records.{Out}
 use Rattle.pass.specs.Formed.{passFormed, turnFormed}
-use Rattle.prover.specs.WellFormed.{runFormed, wellFormed}
+use Rattle.prover.specs.WellFormed.{wellFormed}
 use Rattle.item.specs.declared.Start.{Start}
 use Rattle.item.specs.Start.{countFits, listFits, plainStart, twistedStart, ruleStart}
 use Rattle.prover.specs.Start.{freshRun, zeroPass, started, startPlain, startTwisted, startRule}

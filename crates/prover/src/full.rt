@@ -1,11 +1,10 @@
 // The calls of full mode: both vectors lie in lent buffers, which these calls only read.
 ghost use mathlib.Core.Path.{_≡_};
-ghost use Prim.Native.Nat.{_≤_, _<_, _^_};
+ghost use Prim.Native.Nat.{_≤_, _<_};
 ghost use lib.ListN.{length};
-ghost use Rattle.vector.specs.Slice.{messageIn};
 ghost use Rattle.item.specs.Start.{modulusOf};
 ghost use Rattle.prover.specs.Records.{out, leaves};
-ghost use Rattle.prover.specs.Full.{keptMessage, messageGiven, keptEnds, endsGiven, messageCall, endsCall};
+ghost use Rattle.prover.specs.Full.{messageGiven, endsGiven, messageCall, endsCall};
 use super::Answer;
 use super::Run;
 use super::Step;

@@ -28,7 +28,7 @@ use Rattle.prover.specs.WellFormed.{runFormed}
 use Rattle.pass.specs.Open.{newPass, noPoints, pointsOf}
 use Rattle.prover.specs.Open.{paddedKernel, openKernel}
 use Rattle.pass.specs.Take.{enteredIn}
-use Rattle.prover.specs.Take.{entering, enteredItem}
+use Rattle.prover.specs.Take.{entering}
 use Rattle.item.specs.declared.Given.{Given}
 use Rattle.item.specs.Item.{contributes}
 use Rattle.runs.specs.Passes.{openedPass, passAfter}

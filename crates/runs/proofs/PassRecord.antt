@@ -19,17 +19,16 @@ use Rattle.phase.specs.declared.Kind.the-variants.{Shut, Asked, Change}
 use Rattle.phase.specs.Cases.{isChange, waits}
 use Rattle.prover.specs.declared.Run.{Run}
 use Rattle.pass.specs.declared.Pass.{Pass}
-use Rattle.prover.specs.declared.Answer.the-variants as answer
 use Rattle.refusal.specs.Outcome.{answered}
 use Rattle.prover.specs.Reply as reply
 use Rattle.pass.specs.Pass.{kernelOf, withKernel}
 use Rattle.pass.specs.Values.{noValues}
-use Rattle.prover.specs.Records.{Out, out, answeredStep}
+use Rattle.prover.specs.Records.{Out}
 use Rattle.prover.specs.Level.{levelOf, foldSize, padding}
 use Rattle.pass.specs.Open.{newPass, noPoints, pointsOf}
 use Rattle.prover.specs.Open.{paddedKernel, openKernel}
 use Rattle.pass.specs.Take.{oneMore, running, summedItem, moved, stackedIn, takesIn, placedIn, entersIn}
-use Rattle.prover.specs.Take.{handed, entering, enteredItem, placedItem, takenItem, takes}
+use Rattle.prover.specs.Take.{handed, entering, enteredItem, placedItem, takes}
 use Rattle.prover.proofs.Outcomes.{takes-sum, takes-enter, takes-place}
 use Rattle.item.specs.declared.Given.{Given}
 use Rattle.item.specs.Item.{contributes}

@@ -4,7 +4,7 @@ use native.Mathlib.Omega.{arith}
 use denote.Ref.{now}
 use Rattle.kernel.specs.Change.{placedOf, placed}
 use Rattle.kernel.specs.Kernel.{entered}
-use Rattle.pass.specs.Take.{entersIn, enteredIn, placedIn, stackedIn, moved}
+use Rattle.pass.specs.Take.{entersIn, enteredIn, placedIn, stackedIn}
 use Rattle.pass.proofs.Facts.{padding-few}
 use Rattle.pass.proofs.Taking.{takes-sum, takes-enter, takes-place}
 use borrow.Author.Needs.{needs}

@@ -1,4 +1,3 @@
-use mathlib.Core.Path.{_≡_, refl, ap, _∙_}
 use borrow.Author.Tests.{lt-leb, le-leb}
 use borrow.Author.Needs.{needs}
 use Rattle.pass.proofs.lent.pad.Statement.{statement}
