@@ -10,7 +10,7 @@ use lib.Dec.{eqb, leb, ltb}
 use lib.ListN.{length}
 use borrow.Author.Tests.{le-leb, leb-true}
 use Rattle.refusal.specs.Limit.{maxWeight}
-use Rattle.refusal.specs.Outcome.{Outcome, answered, require, requireAt, requireAll}
+use Rattle.refusal.specs.Outcome.{Outcome, answered, require, requireAt, requireAll, andThen}
 use Rattle.item.specs.declared.Start.{Start}
 use Rattle.item.specs.declared.Given.{Given}
 use Rattle.item.specs.declared.Given.the-variants.{Reading, Numbers}
@@ -24,7 +24,7 @@ use Rattle.pass.specs.declared.Pass.{Pass}
 use Rattle.prover.specs.Records.{Out}
 use Rattle.prover.specs.WellFormed.{wellFormed}
 use Rattle.prover.specs.Calls.{placesThere}
-use Rattle.prover.specs.Blocks.{takesAll, withBlock, itemsCall}
+use Rattle.prover.specs.Blocks.{takesAll, itemsCall}
 use Rattle.calls.specs.Step.{Lent}
 use Rattle.calls.specs.State.{State}
 use Rattle.calls.specs.Table.{Refusal, decided, row, rowAt, givenRows, placeRow}
@@ -35,8 +35,8 @@ use Rattle.calls.proofs.Steps.{some-none, row-passed}
 use Rattle.calls.proofs.LiveTable.{row-free}
 
 -- a check of a block beside a row
-block-row : (b : Bool) (k : ℕ) (later : Outcome ℕ) (rest : ℕ → Outcome Out) (t : Option Refusal) (o : Outcome Out) → withBlock later rest ≡ decided t o
-    → withBlock (require b k later) rest ≡ decided (row b k t) o
+block-row : (b : Bool) (k : ℕ) (later : Outcome ℕ) (rest : ℕ → Outcome Out) (t : Option Refusal) (o : Outcome Out) → andThen later rest ≡ decided t o
+    → andThen (require b k later) rest ≡ decided (row b k t) o
 block-row true k later rest t o e = e
 block-row false k later rest t o e = refl
 
@@ -50,20 +50,20 @@ abbrev pub Passes : ℕ → Start → Given → Type 0
 Passes p s x = (i : ℕ) (t : Option Refusal) → givenRows p s i x t ≡ t
 
 module _ (p : ℕ) (s : Start) where
-  given-row : (x : Given) (i : ℕ) (later : Outcome ℕ) (rest : ℕ → Outcome Out) (t : Option Refusal) (o : Outcome Out) → withBlock later rest ≡ decided t o
-      → withBlock (passing (partsOf p s i x) later) rest ≡ decided (givenRows p s i x t) o
+  given-row : (x : Given) (i : ℕ) (later : Outcome ℕ) (rest : ℕ → Outcome Out) (t : Option Refusal) (o : Outcome Out) → andThen later rest ≡ decided t o
+      → andThen (passing (partsOf p s i x) later) rest ≡ decided (givenRows p s i x t) o
   unfolding partsOf
   given-row (Reading z w) i later rest t o e = by (s .plain) (leb w maxWeight)
     where
       by : (plain fits : Bool)
-          → withBlock (passing (require plain 10 (requireAt fits 5 i (answered (contributes p s (Reading z w))))) later) rest ≡ decided (row plain 10 (rowAt fits 5 i t)) o
+          → andThen (passing (require plain 10 (requireAt fits 5 i (answered (contributes p s (Reading z w))))) later) rest ≡ decided (row plain 10 (rowAt fits 5 i t)) o
       by false fits = refl
       by true false = refl
       by true true = e
   given-row (Numbers x y) i later rest t o e = by (not (s .plain)) (ltb x p && ltb y p)
     where
       by : (twisted fine : Bool)
-          → withBlock (passing (require twisted 10 (require fine 16 (answered (contributes p s (Numbers x y))))) later) rest ≡ decided (row twisted 10 (row fine 16 t)) o
+          → andThen (passing (require twisted 10 (require fine 16 (answered (contributes p s (Numbers x y))))) later) rest ≡ decided (row twisted 10 (row fine 16 t)) o
       by false fine = refl
       by true false = refl
       by true true = e
@@ -83,8 +83,8 @@ module _ (p : ℕ) (s : Start) where
       by true true e = (λ i t. refl, e)
 
   module _ (first : ℕ) (b : Block) where
-    items-row : (n i : ℕ) (later : Outcome ℕ) (rest : ℕ → Outcome Out) (t : Option Refusal) (o : Outcome Out) → withBlock later rest ≡ decided t o
-        → withBlock (requireAll (λ j later. passing (partsOf p s (first + j) (itemAt b j)) later) i n later) rest ≡ decided (itemRows p s first b i n t) o
+    items-row : (n i : ℕ) (later : Outcome ℕ) (rest : ℕ → Outcome Out) (t : Option Refusal) (o : Outcome Out) → andThen later rest ≡ decided t o
+        → andThen (requireAll (λ j later. passing (partsOf p s (first + j) (itemAt b j)) later) i n later) rest ≡ decided (itemRows p s first b i n t) o
     unfolding requireAll itemRows
     items-row zero i later rest t o e = e
     items-row (suc n) i later rest t o e =
@@ -108,13 +108,13 @@ module _ (p : ℕ) (s : Start) where
 
   -- the checks of a block, where n items were taken
   checks-row : (b : Block) (n : ℕ) (rest : ℕ → Outcome Out) (t : Option Refusal) (o : Outcome Out) → rest (count b) ≡ decided t o
-      → withBlock (blockChecks p s n true b) rest ≡ decided (row (leb (n + count b) (s .items)) 8 (blockRows p s (s .items - n - count b) b t)) o
+      → andThen (blockChecks p s n true b) rest ≡ decided (row (leb (n + count b) (s .items)) 8 (blockRows p s (s .items - n - count b) b t)) o
   unfolding blockChecks
   checks-row b n rest t o e =
       let first : ℕ = s .items - n - count b in
       let rows : Option Refusal = itemRows p s first b 0 (count b) t in
       let own : Outcome ℕ = requireAll (λ j later. passing (partsOf p s (first + j) (itemAt b j)) later) 0 (count b) (answered (count b)) in
-      let torn : withBlock (require (isWhole b) (tornNumber b) own) rest ≡ decided (wholeRow b rows) o =
+      let torn : andThen (require (isWhole b) (tornNumber b) own) rest ≡ decided (wholeRow b rows) o =
       block-row (isWhole b) (tornNumber b) own rest rows o (items-row first b (count b) 0 (answered (count b)) rest t o e)
       ∙ ap (λ t. decided t o) (whole-row (b .plain) (eqb (length (b .bytes) % 4) 0) (eqb (length (b .first)) (length (b .second))) rows) in
       block-row (leb (n + count b) (s .items)) 8 (require (isOfKind s b) 10 (require (isWhole b) (tornNumber b) own)) rest (blockRows p s first b t) o
@@ -172,5 +172,5 @@ module _ (p : ℕ) (a : State) (past : Notes) (few : a .start .rounds ≤ 15) (s
       let o : Outcome Out = answered (takesAll p R b (count b) s (l .f) (l .g)) in
       let rest : ℕ → Outcome Out = λ m. require (placesThere R s (length (l .f)) (length (l .g))) 9 (answered (takesAll p R b m s (l .f) (l .g))) in
       like-row _ _ 10 _ _ _ (open-test p a past few s wf kind taken)
-      (ap (λ n. withBlock (blockChecks p (a .start) n true b) rest) taken
+      (ap (λ n. andThen (blockChecks p (a .start) n true b) rest) taken
       ∙ checks-row p (a .start) b (length (a .pass .items)) rest (placeRow a l) o (like-row _ _ 9 _ none o (place-there p a past few s wf kind taken l) refl))

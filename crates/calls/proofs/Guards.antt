@@ -6,7 +6,7 @@ use Prim.Native.Nat.{ℕ, _-_, _≤_}
 use lib.Dec.{eqb, leb, ltb}
 use lib.ListN.{length}
 use Rattle.refusal.specs.Limit.{maxWeight}
-use Rattle.refusal.specs.Outcome.{Outcome, answered, refusedAt, require, requireAt}
+use Rattle.refusal.specs.Outcome.{Outcome, answered, refusedAt, require, requireAt, andThen}
 use Rattle.field.specs.Total.{inLimits}
 use Rattle.vector.specs.Rounds.{size}
 use Rattle.vector.specs.Slice.{allReduced, isNonzero}
@@ -29,7 +29,7 @@ use Rattle.pass.specs.Open.{noPoints, pointsOf}
 use Rattle.prover.specs.Open.{opened, openKernel, paddedKernel, openCall, openAtCall}
 use Rattle.prover.specs.Take.{takes}
 use Rattle.prover.specs.Calls as calls
-use Rattle.prover.specs.Calls.{withItem, itemPlaces, placesThere, giveCall}
+use Rattle.prover.specs.Calls.{itemPlaces, placesThere, giveCall}
 use Rattle.prover.specs.Change.{changes, toFullCall}
 use Rattle.prover.specs.Close as close
 use Rattle.prover.specs.Close.{closing, closeCall}
@@ -191,13 +191,13 @@ module _ (p : ℕ) (a : State) (past : Notes) (few : a .start .rounds ≤ 15) wh
       places l x = like-row _ _ 9 _ none _ (place-there l) refl
 
       own-rows : (x : Given) (l : Lent)
-          → withItem (partsOf p (a .start) (a .start .items - 1 - s .taken) x) (itemPlaces p R s (l .f) (l .g))
+          → andThen (partsOf p (a .start) (a .start .items - 1 - s .taken) x) (itemPlaces p R s (l .f) (l .g))
           ≡ decided (givenRows p (a .start) (a .start .items - 1 - length (a .pass .items)) x (placeRow a l)) (answered (takes p R s (contributes p (a .start) x) (l .f) (l .g)))
       unfolding partsOf
       own-rows (Reading z w) l = by (a .start .plain) (leb w maxWeight)
         where
           by : (plain fits : Bool)
-              → withItem (require plain 10 (requireAt fits 5 (a .start .items - 1 - s .taken) (answered (contributes p (a .start) (Reading z w))))) (itemPlaces p R s (l .f) (l .g))
+              → andThen (require plain 10 (requireAt fits 5 (a .start .items - 1 - s .taken) (answered (contributes p (a .start) (Reading z w))))) (itemPlaces p R s (l .f) (l .g))
               ≡ decided (row plain 10 (rowAt fits 5 (a .start .items - 1 - length (a .pass .items)) (placeRow a l))) (answered (takes p R s (contributes p (a .start) (Reading z w)) (l .f) (l .g)))
           by false fits = refl
           by true false = ap (λ n. refusedAt 5 (a .start .items - 1 - n)) count
@@ -205,7 +205,7 @@ module _ (p : ℕ) (a : State) (past : Notes) (few : a .start .rounds ≤ 15) wh
       own-rows (Numbers x y) l = by (not (a .start .plain)) (ltb x p && ltb y p)
         where
           by : (twisted fine : Bool)
-              → withItem (require twisted 10 (require fine 16 (answered (contributes p (a .start) (Numbers x y))))) (itemPlaces p R s (l .f) (l .g))
+              → andThen (require twisted 10 (require fine 16 (answered (contributes p (a .start) (Numbers x y))))) (itemPlaces p R s (l .f) (l .g))
               ≡ decided (row twisted 10 (row fine 16 (placeRow a l))) (answered (takes p R s (contributes p (a .start) (Numbers x y)) (l .f) (l .g)))
           by false fine = refl
           by true false = refl

@@ -6,7 +6,7 @@ use mathlib.Core.List.{List, [], _∷_}
 use Prim.Native.Nat.{ℕ, zero, suc}
 use lib.Dec.{eqb, ltb}
 use lib.ListN.{length}
-use Rattle.refusal.specs.Outcome.{Outcome, answered, refused, refusedAt, require}
+use Rattle.refusal.specs.Outcome.{Outcome, answered, refused, refusedAt, require, andThen}
 use Rattle.field.specs.Integer.{image}
 use Rattle.field.specs.Number.{isReduced, isNonzero}
 use Rattle.field.specs.Total.{inLimits}
@@ -31,7 +31,7 @@ use Rattle.pass.specs.Open.{noPoints, pointsOf}
 use Rattle.prover.specs.Open.{mayOpen, mayOpenAt, opened, openKernel, paddedKernel, openCall, openAtCall, toSmallCall}
 use Rattle.prover.specs.Take as item
 use Rattle.prover.specs.Take.{nextIndex}
-use Rattle.prover.specs.Calls.{bothLong, withItem, passOpen, placesThere, itemPlaces, giveCall}
+use Rattle.prover.specs.Calls.{bothLong, passOpen, placesThere, itemPlaces, giveCall}
 use Rattle.prover.specs.Change.{mayChange, changes, toFullCall}
 use Rattle.prover.specs.Close.{withTotal, goneTo, shutPass, totalFits, finished, closing, closeCall, leavesStep}
 use Rattle.prover.specs.Full.{messageTurn, endsTurn, openingTurn, bothReduced, lentFolds, messageGiven, messageCall, endsGiven, endsCall}
@@ -81,7 +81,7 @@ module _ (p : ℕ) (r : Run) (s : Pass) where
   read : (f g : List ℕ) (rest : Outcome Out) → Keeps f g rest → Keeps f g (lentFolds p r f g rest)
   read f g rest h = checked (bothLong r (length f) (length g)) 9 f g _ (checked (bothReduced p r f g) 16 f g rest h)
 
-  given : (f g : List ℕ) (o : Outcome Item) → ((x : Item) → Keeps f g (itemPlaces p r s f g x)) → Keeps f g (withItem o (itemPlaces p r s f g))
+  given : (f g : List ℕ) (o : Outcome Item) → ((x : Item) → Keeps f g (itemPlaces p r s f g x)) → Keeps f g (andThen o (itemPlaces p r s f g))
   given f g (answered x) h = h x
   given f g (refused k) h = record { so = refl }
   given f g (refusedAt k i) h = record { so = refl }

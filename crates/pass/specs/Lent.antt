@@ -5,13 +5,18 @@ use mathlib.Core.List.{List}
 use lib.Dec.{leb}
 use lib.ListN.{length, set}
 use Rattle.refusal.specs.Limit.{maxRounds}
+use Rattle.refusal.specs.Number as number
+use Rattle.refusal.specs.Outcome.{Outcome, answered, refused, refusedAt, require}
 use Rattle.vector.specs.Vector.{at}
-use Rattle.vector.specs.Slice.{allReduced}
+use Rattle.vector.specs.Slice.{allReduced, foldSlice}
 use Rattle.vector.specs.Opening.{opening}
+use Rattle.phase.specs.declared.Mode.{Mode}
 use Rattle.phase.specs.declared.Kind.{Kind}
 use Rattle.phase.specs.declared.Kind.the-variants.{Change}
-use Rattle.phase.specs.Cases.{isChange}
+use Rattle.phase.specs.Cases.{isSmall, isChange}
 use Rattle.pass.specs.declared.Stage.{Stage}
+use Rattle.pass.specs.declared.lent.Lent.{Lent}
+use Rattle.pass.specs.declared.lent.Lent.the-variants as lent
 use Rattle.pass.specs.Stage.{levelIn, sizeIn, paddingIn}
 use Rattle.pass.specs.Values.{noValues, inNinety}
 
@@ -26,6 +31,29 @@ placesIn w k flen glen = cond (isChange k) (longIn w flen glen) true
 -- 16: "in the places a full-mode call reads, a number P or more" is refused
 abbrev pub reducedIn : ℕ → Stage → List ℕ → List ℕ → Bool
 reducedIn p w f g = cond (allReduced p (sizeIn w) f) (allReduced p (sizeIn w) g) false
+
+-- "A full-mode call reads as many first places as the current fold is long": they are there (9) and are field numbers (16)
+abbrev pub goodIn : ℕ → Stage → List ℕ → List ℕ → Outcome (Unit {0})
+goodIn p w f g = require (longIn w (length f) (length g)) number.buffer (require (reducedIn p w f g) number.vector (answered tt))
+
+-- the code's answers in these terms
+abbrev pub lentIn : Lent → Outcome (Unit {0})
+lentIn lent.Good = answered tt
+lentIn (lent.Refused k) = refused k
+
+-- what good places become, and what they are where they are refused
+abbrev pub whereGood : Outcome (Unit {0}) → List ℕ → List ℕ → List ℕ
+whereGood (answered x) ys xs = ys
+whereGood (refused k) ys xs = xs
+whereGood (refusedAt k i) ys xs = xs
+
+-- what a challenge asks of the buffers: in small mode they are not looked at
+abbrev pub challengeIn : ℕ → Stage → Mode → List ℕ → List ℕ → Outcome (Unit {0})
+challengeIn p w m f g = cond (isSmall m) (answered tt) (goodIn p w f g)
+
+-- what it leaves in one of them: "a challenge writes as many as the new fold is long; all other places stay"
+abbrev pub foldedIn : ℕ → Stage → Mode → ℕ → List ℕ → List ℕ → List ℕ → List ℕ
+foldedIn p w m c f g xs = cond (isSmall m) xs (whereGood (goodIn p w f g) (foldSlice p c (sizeIn w / 2) xs) xs)
 
 -- how many places of the fold the padding completes
 abbrev pub paddedPlaces : Stage → ℕ

@@ -5,4 +5,5 @@ pub mod Take
 pub mod Blocks
 pub mod Values
 pub mod Lent
+pub mod Checks
 pub mod Formed

@@ -5,17 +5,25 @@ ghost use lib.ListN.{length};
 ghost use Rattle.refusal.specs.Check.{passed};
 ghost use Rattle.vector.specs.Vector.{at};
 ghost use Rattle.vector.specs.Opening.{opening};
-ghost use Rattle.pass.specs.Lent.{longIn, placesIn, reducedIn, cleared, paddedPlaces, paddedLent, padded, openedLent};
+ghost use Rattle.pass.specs.Lent.{longIn, placesIn, reducedIn, goodIn, lentIn, challengeIn, foldedIn, cleared, paddedPlaces, paddedLent, padded, openedLent};
 ghost use Rattle.pass.specs.Values.{inNinety};
 use super::Stage;
 use super::open::points_of;
 use super::values;
 use phase::Kind;
+use phase::Mode;
 use phase::cases;
+use phase::folds;
 use phase::levels;
 use refusal::Check;
 use refusal::pass_if;
 use vector::slice::write;
+
+// What the places of the current fold are.
+pub enum Lent {
+    Good,
+    Refused(u8),
+}
 
 // 9: both buffers are as long as the current fold.
 pub fn both_long(stage: Stage, flen: usize, glen: usize) -> Check
@@ -54,6 +62,37 @@ pub fn both_reduced(p: u32, stage: Stage, f: &[u32], g: &[u32]) -> Check
         return Check::Failed;
     }
     pass_if(vector::slice::all_reduced(p, g, size))
+}
+
+// 9, then 16.
+pub fn both_good(p: u32, stage: Stage, f: &[u32], g: &[u32]) -> Lent
+    ensures { λ r. ⌜ lentIn r ≡ goodIn p stage (now (f .entry)) (now (g .entry)) ⌝ }
+{
+    let Check::Passed = both_long(stage, f.len(), g.len()) else {
+        return Lent::Refused(refusal::BUFFER);
+    };
+    let Check::Passed = both_reduced(p, stage, f, g) else {
+        return Lent::Refused(refusal::VECTOR);
+    };
+    Lent::Good
+}
+
+// A challenge in both buffers: in full mode they are folded; in small mode nothing is lent.
+pub fn challenge(p: u32, stage: Stage, mode: Mode, c: u32, f: &mut [u32], g: &mut [u32]) -> Lent
+    ensures { λ r. ⌜ (lentIn r ≡ challengeIn p stage mode (now (f .entry)) (now (g .entry))) × (now (f .exit) ≡ foldedIn p stage mode c (now (f .entry)) (now (g .entry)) (now (f .entry))) × (now (g .exit) ≡ foldedIn p stage mode c (now (f .entry)) (now (g .entry)) (now (g .entry))) ⌝ }
+{
+    if cases::is_small(mode) {
+        return Lent::Good;
+    }
+    let good = both_good(p, stage, f, g);
+    let Lent::Good = good else {
+        return good;
+    };
+    let start = stage.start;
+    let next = stage.next;
+    folds::fold(p, c, start.rounds, stage.round, next, f);
+    folds::fold(p, c, start.rounds, stage.round, next, g);
+    Lent::Good
 }
 
 fn clear(v: &mut [u32], from: usize, count: usize)

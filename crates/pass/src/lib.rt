@@ -1,5 +1,6 @@
 // The record of a pass, and what opening, items and blocks of items do to it. It knows of its run only the stage that it is for.
 pub mod blocks;
+pub mod checks;
 pub mod formed;
 pub mod items;
 mod kernels;

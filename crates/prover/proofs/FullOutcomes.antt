@@ -1,39 +1,55 @@
 -- What a full-mode call and a challenge leave, by what their tests say.
-use mathlib.Core.Path.{_≡_, refl, sym, _∙_}
-use mathlib.Core.Bool.{Bool, true, false, true≢false}
+use mathlib.Core.Path.{_≡_, refl, sym, ap, _∙_}
+use mathlib.Core.Bool.{Bool, true, false}
 use mathlib.Core.List.{List}
-use Prim.Native.Nat.{ℕ}
+use Prim.Native.Nat.{ℕ, _/_}
 use lib.ListN.{length}
 use Rattle.refusal.specs.Number as number
-use Rattle.refusal.specs.Outcome.{Outcome, answered, require}
+use Rattle.refusal.specs.Outcome.{Outcome, answered, refused, require, andThen}
+use Rattle.vector.specs.Slice.{foldSlice}
 use Rattle.phase.specs.declared.Mode.{Mode}
 use Rattle.phase.specs.declared.Mode.the-variants.{Small, Full}
-use Rattle.phase.specs.Cases.{isSmall}
+use Rattle.pass.specs.Lent.{goodIn, whereGood, challengeIn, foldedIn}
 use Rattle.prover.specs.declared.Run.{Run}
 use Rattle.pass.specs.declared.Pass.{Pass}
-use Rattle.prover.specs.Records.{Out, out, leaves, refusedStep}
+use Rattle.prover.specs.declared.Step.{Step}
+use Rattle.prover.specs.declared.Answer.the-variants as answer
+use Rattle.prover.specs.Records.{Out, out, leaves, answeredStep, refusedStep}
+use Rattle.prover.specs.Level.{stageOf, foldSize}
 use Rattle.prover.specs.Calls.{bothLong}
 use Rattle.prover.specs.Full.{bothReduced, lentFolds}
-use Rattle.prover.specs.Challenge.{challengedSmall, challengedFull, challenged}
-use Rattle.prover.proofs.Outcomes.{stop, pass}
+use Rattle.prover.specs.Challenge.{keptChallenge, challengedFull, challenged}
+use Rattle.prover.proofs.Outcomes.{stop, pass, refused-not}
 
 module _ (p : ℕ) (r : Run) (s : Pass) (f g : List ℕ) where
-  abbrev long : Bool
-  long = bothLong r (length f) (length g)
+  abbrev good : Outcome (Unit {0})
+  good = goodIn p (stageOf r) f g
 
-  abbrev reduced : Bool
-  reduced = bothReduced p r f g
+  -- good places are there
+  pub good-long : good ≡ answered tt → bothLong r (length f) (length g) ≡ true
+  good-long e = by (bothLong r (length f) (length g)) _ e
+    where
+      by : (a : Bool) (o : Outcome (Unit {0})) → require a number.buffer o ≡ answered tt → a ≡ true
+      by true o e = refl
+      by false o e = absurd (refused-not e)
 
   -- the lent folds, then the rest
   module _ (rest : Outcome Out) where
-    pub lent-short : long ≡ false → leaves r s f g (lentFolds p r f g rest) ≡ out (refusedStep r s number.buffer) f g
-    lent-short a = stop r s f g long number.buffer _ a
+    lent-then : lentFolds p r f g rest ≡ andThen good (λ x. rest)
+    lent-then = by (bothLong r (length f) (length g)) (bothReduced p r f g)
+      where
+        by : (a b : Bool)
+            → require a number.buffer (require b number.vector rest)
+            ≡ andThen (require a number.buffer (require b number.vector (answered (tt {0})))) (λ x. rest)
+        by true true = refl
+        by true false = refl
+        by false b = refl
 
-    pub lent-unreduced : long ≡ true → reduced ≡ false → leaves r s f g (lentFolds p r f g rest) ≡ out (refusedStep r s number.vector) f g
-    lent-unreduced a b = pass r s f g long number.buffer _ a ∙ stop r s f g reduced number.vector rest b
+    pub lent-refused : (k : ℕ) → good ≡ refused k → leaves r s f g (lentFolds p r f g rest) ≡ out (refusedStep r s k) f g
+    lent-refused k e = ap (leaves r s f g) (lent-then ∙ ap (λ o. andThen o (λ x. rest)) e)
 
-    pub lent-read : long ≡ true → reduced ≡ true → leaves r s f g (lentFolds p r f g rest) ≡ leaves r s f g rest
-    lent-read a b = pass r s f g long number.buffer _ a ∙ pass r s f g reduced number.vector rest b
+    pub lent-read : good ≡ answered tt → leaves r s f g (lentFolds p r f g rest) ≡ leaves r s f g rest
+    lent-read e = ap (leaves r s f g) (lent-then ∙ ap (λ o. andThen o (λ x. rest)) e)
 
   -- a call that tests its turn and the lent folds
   module _ (turn : Bool) (o : Out) where
@@ -43,14 +59,11 @@ module _ (p : ℕ) (r : Run) (s : Pass) (f g : List ℕ) where
     pub read-turn : turn ≡ false → leaves r s f g call ≡ out (refusedStep r s number.order) f g
     read-turn t = stop r s f g turn number.order _ t
 
-    pub read-short : turn ≡ true → long ≡ false → leaves r s f g call ≡ out (refusedStep r s number.buffer) f g
-    read-short t a = pass r s f g turn number.order _ t ∙ lent-short (answered o) a
+    pub read-refused : turn ≡ true → (k : ℕ) → good ≡ refused k → leaves r s f g call ≡ out (refusedStep r s k) f g
+    read-refused t k e = pass r s f g turn number.order _ t ∙ lent-refused (answered o) k e
 
-    pub read-unreduced : turn ≡ true → long ≡ true → reduced ≡ false → leaves r s f g call ≡ out (refusedStep r s number.vector) f g
-    read-unreduced t a b = pass r s f g turn number.order _ t ∙ lent-unreduced (answered o) a b
-
-    pub read-given : turn ≡ true → long ≡ true → reduced ≡ true → leaves r s f g call ≡ o
-    read-given t a b = pass r s f g turn number.order _ t ∙ lent-read (answered o) a b
+    pub read-given : turn ≡ true → good ≡ answered tt → leaves r s f g call ≡ o
+    read-given t e = pass r s f g turn number.order _ t ∙ lent-read (answered o) e
 
   -- a call that tests a number between the two
   module _ (turn ok : Bool) (rest : Outcome Out) where
@@ -66,12 +79,25 @@ module _ (p : ℕ) (r : Run) (s : Pass) (f g : List ℕ) where
     pub number-good : turn ≡ true → ok ≡ true → leaves r s f g numbered ≡ leaves r s f g rest
     number-good t a = pass r s f g turn number.order _ t ∙ pass r s f g ok number.argument rest a
 
-  -- a challenge by its mode
+  -- a challenge by what it asks of the buffers
   module _ (c : ℕ) where
-    pub mode-small : (mode : Mode) → isSmall mode ≡ true → challenged p r s c f g mode ≡ answered (out (challengedSmall r s c) f g)
-    mode-small Small h = refl
-    mode-small Full h = absurd (true≢false (sym h))
+    abbrev folded : Mode → List ℕ → List ℕ
+    folded m xs = foldedIn p (stageOf r) m c f g xs
 
-    pub mode-full : (mode : Mode) → isSmall mode ≡ false → challenged p r s c f g mode ≡ lentFolds p r f g (answered (challengedFull p r s c f g))
-    mode-full Small h = absurd (true≢false h)
-    mode-full Full h = refl
+    abbrev kept : Step
+    kept = answeredStep (keptChallenge r c) s answer.Challenged
+
+    pub challenge-good : (m : Mode) → challengeIn p (stageOf r) m f g ≡ answered tt
+        → leaves r s f g (challenged p r s c f g m) ≡ out kept (folded m f) (folded m g)
+    unfolding challengedFull
+    challenge-good Small e = refl
+    challenge-good Full e =
+        lent-read (answered (challengedFull p r s c f g)) e
+        ∙ ap (λ o. out kept (whereGood o (foldSlice p c (foldSize r / 2) f) f) (whereGood o (foldSlice p c (foldSize r / 2) g) g)) (sym e)
+
+    pub challenge-refused : (m : Mode) (k : ℕ) → challengeIn p (stageOf r) m f g ≡ refused k
+        → leaves r s f g (challenged p r s c f g m) ≡ out (refusedStep r s k) (folded m f) (folded m g)
+    challenge-refused Small k e = absurd (refused-not (sym e))
+    challenge-refused Full k e =
+        lent-refused (answered (challengedFull p r s c f g)) k e
+        ∙ ap (λ o. out (refusedStep r s k) (whereGood o (foldSlice p c (foldSize r / 2) f) f) (whereGood o (foldSlice p c (foldSize r / 2) g) g)) (sym e)

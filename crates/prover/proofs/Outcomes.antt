@@ -1,18 +1,17 @@
 -- What a call leaves, by what its tests say.
 use mathlib.Core.Path.{_≡_, refl, sym, ap, _∙_}
-use mathlib.Core.Bool.{Bool, true, false, true≢false}
+use mathlib.Core.Bool.{Bool, true, false}
 use mathlib.Core.List.{List}
 use Prim.Native.Nat.{ℕ}
+use native.Mathlib.Omega.{arith}
 use lib.Dec.{eqb, ltb}
 use lib.ListN.{length}
 use Rattle.refusal.specs.Number as number
-use Rattle.refusal.specs.Outcome.{Outcome, refused, require}
+use Rattle.refusal.specs.Outcome.{Outcome, answered, refused, refusedAt, require, andThen}
 use Rattle.wire.specs.Proof.{writeProof}
 use Rattle.item.specs.declared.Given.{Given}
 use Rattle.item.specs.declared.Item.{Item}
-use Rattle.item.specs.declared.Parts.{Parts}
-use Rattle.item.specs.declared.Parts.the-variants as parts
-use Rattle.item.specs.Item.{partsOf, partsIn}
+use Rattle.item.specs.Item.{partsOf}
 use Rattle.kernel.specs.Change.{placedOf}
 use Rattle.phase.specs.declared.Next.the-variants as next
 use Rattle.phase.specs.Cases.{isChange, waits}
@@ -22,10 +21,12 @@ use Rattle.prover.specs.declared.Step.{Step}
 use Rattle.prover.specs.declared.Answer.the-variants as answer
 use Rattle.prover.specs.Records.{Out, out, leaves, answeredStep, refusedStep}
 use Rattle.pass.specs.Take.{summedItem}
+use Rattle.pass.specs.Checks.{itemChecks}
 use Rattle.pass.proofs.Taking as taking
 use Rattle.prover.specs.Level.{stageOf}
 use Rattle.prover.specs.Take.{handed, nextIndex, entering, enteredItem, placedItem, takenItem, takes}
-use Rattle.prover.specs.Calls.{passOpen, bothLong, placesThere, withItem, refusedParts, itemPlaces, giveCall}
+use Rattle.prover.specs.WellFormed.{wellFormed}
+use Rattle.prover.specs.Calls.{passOpen, bothLong, placesThere, giveCall}
 use Rattle.prover.specs.Change.{mayChange, changes, toFullCall}
 use Rattle.prover.specs.Written.{mayWrite, writeCall}
 use Rattle.prover.specs.Close.{totalFits, closing, closeCall, leavesStep}
@@ -54,51 +55,47 @@ module _ (r : Run) (s : Pass) (f g : List ℕ) where
   pub pass : (b : Bool) (k : ℕ) (rest : Outcome Out) → b ≡ true → leaves r s f g (require b k rest) ≡ leaves r s f g rest
   pass b k rest h = ap (λ t. leaves r s f g (require t k rest)) h
 
-abbrev pub isItem : Parts → Bool
-isItem (parts.Item x) = true
-isItem (parts.Refused k) = false
-isItem (parts.RefusedAt k i) = false
+-- a refusal is no answer
+pub refused-not : {A : Type 0} {k : ℕ} {x : A} → refused k ≡ answered x → ⊥
+refused-not e = let z : _≡_ {A = ℕ} 0 1 = cc in omega arith
+
+pub refusedAt-not : {A : Type 0} {k i : ℕ} {x : A} → refusedAt k i ≡ answered x → ⊥
+refusedAt-not e = let z : _≡_ {A = ℕ} 0 1 = cc in omega arith
 
 -- the outcomes of an item
 module _ (p : ℕ) (r : Run) (s : Pass) (given : Given) (f g : List ℕ) where
-  abbrev given-out : Out
-  given-out = leaves r s f g (giveCall p r s given f g)
+  abbrev took : Item → Outcome Out
+  took x = answered (takes p r s x f g)
 
-  pub give-shut : passOpen p r s ≡ false → given-out ≡ out (refusedStep r s number.order) f g
-  unfolding giveCall
-  give-shut a = stop r s f g (passOpen p r s) number.order _ a
+  abbrev checks : Outcome Item
+  checks = itemChecks p (stageOf r) (wellFormed p r s) (s .kind) (s .taken) given (length f) (length g)
 
-  module _ (a : passOpen p r s ≡ true) where
-    pub give-beyond : ltb (s .taken) (r .start .items) ≡ false → given-out ≡ out (refusedStep r s number.items) f g
-    unfolding giveCall
-    give-beyond b = pass r s f g (passOpen p r s) number.order _ a ∙ stop r s f g (ltb (s .taken) (r .start .items)) number.items _ b
+  -- its checks, then it is taken
+  pub give-checked : (o : Outcome Item) → o ≡ checks → giveCall p r s given f g ≡ andThen o took
+  unfolding giveCall itemChecks
+  give-checked o e =
+      by (passOpen p r s) (ltb (s .taken) (r .start .items)) (placesThere r s (length f) (length g)) (partsOf p (r .start) (nextIndex r s) given)
+      ∙ ap (λ o. andThen o took) (sym e)
+    where
+      by : (a b d : Bool) (o : Outcome Item)
+          → require a number.order (require b number.items (andThen o (λ x. require d number.buffer (took x))))
+          ≡ andThen (require a number.order (require b number.items (andThen o (λ x. require d number.buffer (answered x))))) took
+      by false b d o = refl
+      by true false d o = refl
+      by true true true (answered x) = refl
+      by true true false (answered x) = refl
+      by true true d (refused k) = refl
+      by true true d (refusedAt k i) = refl
 
-    module _ (b : ltb (s .taken) (r .start .items) ≡ true) (o : Parts) (same : partsIn o ≡ partsOf p (r .start) (nextIndex r s) given) where
-      give-parts : given-out ≡ leaves r s f g (withItem (partsIn o) (itemPlaces p r s f g))
-      unfolding giveCall
-      give-parts =
-          pass r s f g (passOpen p r s) number.order _ a
-          ∙ pass r s f g (ltb (s .taken) (r .start .items)) number.items _ b
-          ∙ ap (λ q. leaves r s f g (withItem q (itemPlaces p r s f g))) (sym same)
-
-      -- its own checks refuse it
-      pub give-refused : isItem o ≡ false → given-out ≡ out (refusedParts r s o) f g
-      give-refused e = give-parts ∙ by o e
-        where
-          by : (o : Parts) → isItem o ≡ false → leaves r s f g (withItem (partsIn o) (itemPlaces p r s f g)) ≡ out (refusedParts r s o) f g
-          by (parts.Item x) e = absurd (true≢false e)
-          by (parts.Refused k) e = refl
-          by (parts.RefusedAt k i) e = refl
-
-      module _ (x : Item) (e : o ≡ parts.Item x) where
-        give-item : given-out ≡ leaves r s f g (itemPlaces p r s f g x)
-        give-item = give-parts ∙ ap (λ q. leaves r s f g (withItem (partsIn q) (itemPlaces p r s f g))) e
-
-        pub give-short : placesThere r s (length f) (length g) ≡ false → given-out ≡ out (refusedStep r s number.buffer) f g
-        give-short d = give-item ∙ stop r s f g (placesThere r s (length f) (length g)) number.buffer _ d
-
-        pub give-taken : placesThere r s (length f) (length g) ≡ true → given-out ≡ takes p r s x f g
-        give-taken d = give-item ∙ pass r s f g (placesThere r s (length f) (length g)) number.buffer _ d
+  -- of an item that they took: a pass is open, and it is wanted
+  pub checks-wanted : (x : Item) → checks ≡ answered x → (passOpen p r s ≡ true) × (ltb (s .taken) (r .start .items) ≡ true)
+  unfolding itemChecks
+  checks-wanted x e = by (passOpen p r s) (ltb (s .taken) (r .start .items)) _ e
+    where
+      by : (a b : Bool) (o : Outcome Item) → require a number.order (require b number.items o) ≡ answered x → (a ≡ true) × (b ≡ true)
+      by true true o e = (refl, refl)
+      by true false o e = absurd (refused-not e)
+      by false b o e = absurd (refused-not e)
 
 -- the outcomes of a change
 module _ (p : ℕ) (r : Run) (s : Pass) (f g : List ℕ) where

@@ -5,36 +5,21 @@ use mathlib.Core.List.{List}
 use lib.Dec.{ltb}
 use lib.ListN.{length}
 use Rattle.refusal.specs.Number as number
-use Rattle.refusal.specs.Outcome.{Outcome, answered, refused, refusedAt, require}
+use Rattle.refusal.specs.Outcome.{Outcome, answered, require, andThen}
 use Rattle.item.specs.declared.Given.{Given}
 use Rattle.item.specs.declared.Item.{Item}
-use Rattle.item.specs.declared.Parts.{Parts}
-use Rattle.item.specs.declared.Parts.the-variants as parts
 use Rattle.item.specs.Item.{partsOf}
 use Rattle.phase.specs.Turn.{itemTurn}
 use Rattle.pass.specs.Lent.{longIn, placesIn}
 use Rattle.prover.specs.declared.Run.{Run}
 use Rattle.pass.specs.declared.Pass.{Pass}
-use Rattle.prover.specs.declared.Step.{Step}
-use Rattle.prover.specs.Records.{Out, refusedStep, refusedAtStep}
+use Rattle.prover.specs.Records.{Out}
 use Rattle.prover.specs.Level.{stageOf}
 use Rattle.prover.specs.WellFormed.{wellFormed}
 use Rattle.prover.specs.Take.{nextIndex, takes}
 
 abbrev pub bothLong : Run → ℕ → ℕ → Bool
 bothLong r flen glen = longIn (stageOf r) flen glen
-
--- what an item contributes, or its refusal
-abbrev pub withItem : {A : Type 0} → Outcome Item → (Item → Outcome A) → Outcome A
-withItem (answered x) rest = rest x
-withItem (refused k) rest = refused k
-withItem (refusedAt k i) rest = refusedAt k i
-
--- the step of an item that its own checks refuse; an item that they take is not handed to it
-abbrev pub refusedParts : Run → Pass → Parts → Step
-refusedParts r s (parts.Item x) = refusedStep r s number.order
-refusedParts r s (parts.Refused k) = refusedStep r s k
-refusedParts r s (parts.RefusedAt k i) = refusedAtStep r s k i
 
 -- a record that a call returned, with a pass open
 abbrev pub passOpen : ℕ → Run → Pass → Bool
@@ -51,4 +36,4 @@ unfoldable pub giveCall : ℕ → Run → Pass → Given → List ℕ → List �
 giveCall p r s given f g =
     require (passOpen p r s) number.order
     (require (ltb (s .taken) (r .start .items)) number.items
-    (withItem (partsOf p (r .start) (nextIndex r s) given) (itemPlaces p r s f g)))
+    (andThen (partsOf p (r .start) (nextIndex r s) given) (itemPlaces p r s f g)))

@@ -15,8 +15,7 @@ use field::Checked;
 use field::Field;
 use pass::Pass;
 use pass::lent;
-use phase::cases;
-use phase::folds;
+use pass::lent::Lent;
 use phase::order;
 use phase::turns;
 use refusal::Check;
@@ -39,28 +38,16 @@ fn keep_challenge(run: Run, c: u32) -> Run
     }
 }
 
-// A challenge whose number is good. In full mode it "writes as many as the new fold is long; all other places stay"; in small mode
-// nothing is lent.
+// A challenge whose number is good.
 fn take(p: u32, run: Run, pass: Pass, c: u32, f: &mut [u32], g: &mut [u32]) -> Step
     requires { ⌜ run .round < 15 ⌝ }
     ensures { λ r. ⌜ out r (now (f .exit)) (now (g .exit)) ≡ leaves run pass (now (f .entry)) (now (g .entry)) (challenged p run pass c (now (f .entry)) (now (g .entry)) (run .mode)) ⌝ }
 {
     let mode = run.mode;
-    if cases::is_small(mode) {
-        return answered(keep_challenge(run, c), pass, Answer::Challenged);
+    match lent::challenge(p, stage_of(run), mode, c, f, g) {
+        Lent::Good => answered(keep_challenge(run, c), pass, Answer::Challenged),
+        Lent::Refused(number) => refuse(run, pass, number),
     }
-    let stage = stage_of(run);
-    let Check::Passed = lent::both_long(stage, f.len(), g.len()) else {
-        return refuse(run, pass, refusal::BUFFER);
-    };
-    let Check::Passed = lent::both_reduced(p, stage, f, g) else {
-        return refuse(run, pass, refusal::VECTOR);
-    };
-    let start = run.start;
-    let next = run.next;
-    folds::fold(p, c, start.rounds, run.round, next, f);
-    folds::fold(p, c, start.rounds, run.round, next, g);
-    answered(keep_challenge(run, c), pass, Answer::Challenged)
 }
 
 impl Run {

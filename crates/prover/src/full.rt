@@ -16,6 +16,7 @@ use super::formed::well_formed;
 use super::stage::stage_of;
 use pass::Pass;
 use pass::lent;
+use pass::lent::Lent;
 use phase::Next;
 use phase::folds;
 use phase::turns;
@@ -59,14 +60,10 @@ impl Run {
         let Check::Passed = turns::full_next(well, mode, Next::Message, next) else {
             return refuse(self, pass, refusal::ORDER);
         };
-        let stage = stage_of(self);
-        let Check::Passed = lent::both_long(stage, f.len(), g.len()) else {
-            return refuse(self, pass, refusal::BUFFER);
-        };
-        let Check::Passed = lent::both_reduced(p, stage, f, g) else {
-            return refuse(self, pass, refusal::VECTOR);
-        };
-        give_message(p, self, pass, f, g)
+        match lent::both_good(p, stage_of(self), f, g) {
+            Lent::Good => give_message(p, self, pass, f, g),
+            Lent::Refused(number) => refuse(self, pass, number),
+        }
     }
 
     // The end values.
@@ -80,13 +77,9 @@ impl Run {
         let Check::Passed = turns::full_next(well, mode, Next::Ends, next) else {
             return refuse(self, pass, refusal::ORDER);
         };
-        let stage = stage_of(self);
-        let Check::Passed = lent::both_long(stage, f.len(), g.len()) else {
-            return refuse(self, pass, refusal::BUFFER);
-        };
-        let Check::Passed = lent::both_reduced(p, stage, f, g) else {
-            return refuse(self, pass, refusal::VECTOR);
-        };
-        give_ends(self, pass, f, g)
+        match lent::both_good(p, stage_of(self), f, g) {
+            Lent::Good => give_ends(self, pass, f, g),
+            Lent::Refused(number) => refuse(self, pass, number),
+        }
     }
 }

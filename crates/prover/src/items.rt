@@ -3,7 +3,7 @@ ghost use mathlib.Core.Path.{_≡_};
 ghost use Rattle.item.specs.Start.{modulusOf};
 ghost use Rattle.item.specs.declared.Given.the-variants as Given;
 ghost use Rattle.prover.specs.Records.{out, leaves};
-ghost use Rattle.prover.specs.Calls.{refusedParts, giveCall};
+ghost use Rattle.prover.specs.Calls.{giveCall};
 use super::Answer;
 use super::Run;
 use super::Step;
@@ -15,46 +15,21 @@ use super::stage::stage_of;
 use item::Given;
 use item::Parts;
 use pass::Pass;
+use pass::checks;
 use pass::items;
-use pass::lent;
-use phase::order;
-use phase::turns;
-use refusal::Check;
-
-// The refusal of an item by its own checks.
-fn refuse_parts(run: Run, pass: Pass, parts: Parts) -> Step
-    ensures { λ r. ⌜ r ≡ refusedParts run pass parts ⌝ }
-{
-    match parts {
-        // Not reached: the caller has the item.
-        Parts::Item(_) => refuse(run, pass, refusal::ORDER),
-        Parts::Refused(number) => refuse(run, pass, number),
-        Parts::RefusedAt(number, index) => refuse_at(run, pass, number, index),
-    }
-}
 
 // An item of either kind of run. The buffers matter in a change pass only.
 fn give(p: u32, run: Run, pass: Pass, given: Given, f: &mut [u32], g: &mut [u32]) -> Step
     ensures { λ r. ⌜ out r (now (f .exit)) (now (g .exit)) ≡ leaves run pass (now (f .entry)) (now (g .entry)) (giveCall p run pass given (now (f .entry)) (now (g .entry))) ⌝ }
 {
-    let kind = pass.kind;
-    let Check::Passed = turns::item(well_formed(p, run, pass), kind) else {
-        return refuse(run, pass, refusal::ORDER);
-    };
-    let start = run.start;
-    let Check::Passed = order::item_wanted(pass.taken, start.items) else {
-        return refuse(run, pass, refusal::ITEMS);
-    };
-    let parts = item::parts_of(p, start, start.items - 1 - pass.taken, given);
-    let Parts::Item(x) = parts else {
-        return refuse_parts(run, pass, parts);
-    };
+    let well = well_formed(p, run, pass);
     let stage = stage_of(run);
-    let Check::Passed = lent::places_there(stage, kind, f.len(), g.len()) else {
-        return refuse(run, pass, refusal::BUFFER);
-    };
-    let after = items::take(p, stage, pass, x, f, g);
-    answered(run, after, Answer::Taken)
+    let kind = pass.kind;
+    match checks::item(p, stage, well, kind, pass.taken, given, f.len(), g.len()) {
+        Parts::Item(x) => answered(run, items::take(p, stage, pass, x, f, g), Answer::Taken),
+        Parts::Refused(number) => refuse(run, pass, number),
+        Parts::RefusedAt(number, index) => refuse_at(run, pass, number, index),
+    }
 }
 
 impl Run {

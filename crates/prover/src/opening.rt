@@ -13,6 +13,7 @@ use field::Checked;
 use field::Field;
 use pass::Pass;
 use pass::lent;
+use pass::lent::Lent;
 use phase::turns;
 use refusal::Check;
 
@@ -31,18 +32,14 @@ impl Run {
             return refuse(self, pass, refusal::ARGUMENT);
         };
         let stage = stage_of(self);
-        let Check::Passed = lent::both_long(stage, f.len(), g.len()) else {
-            return refuse(self, pass, refusal::BUFFER);
-        };
-        let Check::Passed = lent::both_reduced(p, stage, f, g) else {
-            return refuse(self, pass, refusal::VECTOR);
-        };
-        let values = lent::opening(p, stage, b.to_u32(), f, g);
-        Step {
-            run: self,
-            pass,
-            answer: Answer::Opening,
-            values,
+        match lent::both_good(p, stage, f, g) {
+            Lent::Good => Step {
+                run: self,
+                pass,
+                answer: Answer::Opening,
+                values: lent::opening(p, stage, b.to_u32(), f, g),
+            },
+            Lent::Refused(number) => refuse(self, pass, number),
         }
     }
 }

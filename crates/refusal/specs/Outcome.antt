@@ -16,6 +16,12 @@ require ok number rest = cond ok rest (refused number)
 abbrev pub requireAt : {A : Type 0} → Bool → ℕ → ℕ → Outcome A → Outcome A
 requireAt ok number index rest = cond ok rest (refusedAt number index)
 
+-- what follows an answer; a refusal stays
+abbrev pub andThen : {A B : Type 0} → Outcome A → (A → Outcome B) → Outcome B
+andThen (answered x) rest = rest x
+andThen (refused k) rest = refused k
+andThen (refusedAt k i) rest = refusedAt k i
+
 -- "the lowest faulty item counts": the n indices from i on, each by its own checks; then the rest
 unfoldable pub requireAll : {A : Type 0} → (ℕ → Outcome A → Outcome A) → ℕ → ℕ → Outcome A → Outcome A
 requireAll checks i zero rest = rest
