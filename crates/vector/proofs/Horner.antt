@@ -1,7 +1,7 @@
 -- Evaluations by Horner's rule from the last item, gathered as the items of a level complete.
 use mathlib.Core.Path.{_≡_, sym, ap, ap₂, _∙_}
 use Prim.Native.Nat.{ℕ, zero, suc, _+_, _-_, _*_, _/_, _^_, _<_, _≤_}
-use native.Mathlib.Nat.{add-zero, mul-assoc, mul-one, pow-suc, pow-zero}
+use native.Mathlib.Nat.{add-zero, mul-assoc, mul-one, zero-mul, pow-suc, pow-zero}
 use native.Mathlib.Omega.{arith}
 use Rattle.algebra.specs.Mod.{residue, addMod, mulMod}
 use Rattle.algebra.proofs.Congruence.{cong-add, cong-mul, cong-refl, cong-residue, cong-trans, mul-cong, residue-zero}
@@ -10,7 +10,7 @@ use Rattle.vector.specs.Rounds.{size}
 use Rattle.vector.specs.Vector.{Vector, sum}
 use Rattle.vector.specs.Fold.{combine, fold}
 use Rattle.vector.specs.Opening.{evaluate}
-use Rattle.vector.proofs.Sums.{sum-first, sum-same, sum-times}
+use Rattle.vector.proofs.Sums.{sum-first, sum-same, sum-times, sum-until}
 use Rattle.vector.proofs.Folds.{fold-image}
 use Rattle.vector.proofs.Counts.{completes-zero}
 use Rattle.vector.proofs.Machine.{itemBefore, gathered}
@@ -33,6 +33,10 @@ horner-zero p x = rw (zero-product p x, zero-sum p 0) (residue-zero p)
 -- a value is that of the first h items
 pub evaluate-same : (p h : ℕ) (u v : Vector) (x : ℕ) → ((i : ℕ) → i < h → u i ≡ v i) → evaluate p h u x ≡ evaluate p h v x
 evaluate-same p h u v x e = ap (residue p) (sum-same h _ _ (λ i l. rw (e i l)))
+
+-- zeros at the end add nothing
+pub evaluate-until : (p m n : ℕ) (v : Vector) (x : ℕ) → m ≤ n → ((i : ℕ) → m ≤ i → i < n → v i ≡ 0) → evaluate p n v x ≡ evaluate p m v x
+evaluate-until p m n v x l h = ap (residue p) (sum-until m n (λ i. v i * x ^ i) l (λ i a b. rw (h i a b) (zero-mul (x ^ i))))
 
 module _ (p x : ℕ) (v : Vector) (h : ℕ) where
   step-sum : (s item : ℕ) → hornerStep p x (residue p s) item ≡ residue p (item + s * x)

@@ -25,3 +25,4 @@ pub mod SplitWeights
 pub mod EndValues
 pub mod Openings
 pub mod Arrivals
+pub mod Exchange
