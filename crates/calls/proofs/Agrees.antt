@@ -51,8 +51,10 @@ pub record Agrees (p : ℕ) (through : Bool) (its : List Given) (a : State) (pas
   pub placesF : (j : ℕ) → known through a ≤ j → j < long a → at (a .buffers .f) j ≡ foldF p (tripAt its a) a j
   pub placesG : (j : ℕ) → known through a ≤ j → j < long a → at (a .buffers .g) j ≡ foldG p (tripAt its a) a j
   pub total : a .start .plain ≡ true → waits next.Total (a .turn .next) ≡ false → past .total ≡ totalOf (tripAt its a)
-  pub messages : past .messages ≡ messagesTo p (tripAt its a) (a .turn .challenges) (givenAt (length (a .turn .challenges)) (a .turn .next))
-  pub ends : waits next.Openings (a .turn .next) ≡ true
+  -- only a plain run writes its messages and ends into a file
+  pub messages : a .start .plain ≡ true
+      → past .messages ≡ messagesTo p (tripAt its a) (a .turn .challenges) (givenAt (length (a .turn .challenges)) (a .turn .next))
+  pub ends : a .start .plain ≡ true → waits next.Openings (a .turn .next) ≡ true
       → (past .fend ≡ endValue p (at (a .turn .challenges)) (a .start .rounds) (vectorF p (tripAt its a)))
       × (past .gend ≡ endValue p (at (a .turn .challenges)) (a .start .rounds) (vectorG p (tripAt its a)))
 

@@ -294,8 +294,8 @@ module _ (p : ℕ) (large : maxWeight < p) (through : Bool) (T : Trip) (whole : 
         placesF = λ j lo hi. absurd (omega arith);
         placesG = λ j lo hi. absurd (omega arith);
         total = λ plain w. absurd (true≢false w);
-        messages = refl;
-        ends = λ w. absurd (true≢false (sym w));
+        messages = λ _. refl;
+        ends = λ _ w. absurd (true≢false (sym w));
       }
 
   pub fresh-going : Startable (T .start) → (f g : List ℕ) → Going (freshWorld (T .start) f g) noNotes

@@ -79,7 +79,7 @@ lt-or-le j m = by (ltb j m) refl
     by false e = inr (ltb-false j m e)
 
 -- a list of field Numbers in an array
-zeros-at : (m j : ℕ) → at (replicate m 0) j ≡ 0
+pub zeros-at : (m j : ℕ) → at (replicate m 0) j ≡ 0
 zeros-at m j =
     ⊎-elim (λ (l : j < m). getD-replicate m j 0 0 l)
     (λ (l : m ≤ j). List·getD-eq-default (replicate m 0) 0 {n = j} (omega (arith, length-replicate {A = ℕ} m 0))) (lt-or-le j m)

@@ -200,13 +200,13 @@ module _ (p : ℕ) (large : maxWeight < p) (through : Bool) (its : List Given) (
   total-agrees plain ep et s z d e =
       let none-yet : length (a .turn .challenges) ≡ 0 = eqb-true _ _ (subst (λ t. roundFits t (length (a .turn .challenges)) (a .start .rounds) ≡ true) et (h .run .round)) in
       let q = given-round 0 (a .start .rounds) in
-      let messages : past .messages ≡ messagesTo p T (a .turn .challenges) (givenAt (length (a .turn .challenges)) (roundOrEnds 0 (a .start .rounds))) =
-      g .messages ∙ ap (λ t. messagesTo p T (a .turn .challenges) (givenAt (length (a .turn .challenges)) t)) et
+      let messages : a .start .plain ≡ true → past .messages ≡ messagesTo p T (a .turn .challenges) (givenAt (length (a .turn .challenges)) (roundOrEnds 0 (a .start .rounds))) =
+      λ plain. g .messages plain ∙ ap (λ t. messagesTo p T (a .turn .challenges) (givenAt (length (a .turn .challenges)) t)) et
       ∙ ap (messagesTo p T (a .turn .challenges)) (sym (q .0) ∙ ap (λ i. givenAt i (roundOrEnds 0 (a .start .rounds))) (sym none-yet)) in
       by plain ep e messages (q .1)
     where
       by : (plain : Bool) → a .start .plain ≡ plain → (plain ≡ true → z ≡ totalOf T)
-          → past .messages ≡ messagesTo p T (a .turn .challenges) (givenAt (length (a .turn .challenges)) (roundOrEnds 0 (a .start .rounds)))
+          → (a .start .plain ≡ true → past .messages ≡ messagesTo p T (a .turn .challenges) (givenAt (length (a .turn .challenges)) (roundOrEnds 0 (a .start .rounds))))
           → waits next.Openings (roundOrEnds 0 (a .start .rounds)) ≡ false
           → Agrees p through its (goesTo a (roundOrEnds 0 (a .start .rounds))) (noted past (cond plain (answered (reply.total z)) (answered (reply.fieldTotal d))))
       by true ep e messages later =
@@ -218,7 +218,7 @@ module _ (p : ℕ) (large : maxWeight < p) (through : Bool) (its : List Given) (
             placesG = λ j lo hi. absurd (no-place (long b) _ j none lo hi);
             total = λ _ _. e refl;
             messages = messages;
-            ends = λ w. absurd (true≢false (sym w ∙ later));
+            ends = λ _ w. absurd (true≢false (sym w ∙ later));
           }
       by false ep e messages later =
           let b : State = goesTo a (roundOrEnds 0 (a .start .rounds)) in
@@ -229,15 +229,15 @@ module _ (p : ℕ) (large : maxWeight < p) (through : Bool) (its : List Given) (
             placesG = λ j lo hi. absurd (no-place (long b) _ j none lo hi);
             total = λ w _. absurd (true≢false (sym w ∙ ep));
             messages = messages;
-            ends = λ w. absurd (true≢false (sym w ∙ later));
+            ends = λ _ w. absurd (true≢false (sym w ∙ later));
           }
 
   -- a message was given: in small mode with the close, in full mode by its own call
-  message-kept : a .turn .next ≡ next.Message → (even cross odd : ℕ) → answered (reply.message even cross odd) ≡ meant p T (a .turn .challenges) (roundMessage (length (a .turn .challenges))) .answer
+  message-kept : a .start .plain ≡ true → a .turn .next ≡ next.Message → (even cross odd : ℕ) → answered (reply.message even cross odd) ≡ meant p T (a .turn .challenges) (roundMessage (length (a .turn .challenges))) .answer
       → past .messages ++ even ∷ cross ∷ odd ∷ [] ≡ messagesTo p T (a .turn .challenges) (suc (length (a .turn .challenges)))
   unfolding messagesTo
-  message-kept et even cross odd e =
-      ap₂ _++_ (g .messages ∙ ap (λ t. messagesTo p T (a .turn .challenges) (givenAt (length (a .turn .challenges)) t)) et) (ap numbersIn e)
+  message-kept plain et even cross odd e =
+      ap₂ _++_ (g .messages plain ∙ ap (λ t. messagesTo p T (a .turn .challenges) (givenAt (length (a .turn .challenges)) t)) et) (ap numbersIn e)
 
   small-message : a .turn .next ≡ next.Message → isSmall (a .turn .mode) ≡ true → (even cross odd : ℕ) → answered (reply.message even cross odd) ≡ meant p T (a .turn .challenges) (roundMessage (length (a .turn .challenges))) .answer
       → Agrees p through its (goesTo a next.Challenge) (noted past (answered (reply.message even cross odd)))
@@ -249,8 +249,8 @@ module _ (p : ℕ) (large : maxWeight < p) (through : Bool) (its : List Given) (
         placesF = λ j lo hi. absurd (no-place (long b) _ j none lo hi);
         placesG = λ j lo hi. absurd (no-place (long b) _ j none lo hi);
         total = λ plain _. g .total plain (ap (waits next.Total) et);
-        messages = message-kept et even cross odd e;
-        ends = λ w. absurd (true≢false (sym w));
+        messages = λ plain. message-kept plain et even cross odd e;
+        ends = λ _ w. absurd (true≢false (sym w));
       }
 
   -- the ends were given
@@ -268,8 +268,8 @@ module _ (p : ℕ) (large : maxWeight < p) (through : Bool) (its : List Given) (
         placesF = λ j lo hi. absurd (no-place (long b) _ j none lo hi);
         placesG = λ j lo hi. absurd (no-place (long b) _ j none lo hi);
         total = λ plain _. g .total plain (ap (waits next.Total) et);
-        messages = g .messages ∙ ap (λ t. messagesTo p T (a .turn .challenges) (givenAt (length (a .turn .challenges)) t)) et;
-        ends = λ w. ends-kept x y e;
+        messages = λ plain. g .messages plain ∙ ap (λ t. messagesTo p T (a .turn .challenges) (givenAt (length (a .turn .challenges)) t)) et;
+        ends = λ _ w. ends-kept x y e;
       }
 
   small-openings : a .turn .next ≡ next.Openings → isSmall (a .turn .mode) ≡ true → Agrees p through its (goesTo a next.Openings) past
@@ -281,8 +281,8 @@ module _ (p : ℕ) (large : maxWeight < p) (through : Bool) (its : List Given) (
         placesF = λ j lo hi. absurd (no-place (long b) _ j none lo hi);
         placesG = λ j lo hi. absurd (no-place (long b) _ j none lo hi);
         total = λ plain _. g .total plain (ap (waits next.Total) et);
-        messages = g .messages ∙ ap (λ t. messagesTo p T (a .turn .challenges) (givenAt (length (a .turn .challenges)) t)) et;
-        ends = λ w. g .ends (ap (waits next.Openings) et);
+        messages = λ plain. g .messages plain ∙ ap (λ t. messagesTo p T (a .turn .challenges) (givenAt (length (a .turn .challenges)) t)) et;
+        ends = λ plain w. g .ends plain (ap (waits next.Openings) et);
       }
 
   -- the change is done: every place is known
@@ -367,8 +367,8 @@ module _ (p : ℕ) (large : maxWeight < p) (through : Bool) (its : List Given) (
         placesF = λ j lo hi. subst (λ i. j < size (a .start .rounds) i → at (l .f) j ≡ fold p (at (a .turn .challenges)) i (vectorF p T) j) lv (λ hi. kept j hi .0 ∙ g .placesF j (omega arith) hi) hi;
         placesG = λ j lo hi. subst (λ i. j < size (a .start .rounds) i → at (l .g) j ≡ fold p (at (a .turn .challenges)) i (vectorG p T) j) lv (λ hi. kept j hi .1 ∙ g .placesG j (omega arith) hi) hi;
         total = λ plain _. g .total plain (ap (waits next.Total) et);
-        messages = message-kept et even cross odd e;
-        ends = λ w. absurd (true≢false (sym w));
+        messages = λ plain. message-kept plain et even cross odd e;
+        ends = λ _ w. absurd (true≢false (sym w));
       }
 
   pub full-ends : a .turn .next ≡ next.Ends → isFull (a .turn .mode) ≡ true → (x y : ℕ) → answered (reply.ends x y) ≡ meant p T (a .turn .challenges) ends .answer
@@ -381,18 +381,18 @@ module _ (p : ℕ) (large : maxWeight < p) (through : Bool) (its : List Given) (
         placesF = λ j lo hi. absurd (no-place (long b) _ j none lo hi);
         placesG = λ j lo hi. absurd (no-place (long b) _ j none lo hi);
         total = λ plain _. g .total plain (ap (waits next.Total) et);
-        messages = g .messages ∙ ap (λ t. messagesTo p T (a .turn .challenges) (givenAt (length (a .turn .challenges)) t)) et;
-        ends = λ w. ends-kept x y e;
+        messages = λ plain. g .messages plain ∙ ap (λ t. messagesTo p T (a .turn .challenges) (givenAt (length (a .turn .challenges)) t)) et;
+        ends = λ _ w. ends-kept x y e;
       }
 
   -- A CHALLENGE
-  challenge-messages : a .turn .next ≡ next.Challenge → (c : ℕ)
+  challenge-messages : a .start .plain ≡ true → a .turn .next ≡ next.Challenge → (c : ℕ)
       → past .messages ≡ messagesTo p T (a .turn .challenges ++ c ∷ []) (givenAt (length (a .turn .challenges ++ c ∷ [])) (takesChallenge a c .turn .next))
-  challenge-messages et c =
+  challenge-messages plain et c =
       let i : ℕ = length (a .turn .challenges) in
       let ds : List ℕ = a .turn .challenges ++ c ∷ [] in
       let up : length ds ≡ suc i = length-append (a .turn .challenges) (c ∷ []) ∙ add-one i in
-      g .messages ∙ ap (λ t. messagesTo p T (a .turn .challenges) (givenAt i t)) et
+      g .messages plain ∙ ap (λ t. messagesTo p T (a .turn .challenges) (givenAt i t)) et
       ∙ messages-before p T (a .turn .challenges) ds i (λ j less. sym (old-challenges (a .turn .challenges) c j less))
       ∙ ap (messagesTo p T ds) (sym up ∙ sym (given-round (length ds) (a .start .rounds) .0))
 
@@ -408,8 +408,8 @@ module _ (p : ℕ) (large : maxWeight < p) (through : Bool) (its : List Given) (
         placesF = λ j lo hi. absurd (no-place (long b) _ j none lo hi);
         placesG = λ j lo hi. absurd (no-place (long b) _ j none lo hi);
         total = λ plain _. g .total plain (ap (waits next.Total) et);
-        messages = challenge-messages et c;
-        ends = λ z. absurd (true≢false (sym z ∙ given-round (length (a .turn .challenges ++ c ∷ [])) (a .start .rounds) .1));
+        messages = λ plain. challenge-messages plain et c;
+        ends = λ _ z. absurd (true≢false (sym z ∙ given-round (length (a .turn .challenges ++ c ∷ [])) (a .start .rounds) .1));
       }
   challenge-agrees c o Full em et w =
       let b : State = takesChallenge a c in
@@ -420,6 +420,6 @@ module _ (p : ℕ) (large : maxWeight < p) (through : Bool) (its : List Given) (
         placesF = λ j lo hi. w refl .0 .wrote j (omega arith) (omega (arith, sizes));
         placesG = λ j lo hi. w refl .1 .wrote j (omega arith) (omega (arith, sizes));
         total = λ plain _. g .total plain (ap (waits next.Total) et);
-        messages = challenge-messages et c;
-        ends = λ z. absurd (true≢false (sym z ∙ given-round (length (a .turn .challenges ++ c ∷ [])) (a .start .rounds) .1));
+        messages = λ plain. challenge-messages plain et c;
+        ends = λ _ z. absurd (true≢false (sym z ∙ given-round (length (a .turn .challenges ++ c ∷ [])) (a .start .rounds) .1));
       }

@@ -10,6 +10,7 @@ pub mod Fits
 pub mod Numbers
 pub mod Follows
 pub mod Refusals
+pub mod Begins
 pub mod BlockRows
 pub mod BlockSingles
 pub mod BlockLists

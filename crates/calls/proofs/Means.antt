@@ -191,8 +191,8 @@ module _ (p : ℕ) (large : maxWeight < p) (through : Bool) (its : List Given) (
       let full : length (a .turn .challenges) ≡ n = eqb-true _ _ (subst (λ t. roundFits t (length (a .turn .challenges)) n ≡ true) et (h .run .round)) in
       let count : length (past .messages) ≡ 3 * n = h .run .given ∙ ap (λ t. 3 * givenAt (length (a .turn .challenges)) t) et ∙ ap (λ k. 3 * k) full in
       let given : past .messages ≡ messagesTo p T (a .turn .challenges) n =
-      g .messages ∙ ap (λ t. messagesTo p T (a .turn .challenges) (givenAt (length (a .turn .challenges)) t)) et ∙ ap (messagesTo p T (a .turn .challenges)) full in
-      let e = g .ends (ap (waits next.Openings) et) in
+      g .messages plain ∙ ap (λ t. messagesTo p T (a .turn .challenges) (givenAt (length (a .turn .challenges)) t)) et ∙ ap (messagesTo p T (a .turn .challenges)) full in
+      let e = g .ends plain (ap (waits next.Openings) et) in
       let z : past .total ≡ totalOf T = g .total plain (ap (waits next.Total) et) in
       ap₂ (λ z ms. proofFile n z (ms ++ past .fend ∷ past .gend ∷ [])) z (array-take 45 (past .messages) (3 * n) count ∙ given)
       ∙ ap₂ (λ x y. proofFile n (totalOf T) (messagesTo p T (a .turn .challenges) n ++ x ∷ y ∷ [])) (e .0) (e .1)

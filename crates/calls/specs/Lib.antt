@@ -12,6 +12,7 @@ pub mod Carried
 pub mod WholeList
 pub mod Verdict
 pub mod Starts
+pub mod Begins
 pub mod Proper
 pub mod Blocks
 pub mod Demand3

@@ -8,10 +8,11 @@ use Rattle.refusal.specs.Outcome.{Outcome, answered, require}
 use Rattle.field.specs.Number.{isNonzero}
 use Rattle.kernel.specs.Kernel.{emptyKernel}
 use Rattle.vector.specs.Rounds.{roundsOf}
+use Rattle.vector.specs.Slice.{fifteen}
 use Rattle.item.specs.declared.Start.{Start}
 use Rattle.item.specs.Start.{countFits, roundsFit, listFits, plainStart, twistedStart, ruleStart, noStart}
 use Rattle.phase.specs.declared.Mode.the-variants.{Small}
-use Rattle.phase.specs.declared.Next.the-variants.{Total}
+use Rattle.phase.specs.declared.Next.the-variants.{Total, Openings}
 use Rattle.phase.specs.declared.Kind.the-variants.{Shut}
 use Rattle.prover.specs.declared.Run.{Run}
 use Rattle.pass.specs.declared.Pass.{Pass}
@@ -28,6 +29,21 @@ freshRun start =
       next = Total;
       round = 0;
       challenges = replicate 15 0;
+      messages = replicate 45 0;
+      total = pos 0;
+      fend = 0;
+      gend = 0;
+    }
+
+-- the run of a batch (document 02, (a)): small, its challenges handed in, and its openings next
+abbrev pub openingsRun : Start → List ℕ → Run
+openingsRun start challenges =
+    record {
+      start = start;
+      mode = Small;
+      next = Openings;
+      round = start .rounds;
+      challenges = fifteen (start .rounds) challenges;
       messages = replicate 45 0;
       total = pos 0;
       fend = 0;
