@@ -14,6 +14,7 @@ pub mod RuleRuns
 pub mod Answered
 pub mod Kept
 pub mod TrueOpenings
+pub mod BatchChecks
 pub mod Singly
 pub mod FileVerdicts
 pub mod ProofFiles

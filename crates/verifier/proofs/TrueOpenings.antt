@@ -44,8 +44,12 @@ triple-dropped xs i =
         → _≡_ {A = Triple} (record { atPoint = x; atMinus = y; atSquare = z }) (record { atPoint = x′; atMinus = y′; atSquare = z′ })
     same a b c = cc
 
+pub append-nil : (xs : List ℕ) → xs ++ [] ≡ xs
+append-nil [] = refl
+append-nil (x ∷ xs) = ap (λ ys. x ∷ ys) (append-nil xs)
+
 -- triple k of those that begin with a list
-triple-of : (t : ℕ → Triple) (n : ℕ) (rest : List ℕ) (k : ℕ) → k < n → tripleAt (tripleValues t 0 n ++ rest) (3 * k) ≡ t k
+pub triple-of : (t : ℕ → Triple) (n : ℕ) (rest : List ℕ) (k : ℕ) → k < n → tripleAt (tripleValues t 0 n ++ rest) (3 * k) ≡ t k
 triple-of t n rest k h =
     let m : n - k ≡ suc (n - suc k) = omega arith in
     let z : 0 + k ≡ k = omega arith in
@@ -62,10 +66,6 @@ module _ (f g : ℕ → Triple) (n : ℕ) where
   second-part =
       let z : n - n ≡ 0 = omega arith in
       past f (tripleValues g 0 n) n n 0 (omega arith) ∙ ap (λ m. tripleValues f (0 + n) m ++ tripleValues g 0 n) z
-
-  append-nil : (xs : List ℕ) → xs ++ [] ≡ xs
-  append-nil [] = refl
-  append-nil (x ∷ xs) = ap (λ ys. x ∷ ys) (append-nil xs)
 
   triple-of-second : (k : ℕ) → k < n → tripleAt both-values (3 * n + 3 * k) ≡ g k
   triple-of-second k h =

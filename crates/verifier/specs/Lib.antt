@@ -5,6 +5,7 @@ pub mod Starts
 pub mod Sums
 pub mod Claims
 pub mod Openings
+pub mod Batch
 pub mod Calls
 pub mod Blocks
 pub mod ProofFile
