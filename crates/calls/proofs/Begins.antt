@@ -85,10 +85,10 @@ module _ (p : ℕ) (large : maxWeight < p) (s : Start) (cs : List ℕ) (o : Open
       let long = length-replicate {A = ℕ} (3 * n) 0 in
       record {
         run =
-        ap₂ (λ round challenges. record { start = s; mode = Small; next = next.Openings; round = round; challenges = challenges; messages = replicate 45 0; total = pos 0; fend = 0; gend = 0 })
-        (sym (o .listed)) (ap (λ k. fifteen k cs) (sym (o .listed)) ∙ fifteen-array cs within)
-        ∙ ap (λ messages. record { start = s; mode = Small; next = next.Openings; round = length cs; challenges = inArray 15 cs; messages = messages; total = pos 0; fend = 0; gend = 0 })
-        (zeros-more (3 * n) 45 (omega (arith, few)) ∙ ap (λ k. replicate (3 * n) 0 ++ replicate (45 - k) 0) (sym long));
+            ap₂ (λ round challenges. record { start = s; mode = Small; next = next.Openings; round = round; challenges = challenges; messages = replicate 45 0; total = pos 0; fend = 0; gend = 0 })
+            (sym (o .listed)) (ap (λ k. fifteen k cs) (sym (o .listed)) ∙ fifteen-array cs within)
+            ∙ ap (λ messages. record { start = s; mode = Small; next = next.Openings; round = length cs; challenges = inArray 15 cs; messages = messages; total = pos 0; fend = 0; gend = 0 })
+            (zeros-more (3 * n) 45 (omega (arith, few)) ∙ ap (λ k. replicate (3 * n) 0 ++ replicate (45 - k) 0) (sym long));
         pass = refl;
         fits = record {
           run = record {

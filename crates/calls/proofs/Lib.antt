@@ -67,5 +67,6 @@ pub mod LiveExample
 pub mod InstanceTwisted
 pub mod InstanceSingle
 pub mod RuleTrips
+pub mod BatchTrips
 pub mod ExampleKept
 pub mod Examples

@@ -21,12 +21,12 @@ use Rattle.calls.specs.Meaning.{meant, says, total, messageAt}
 use Rattle.calls.specs.Starts.{Whole}
 use Rattle.calls.specs.RuleTrip.{pairsFrom, ruleTrip}
 
-pairs-length : (a b : Vector) (i m : ℕ) → length (pairsFrom a b i m) ≡ m
+pub pairs-length : (a b : Vector) (i m : ℕ) → length (pairsFrom a b i m) ≡ m
 unfolding pairsFrom
 pairs-length a b i zero = refl
 pairs-length a b i (suc m) = ap suc (pairs-length a b (suc i) m)
 
-pairs-at : (a b : Vector) (i m j : ℕ) → j < m → getD (pairsFrom a b i m) j (Numbers 0 0) ≡ Numbers (a (i + j)) (b (i + j))
+pub pairs-at : (a b : Vector) (i m j : ℕ) → j < m → getD (pairsFrom a b i m) j (Numbers 0 0) ≡ Numbers (a (i + j)) (b (i + j))
 unfolding pairsFrom
 pairs-at a b i zero j h = absurd (omega arith)
 pairs-at a b i (suc m) zero h = ap (λ k. Numbers (a k) (b k)) (sym (add-zero i))

@@ -23,3 +23,4 @@ pub mod ExampleSmall
 pub mod ExampleFull
 pub mod ExampleChange
 pub mod RuleTrip
+pub mod BatchTrip

@@ -1,2 +1,3 @@
 pub mod PartsRows
 pub mod Sizes
+pub mod Untwisted

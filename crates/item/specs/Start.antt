@@ -34,6 +34,10 @@ plainStart items = record { items = items; rounds = roundsOf items; plain = true
 abbrev pub twistedStart : ℕ → List ℕ → Start
 twistedStart items twists = record { items = items; rounds = roundsOf items; plain = false; twists = fifteen (roundsOf items) twists }
 
+-- field numbers that enter as they are: the twists are 1
+abbrev pub untwistedStart : ℕ → Start
+untwistedStart items = record { items = items; rounds = roundsOf items; plain = false; twists = replicate 15 1 }
+
 -- "a twisted run .., L = 2^n, with v_j = v^(2^j), v from 1 to P-1"
 abbrev pub ruleStart : ℕ → ℕ → ℕ → Start
 ruleStart p n v = record { items = 2 ^ n; rounds = n; plain = false; twists = twistsOf p v n }
