@@ -57,6 +57,7 @@ pub mod LivePass
 pub mod LiveFull
 pub mod Live
 pub mod LiveTakes
+pub mod BatchRuns
 pub mod CarriedTurns
 pub mod CarriedSteps
 pub mod Carried

@@ -128,7 +128,7 @@ module _ (p : ℕ) (large : maxWeight < p) (through : Bool) (T : Trip) (valid : 
       opening-live (openingsAt T k bs) (leb k (suc n)) (due-by (suc n) (omega arith)) b (ok 0 (omega arith)) some n w st
       (λ w st. openings-live some bs (λ j l. ok (suc j) (omega arith)) w st)
 
-  after-ends : (bs : List ℕ) → AllNonzero p bs → (w : Host) → Before (leb k n) next.Openings n w → Lives p T through w (openingCalls T k bs)
+  pub after-ends : (bs : List ℕ) → AllNonzero p bs → (w : Host) → Before (leb k n) next.Openings n w → Lives p T through w (openingCalls T k bs)
   unfolding Lives
   after-ends bs ok w st = by (ltb 0 n) refl
     where

@@ -37,7 +37,7 @@ own call.Ends = []
 own (call.Opening b) = []
 own call.WriteProof = []
 
-unfoldable challengesIn : List Call → List ℕ
+unfoldable pub challengesIn : List Call → List ℕ
 challengesIn [] = []
 challengesIn (c ∷ cs) = own c ++ challengesIn cs
 
@@ -96,7 +96,7 @@ module _ (T : Trip) where
         quiet-both (answerBy T (leb k (suc (T .start .rounds))) (call.OpenAt b) (call.Opening b)) (openingsAt T k bs)
         (answer-quiet (leb k (suc (T .start .rounds))) (call.OpenAt b) (call.Opening b) refl refl) (openings-quiet bs)
 
-    last-quiet : (bs : List ℕ) → challengesIn (openingCalls T k bs) ≡ []
+    pub last-quiet : (bs : List ℕ) → challengesIn (openingCalls T k bs) ≡ []
     unfolding challengesIn
     last-quiet bs = by (ltb 0 (T .start .rounds))
       where
@@ -145,7 +145,7 @@ first-of : (ds rest cs : List ℕ) → ds ++ rest ≡ cs → Prefix ds cs
 first-of ds rest cs e j h = sym (List·getD-append ds rest 0 j h) ∙ ap (λ xs. at xs j) e
 
 module _ (p : ℕ) (T : Trip) where
-  all-take : (cs : List ℕ) (calls : List Call) (w : Host) → AllAnswered p (w .world) (each (hostOn p T) (makes p T) w calls)
+  pub all-take : (cs : List ℕ) (calls : List Call) (w : Host) → AllAnswered p (w .world) (each (hostOn p T) (makes p T) w calls)
       → w .world .state .turn .challenges ++ challengesIn calls ≡ cs → AllTake p cs (w .world) (each (hostOn p T) (makes p T) w calls)
   unfolding each along always challengesIn
   all-take cs [] w h e = first-of (w .world .state .turn .challenges) [] cs e
