@@ -1,3 +1,4 @@
+pub mod BlockArms
 pub mod Dispatch
 pub mod QueryArms
 pub mod Three

@@ -1,2 +1,4 @@
+pub mod Blocks
 pub mod Made
+pub mod Named
 pub mod Told

@@ -6,6 +6,8 @@ ghost use Rattle.item.specs.Start.{modulusOf};
 ghost use Rattle.calls.specs.Step.{lending, step};
 ghost use Rattle.dispatch.specs.Made.{result};
 
+pub mod blocks;
+pub mod named;
 pub mod query;
 pub mod within;
 

@@ -2,9 +2,6 @@
 ghost use mathlib.Core.Path.{_≡_};
 ghost use lib.ListN.{take, drop};
 ghost use Rattle.item.specs.Start.{modulusOf};
-ghost use Rattle.block.specs.Block.{ofBytes, ofNumbers};
-ghost use Rattle.prover.specs.Records.{out, leaves};
-ghost use Rattle.prover.specs.Blocks.{itemsCall};
 ghost use Rattle.calls.specs.Step.{lending, step};
 ghost use Rattle.calls.specs.QueryStep.{ask};
 ghost use Rattle.dispatch.specs.Made.{result};
@@ -15,6 +12,7 @@ use calls::query::Query;
 use pass::Pass;
 use prover::Run;
 use prover::Step;
+use records::parts::first_bytes;
 use records::parts::within;
 use records::parts::within_bytes;
 use verifier::Verifier;
@@ -38,39 +36,6 @@ pub fn make_within(
     super::make(run, pass, call, &mut f[..n], &mut g[..m], &mut file[..k])
 }
 
-pub fn items_within(
-    run: Run,
-    pass: Pass,
-    block: &[u8],
-    flent: usize,
-    glent: usize,
-    f: &mut [u32],
-    g: &mut [u32],
-) -> Step
-    ensures { λ r. ⌜ (out r (take flent (now (f .exit))) (take glent (now (g .exit))) ≡ leaves run pass (take flent (now (f .entry))) (take glent (now (g .entry))) (itemsCall (modulusOf (run .start)) run pass (ofBytes (now (block .entry))) (take flent (now (f .entry))) (take glent (now (g .entry))))) × (drop flent (now (f .exit)) ≡ drop flent (now (f .entry))) × (drop glent (now (g .exit)) ≡ drop glent (now (g .entry))) ⌝ }
-{
-    let n = within(flent, f);
-    let m = within(glent, g);
-    run.items(pass, block, &mut f[..n], &mut g[..m])
-}
-
-pub fn field_items_within(
-    run: Run,
-    pass: Pass,
-    a: &[u32],
-    b: &[u32],
-    flent: usize,
-    glent: usize,
-    f: &mut [u32],
-    g: &mut [u32],
-) -> Step
-    ensures { λ r. ⌜ (out r (take flent (now (f .exit))) (take glent (now (g .exit))) ≡ leaves run pass (take flent (now (f .entry))) (take glent (now (g .entry))) (itemsCall (modulusOf (run .start)) run pass (ofNumbers (now (a .entry)) (now (b .entry))) (take flent (now (f .entry))) (take glent (now (g .entry))))) × (drop flent (now (f .exit)) ≡ drop flent (now (f .entry))) × (drop glent (now (g .exit)) ≡ drop glent (now (g .entry))) ⌝ }
-{
-    let n = within(flent, f);
-    let m = within(glent, g);
-    run.field_items(pass, a, b, &mut f[..n], &mut g[..m])
-}
-
 pub fn ask_within(
     verifier: Verifier,
     query: Query,
@@ -80,6 +45,5 @@ pub fn ask_within(
 ) -> Heard
     ensures { λ r. ⌜ heardIn r ≡ ask (modulusOf (verifier .start)) verifier query (record { file = take size (now (file .entry)); values = now (values .entry) }) ⌝ }
 {
-    let n = within_bytes(size, file);
-    super::query::ask(verifier, query, &file[..n], values)
+    super::query::ask(verifier, query, first_bytes(size, file), values)
 }

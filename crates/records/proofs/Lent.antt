@@ -2,7 +2,7 @@
 use mathlib.Core.Path.{_≡_, refl, sym, ap, _∙_}
 use mathlib.Core.Bool.{Bool, true, false}
 use mathlib.Core.List.{List, [], _∷_, _++_, append-nil}
-use Prim.Native.Nat.{ℕ, zero, suc, _≤_}
+use Prim.Native.Nat.{ℕ, zero, suc, _≤_, _-_}
 use native.Mathlib.Omega.{arith}
 use borrow.Author.Tests.{leb-true, leb-false}
 use lib.Dec.{leb}
@@ -51,3 +51,14 @@ lent-back want n xs part c e = by (leb want (length xs)) refl
 -- the places that are lent
 pub lent-same : (want n : ℕ) (xs : List ℕ) → Counts want n xs → take n xs ≡ take want xs
 lent-same want n xs c = lent-back want n xs (take n xs) c (ap length (take-append-drop n xs)) .lent
+
+-- the places after them, as many as there are
+pub rest-same : (want n : ℕ) (xs : List ℕ) → Counts want n xs → take (length xs - n) (drop n xs) ≡ drop want xs
+rest-same want n xs c = take-all (length xs - n) (drop n xs) (omega (arith, length-drop n xs)) ∙ by (leb want (length xs)) refl
+  where
+    by : (b : Bool) → leb want (length xs) ≡ b → drop n xs ≡ drop want xs
+    by true t = ap (λ k. drop k xs) (c .2 ∙ length-take-le want xs (leb-true want (length xs) t))
+    by false t =
+        let long : length xs ≤ want = omega (arith, leb-false want (length xs) t) in
+        let same : n ≡ length xs = c .2 ∙ ap length (take-all want xs long) in
+        drop-past n xs (omega arith) ∙ sym (drop-past want xs long)

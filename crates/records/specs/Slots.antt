@@ -1,8 +1,9 @@
 -- Ops 60 and 61 of the replay tool.
 use Prim.Native.Nat.{ℕ, _+_, _*_}
 use mathlib.Core.Bool.{cond}
+use mathlib.Core.List.{List}
 use lib.Dec.{eqb, leb, ltb}
-use lib.ListN.{getD, replicate, set}
+use lib.ListN.{getD, replicate, set, take, drop}
 use Rattle.records.specs.declared.Record.{Record}
 use Rattle.records.specs.declared.Said.{Said}
 use Rattle.records.specs.declared.Said.the-variants.{Nothing, Bad, Full}
@@ -18,8 +19,15 @@ abbrev pub noSlots : Slots
 noSlots = record { bytes = replicate (8 * slotRoom) 0; sizes = replicate 8 0 }
 
 -- "256 bytes each": how many of them a slot has
+abbrev pub sizeIn : ℕ → List ℕ → ℕ
+sizeIn slot sizes = getD sizes slot 0
+
 abbrev pub sizeOf : Slots → ℕ → ℕ
-sizeOf s slot = getD (s .sizes) slot 0
+sizeOf s slot = sizeIn slot (s .sizes)
+
+-- "the bytes of slot a": its first ones, as many as it has
+abbrev pub slotIn : ℕ → List ℕ → List ℕ → List ℕ
+slotIn slot sizes bytes = take (sizeIn slot sizes) (drop (slot * slotRoom) bytes)
 
 -- what the tool keeps, and what it "prints"
 abbrev pub saying : Slots → Said → Filled

@@ -5,6 +5,7 @@ ghost use Rattle.wire.specs.Number.{wordAt};
 
 pub mod lists;
 pub mod parts;
+pub mod proof;
 pub mod signs;
 pub mod slots;
 

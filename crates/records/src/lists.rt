@@ -1,9 +1,13 @@
 // The scratch list, and how much of the buffers is lent.
 ghost use mathlib.Core.Path.{_≡_};
+ghost use Prim.Native.Nat.{_+_};
+ghost use lib.Dec.{leb};
+ghost use lib.ListN.{length, take, drop};
 ghost use Rattle.records.specs.Lists.{noLists, numbersIn, saying, pushes, lends, placeSays, placed, keeps, bufferAfter};
 use super::Record;
 use super::Said;
-use super::parts::within;
+use super::parts::first;
+use super::parts::rest;
 
 // How many first places of each buffer are lent; the scratch list, and how many numbers it has.
 pub struct Lists {
@@ -33,8 +37,21 @@ pub fn none() -> Lists
 pub fn numbers(held: usize, scratch: &[u32]) -> &[u32]
     ensures { λ r. ⌜ now r ≡ numbersIn held (now (scratch .entry)) ⌝ }
 {
-    let n = within(held, scratch);
-    &scratch[..n]
+    first(held, scratch)
+}
+
+// Whether it has as many numbers as a and b together.
+pub fn has(held: usize, scratch: &[u32], a: u32, b: u32) -> bool
+    ensures { λ r. ⌜ r ≡ leb (a + b) (length (numbersIn held (now (scratch .entry)))) ⌝ }
+{
+    (a as usize) + (b as usize) <= numbers(held, scratch).len()
+}
+
+// So many of its numbers after the first ones, as far as there are.
+pub fn part(held: usize, scratch: &[u32], from: u32, count: u32) -> &[u32]
+    ensures { λ r. ⌜ now r ≡ take count (drop from (numbersIn held (now (scratch .entry)))) ⌝ }
+{
+    first(count as usize, rest(from as usize, numbers(held, scratch)))
 }
 
 // Ops 1 to 4.

@@ -1,9 +1,11 @@
 // Eight slots of 256 bytes.
 ghost use mathlib.Core.Path.{_≡_};
 ghost use Prim.Native.Nat.{_<_};
-ghost use Rattle.records.specs.Slots.{noSlots, saying, emptied, appends, fills};
+ghost use Rattle.records.specs.Slots.{noSlots, sizeIn, slotIn, saying, emptied, appends, fills};
 use super::Record;
 use super::Said;
+use super::parts::first_bytes;
+use super::parts::rest_bytes;
 
 // The slots one after the other, and how many bytes each has.
 pub struct Slots {
@@ -23,6 +25,24 @@ pub fn none() -> Slots
         bytes: [0; 2048],
         sizes: [0; 8],
     }
+}
+
+// How many bytes slot k has; none where there is no such slot.
+fn size_of(sizes: &[usize], k: u32) -> usize
+    ensures { λ r. ⌜ r ≡ sizeIn k (now (sizes .entry)) ⌝ }
+{
+    let at = k as usize;
+    if at < sizes.len() {
+        return sizes[at];
+    }
+    0
+}
+
+// The bytes of slot k, as far as there are.
+pub fn slot<'a>(bytes: &'a [u8], sizes: &'a [usize], k: u32) -> &'a [u8]
+    ensures { λ r. ⌜ now r ≡ slotIn k (now (sizes .entry)) (now (bytes .entry)) ⌝ }
+{
+    first_bytes(size_of(sizes, k), rest_bytes((k as usize) * 256, bytes))
 }
 
 // Ops 60 and 61.

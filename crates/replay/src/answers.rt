@@ -1,4 +1,5 @@
 // What a call answers, as a line.
+use super::print::bad;
 use super::print::end;
 use super::print::first;
 use super::print::line;
@@ -13,6 +14,19 @@ use super::print::two;
 use dispatch::query::Told;
 use prover::Answer;
 use prover::Step;
+
+// Whether a call is made: its numbers are in range, and there is what it is made of; else the line that says which is not.
+pub(crate) fn can(fits: bool, on: bool, none: &[u8]) -> bool {
+    if fits {
+        if on {
+            return true;
+        }
+        line(none);
+        return false;
+    }
+    bad();
+    false
+}
 
 // A prover's answer; an opening's values stand beside it.
 pub(crate) fn step(step: Step) {
@@ -84,16 +98,14 @@ pub(crate) fn told(told: Told) {
         Told::Taken => line(b"taken"),
         Told::Closed => line(b"closed"),
         Told::Passed => line(b"passed"),
-        Told::Yes => line(b"yes"),
-        Told::Opens => line(b"yes"),
+        Told::Yes | Told::Opens => line(b"yes"),
         _ => told_numbers(told),
     }
 }
 
 fn told_numbers(told: Told) {
     match told {
-        Told::Failed(round) => one(b"no", round),
-        Told::No(round) => one(b"no", round),
+        Told::Failed(round) | Told::No(round) => one(b"no", round),
         Told::FailsF(j) => one(b"no f", j),
         Told::FailsG(j) => one(b"no g", j),
         Told::Refused(k) => refused(k),

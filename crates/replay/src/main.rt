@@ -3,6 +3,7 @@
 mod answers;
 mod blocks;
 mod dump;
+mod ops;
 mod print;
 mod proof;
 mod proving;
@@ -10,8 +11,8 @@ mod record;
 mod state;
 mod verifying;
 
+use ops::kind_of;
 use record::Read;
-use state::Held;
 
 fn main() {
     let mut f = [0u32; 4096];
@@ -31,25 +32,9 @@ fn replay(f: &mut [u32; 4096], g: &mut [u32; 4096]) {
         let Read::Record(r) = record::next() else {
             return;
         };
-        unknown(r.op);
-        h = state::call(h, r, f, g);
-        let made = proving::call(p, h, r, f, g);
-        p = made.prover;
-        let proof = made.proof;
-        h = Held { proof, ..h };
-        j = verifying::call(j, h, r);
-    }
-}
-
-// The ops that nothing has.
-fn unknown(op: u32) {
-    match op {
-        1..=8 => {}
-        10..=24 => {}
-        26..=27 => {}
-        30..=40 => {}
-        43..=44 => {}
-        60..=61 => {}
-        _ => print::bad(),
+        let kind = kind_of(r.op);
+        h = state::call(h, kind, r, f, g);
+        p = proving::call(p, h, kind, r, f, g);
+        j = verifying::call(j, h, p.proof, kind, r);
     }
 }

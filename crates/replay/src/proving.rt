@@ -2,72 +2,46 @@
 use super::answers;
 use super::blocks;
 use super::dump;
+use super::ops::Kind;
 use super::print;
-use super::proof::Proof;
+use super::proof;
 use super::state::Held;
 use super::state::Prover;
 use calls::Call;
+use dispatch::named::Named;
+use dispatch::named::call_of;
 use dispatch::within::make_within;
-use item::Given;
 use prover::Answer;
 use prover::Run;
 use prover::Step;
 use records::Record;
 use records::lists::Lists;
 use records::lists::numbers;
-use records::signs;
-use records::signs::Plain;
-use records::slots::Slots;
+use records::proof::Proof;
 
-// The call that an op names, with its numbers.
-pub enum Named {
-    Call(Call),
-    Nothing,
-}
-
-// What the calls leave of the run and of the proof file.
-pub struct Made {
-    pub prover: Prover,
-    pub proof: Proof,
-}
-
-// Ops 5, 10 to 24, 26 and 27.
+// Ops 5 to 8, 10 to 24, 26 and 27.
 pub(crate) fn call(
     p: Prover,
     h: Held,
-    r: Record,
-    f: &mut [u32; 4096],
-    g: &mut [u32; 4096],
-) -> Made {
-    let op = r.op;
-    if 13 <= op {
-        if op <= 24 {
-            return called(p, h.lists, h.proof, r, f, g);
-        }
-    }
-    let proof = h.proof;
-    Made {
-        prover: run_op(p, h.lists, h.slots, r, f, g),
-        proof,
-    }
-}
-
-fn run_op(
-    p: Prover,
-    l: Lists,
-    s: Slots,
+    kind: Kind,
     r: Record,
     f: &mut [u32; 4096],
     g: &mut [u32; 4096],
 ) -> Prover {
-    let op = r.op;
-    match op {
-        5 => dump::call(p, r.a, f, g),
-        10..=12 => start(p, l, r),
-        26 => blocks::slot_to_run(p, l, s, r.a, f, g),
-        27 => blocks::parts_to_run(p, l, r.a, r.b, f, g),
-        _ => p,
+    match kind {
+        Kind::Dump => return dump::call(p, r.a, f, g),
+        Kind::File => return filed(p, r),
+        Kind::Start => return start(p, h.lists, r),
+        Kind::Call => return called(p, h.lists, r, f, g),
+        Kind::Block => return blocks::to_run(p, h.lists, h.slots, r, f, g),
+        _ => {}
     }
+    p
+}
+
+fn filed(mut p: Prover, r: Record) -> Prover {
+    p.proof = proof::call(p.proof, r);
+    p
 }
 
 fn start(p: Prover, l: Lists, r: Record) -> Prover {
@@ -86,86 +60,35 @@ fn start_of(r: Record, twists: &[u32]) -> Step {
 
 // A refused start leaves the run that there is.
 fn started(p: Prover, step: Step) -> Prover {
-    answers::step(step);
+    let after = took(step, p.proof);
     let answer = step.answer;
     let Answer::Started = answer else {
         return p;
     };
-    left_by(step)
+    after
 }
 
-fn left_by(step: Step) -> Prover {
-    let run = step.run;
-    let pass = step.pass;
-    Prover {
-        on: true,
-        run,
-        pass,
-    }
-}
-
-fn called(
-    p: Prover,
-    l: Lists,
-    proof: Proof,
-    r: Record,
-    f: &mut [u32; 4096],
-    g: &mut [u32; 4096],
-) -> Made {
+fn called(p: Prover, l: Lists, r: Record, f: &mut [u32; 4096], g: &mut [u32; 4096]) -> Prover {
     let Named::Call(call) = call_of(r) else {
         print::bad();
-        return Made { prover: p, proof };
+        return p;
     };
     if p.on {
-        return after(p, call, l, proof, r.a, f, g);
+        return after(p, call, l, r.a, f, g);
     }
     print::line(b"no run");
-    Made { prover: p, proof }
-}
-
-fn call_of(r: Record) -> Named {
-    let op = r.op;
-    match op {
-        13 => Named::Call(Call::OpenPass),
-        14 => Named::Call(Call::OpenAt(r.a)),
-        15 => give(signs::item(r.a, r.b)),
-        16 => Named::Call(Call::Give(Given::Numbers(r.a, r.b))),
-        17 => Named::Call(Call::Close),
-        18 => Named::Call(Call::Message),
-        19 => Named::Call(Call::Challenge(r.a)),
-        20 => Named::Call(Call::Ends),
-        21 => Named::Call(Call::Opening(r.a)),
-        22 => Named::Call(Call::ToFull),
-        23 => Named::Call(Call::ToSmall),
-        24 => write_proof(r.a),
-        _ => Named::Nothing,
-    }
-}
-
-fn give(item: Plain) -> Named {
-    let Plain::Item(given) = item else {
-        return Named::Nothing;
-    };
-    Named::Call(Call::Give(given))
-}
-
-fn write_proof(size: u32) -> Named {
-    if size > 256 {
-        return Named::Nothing;
-    }
-    Named::Call(Call::WriteProof)
+    p
 }
 
 fn after(
     p: Prover,
     call: Call,
     l: Lists,
-    proof: Proof,
     a: u32,
     f: &mut [u32; 4096],
     g: &mut [u32; 4096],
-) -> Made {
-    let mut bytes = proof.bytes;
+) -> Prover {
+    let mut bytes = p.proof.bytes;
     let step = make_within(
         p.run,
         p.pass,
@@ -178,17 +101,21 @@ fn after(
         &mut bytes,
     );
     let answer = step.answer;
-    let size = size_after(proof.size, answer);
-    Made {
-        prover: took(step),
-        proof: Proof { bytes, size },
-    }
+    let size = size_after(p.proof.size, answer);
+    took(step, Proof { bytes, size })
 }
 
 // Prints what a call answers.
-pub(crate) fn took(step: Step) -> Prover {
+pub(crate) fn took(step: Step, proof: Proof) -> Prover {
     answers::step(step);
-    left_by(step)
+    let run = step.run;
+    let pass = step.pass;
+    Prover {
+        on: true,
+        proof,
+        run,
+        pass,
+    }
 }
 
 // A written proof sets the file's size.

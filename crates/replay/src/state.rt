@@ -1,12 +1,13 @@
-// What the tool holds beside the buffers: the lists, the slots and the proof file; at most one run with its pass; at most one verifier.
+// What the tool holds beside the buffers: the lists and the slots; at most one run with its pass, and the proof file; at most one verifier.
+use super::ops::Kind;
 use super::print;
-use super::proof;
-use super::proof::Proof;
 use pass::Pass;
 use prover::Run;
 use records::Record;
 use records::lists;
 use records::lists::Lists;
+use records::proof;
+use records::proof::Proof;
 use records::slots;
 use records::slots::Slots;
 use verifier::Verifier;
@@ -14,11 +15,12 @@ use verifier::Verifier;
 pub struct Held {
     pub lists: Lists,
     pub slots: Slots,
-    pub proof: Proof,
 }
 
 pub struct Prover {
     pub on: bool,
+    // Before the run, where the checker still finds how many bytes it has.
+    pub proof: Proof,
     pub run: Run,
     pub pass: Pass,
 }
@@ -32,7 +34,6 @@ pub(crate) fn none() -> Held {
     Held {
         lists: lists::none(),
         slots: slots::none(),
-        proof: proof::none(),
     }
 }
 
@@ -43,6 +44,7 @@ pub(crate) fn no_prover() -> Prover {
     let pass = step.pass;
     Prover {
         on: false,
+        proof: proof::none(),
         run,
         pass,
     }
@@ -57,34 +59,36 @@ pub(crate) fn no_judge() -> Judge {
     }
 }
 
-// Ops 1 to 4, 6 to 8, 60 and 61.
-pub(crate) fn call(h: Held, r: Record, f: &mut [u32; 4096], g: &mut [u32; 4096]) -> Held {
-    let op = r.op;
-    match op {
-        1..=4 => keep(h, r, f, g),
-        6..=8 => filed(h, r),
-        60..=61 => fill(h, r),
-        _ => h,
+// Ops 1 to 4, 60 and 61.
+pub(crate) fn call(
+    h: Held,
+    kind: Kind,
+    r: Record,
+    f: &mut [u32; 4096],
+    g: &mut [u32; 4096],
+) -> Held {
+    match kind {
+        Kind::Lists => return keep(h, r, f, g),
+        Kind::Slots => return fill(h, r),
+        _ => {}
     }
+    h
 }
 
-fn keep(h: Held, r: Record, f: &mut [u32; 4096], g: &mut [u32; 4096]) -> Held {
+fn keep(mut h: Held, r: Record, f: &mut [u32; 4096], g: &mut [u32; 4096]) -> Held {
     let kept = lists::keep(h.lists, r, f, g);
     let said = kept.said;
     print::said(said);
     let lists = kept.lists;
-    Held { lists, ..h }
+    h.lists = lists;
+    h
 }
 
-fn filed(h: Held, r: Record) -> Held {
-    let proof = proof::call(h.proof, r);
-    Held { proof, ..h }
-}
-
-fn fill(h: Held, r: Record) -> Held {
+fn fill(mut h: Held, r: Record) -> Held {
     let filled = slots::fill(h.slots, r);
     let said = filled.said;
     print::said(said);
     let slots = filled.slots;
-    Held { slots, ..h }
+    h.slots = slots;
+    h
 }

@@ -1,67 +1,65 @@
 // The verifier's calls, each made as data.
 use super::answers;
 use super::blocks;
+use super::ops::Kind;
 use super::print;
-use super::proof::Proof;
 use super::state::Held;
 use super::state::Judge;
 use calls::query::Query;
+use dispatch::named::Posed;
+use dispatch::named::query_of;
 use dispatch::query::Heard;
 use dispatch::query::stepped;
 use dispatch::within::ask_within;
-use item::Given;
 use records::Record;
 use records::lists::Lists;
 use records::lists::numbers;
-use records::signs;
-use records::signs::Plain;
-use records::signs::signed64;
+use records::parts::first;
+use records::parts::rest;
+use records::proof::Proof;
 use verifier::Answer;
 use verifier::Step;
 use verifier::Verifier;
 
-// The call that an op names, with its numbers.
-pub enum Posed {
-    Query(Query),
-    Nothing,
-}
-
 // Ops 30 to 40, 43 and 44.
-pub(crate) fn call(j: Judge, h: Held, r: Record) -> Judge {
-    let op = r.op;
-    match op {
-        30..=32 => start(j, h.lists, r),
-        33..=40 => called(j, h.lists, h.proof, r),
-        43 => blocks::slot_to_judge(j, h.slots, r.a),
-        44 => blocks::parts_to_judge(j, h.lists, r.a, r.b),
-        _ => j,
+pub(crate) fn call(j: Judge, h: Held, p: Proof, kind: Kind, r: Record) -> Judge {
+    match kind {
+        Kind::Begin => return start(j, h.lists, r),
+        Kind::Query => return called(j, h.lists, p, r),
+        Kind::Items => return blocks::to_judge(j, h.lists, h.slots, r),
+        _ => {}
     }
+    j
 }
 
 fn start(j: Judge, l: Lists, r: Record) -> Judge {
     let scratch = l.scratch;
-    start_with(j, r, numbers(l.held, &scratch))
+    let values = numbers(l.held, &scratch);
+    if has_twists(r, values) {
+        return started(j, start_of(r, values));
+    }
+    print::bad();
+    j
 }
 
-fn start_with(j: Judge, r: Record, values: &[u32]) -> Judge {
+// The first b numbers are the twists of op 31.
+fn has_twists(r: Record, values: &[u32]) -> bool {
+    if r.op == 31 {
+        return (r.b as usize) <= values.len();
+    }
+    true
+}
+
+fn start_of(r: Record, values: &[u32]) -> Step {
     let op = r.op;
-    if op == 30 {
-        return started(j, Verifier::start_plain(r.a, values));
+    match op {
+        30 => Verifier::start_plain(r.a, values),
+        31 => {
+            let n = r.b as usize;
+            Verifier::start_twisted(r.a, first(n, values), rest(n, values))
+        }
+        _ => Verifier::start_rule(r.a, r.b, values),
     }
-    if op == 31 {
-        return start_twisted(j, r.a, r.b, values);
-    }
-    started(j, Verifier::start_rule(r.a, r.b, values))
-}
-
-// The first b numbers are the twists.
-fn start_twisted(j: Judge, a: u32, b: u32, scratch: &[u32]) -> Judge {
-    let n = b as usize;
-    if n > scratch.len() {
-        print::bad();
-        return j;
-    }
-    started(j, Verifier::start_twisted(a, &scratch[..n], &scratch[n..]))
 }
 
 // A refused start leaves the verifier that there is.
@@ -92,28 +90,6 @@ fn called(j: Judge, l: Lists, p: Proof, r: Record) -> Judge {
     }
     print::line(b"no verifier");
     j
-}
-
-fn query_of(r: Record) -> Posed {
-    let op = r.op;
-    match op {
-        33 => give(signs::item(r.a, r.b)),
-        34 => Posed::Query(Query::Give(Given::Numbers(r.a, r.b))),
-        35 => Posed::Query(Query::Close(signed64(r.a, r.b))),
-        36 => Posed::Query(Query::CloseClaim(r.a)),
-        37 => Posed::Query(Query::Message(r.a, r.b, r.c)),
-        38 => Posed::Query(Query::Verdict),
-        39 => Posed::Query(Query::Proof),
-        40 => Posed::Query(Query::CheckOpening(r.a)),
-        _ => Posed::Nothing,
-    }
-}
-
-fn give(item: Plain) -> Posed {
-    let Plain::Item(given) = item else {
-        return Posed::Nothing;
-    };
-    Posed::Query(Query::Give(given))
 }
 
 // With the scratch list and the proof file.

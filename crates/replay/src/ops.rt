@@ -1,0 +1,38 @@
+// The ops that there are.
+use super::print;
+
+// What an op is.
+pub enum Kind {
+    Lists,
+    Slots,
+    Dump,
+    File,
+    // Of a run: a start, a call, a block of items.
+    Start,
+    Call,
+    Block,
+    // Of a verifier, likewise.
+    Begin,
+    Query,
+    Items,
+    Unknown,
+}
+
+pub(crate) fn kind_of(op: u32) -> Kind {
+    match op {
+        1..=4 => Kind::Lists,
+        5 => Kind::Dump,
+        6..=8 => Kind::File,
+        10..=12 => Kind::Start,
+        13..=24 => Kind::Call,
+        26..=27 => Kind::Block,
+        30..=32 => Kind::Begin,
+        33..=40 => Kind::Query,
+        43..=44 => Kind::Items,
+        60..=61 => Kind::Slots,
+        _ => {
+            print::bad();
+            Kind::Unknown
+        }
+    }
+}
