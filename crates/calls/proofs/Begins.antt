@@ -9,7 +9,6 @@ use native.Mathlib.Omega.{arith}
 use borrow.Author.Tests.{le-leb, eq-eqb}
 use lib.IntN.{pos}
 use lib.ListN.{length, replicate, length-replicate, length-append, getD-replicate, List·getD-append, List·getD-eq-default}
-use lib.Seq.{getD-append-add}
 use Rattle.refusal.specs.Limit.{maxWeight}
 use Rattle.field.specs.Total.{inLimits, limit}
 use Rattle.vector.specs.Vector.{at}
@@ -25,7 +24,7 @@ use Rattle.runs.specs.Trip.{Trip}
 use Rattle.runs.specs.Passes.{passAfter}
 use Rattle.calls.specs.Begins.{Opens, atOpenings, openingsWorld}
 use Rattle.calls.proofs.Records.{Notes, inArray}
-use Rattle.calls.proofs.Fits.{lt-or-le, zeros-at}
+use Rattle.calls.proofs.Fits.{lt-or-le, zeros-at, array-beyond}
 use Rattle.calls.proofs.Follows.{positive, no-items}
 use Rattle.calls.proofs.Refusals.{Faithful}
 use Rattle.calls.proofs.Agrees.{Agrees}
@@ -49,13 +48,6 @@ zeros-more (suc m) zero h = absurd (omega arith)
 zeros-more (suc m) (suc n) h =
     let e : suc n - suc m ≡ n - m = omega arith in
     ap (λ xs. 0 ∷ xs) (zeros-more m n (omega arith) ∙ ap (λ d. zeros m ++ zeros d) (sym e))
-
--- the places past the end of a list in an array are zero
-array-beyond : (size : ℕ) (xs : List ℕ) (k : ℕ) → length xs ≤ k → at (inArray size xs) k ≡ 0
-array-beyond size xs k h =
-    let d : ℕ = k - length xs in
-    let e : k ≡ length xs + d = omega arith in
-    ap (at (inArray size xs)) e ∙ getD-append-add xs (replicate (size - length xs) 0) d 0 ∙ zeros-at (size - length xs) d
 
 -- numbers kept in fifteen places
 fifteen-array : (cs : List ℕ) → length cs ≤ 15 → fifteen (length cs) cs ≡ inArray 15 cs

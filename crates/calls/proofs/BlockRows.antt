@@ -24,6 +24,7 @@ use Rattle.pass.specs.declared.Pass.{Pass}
 use Rattle.prover.specs.Records.{Out}
 use Rattle.prover.specs.WellFormed.{wellFormed}
 use Rattle.prover.specs.Calls.{placesThere}
+use Rattle.prover.proofs.BlockLaws.{items-rows}
 use Rattle.prover.specs.Blocks.{takesAll, itemsCall}
 use Rattle.calls.specs.Step.{Lent}
 use Rattle.calls.specs.State.{State}
@@ -167,10 +168,11 @@ module _ (p : ℕ) (a : State) (past : Notes) (few : a .start .rounds ≤ 15) (s
   -- THE CHECKS OF A BLOCK
   pub block-decided : (b : Block) (l : Lent)
       → itemsCall p R s b (l .f) (l .g) ≡ decided (blockTable p a b l) (answered (takesAll p R b (count b) s (l .f) (l .g)))
-  unfolding itemsCall blockTable
+  unfolding blockTable
   block-decided b l =
       let o : Outcome Out = answered (takesAll p R b (count b) s (l .f) (l .g)) in
       let rest : ℕ → Outcome Out = λ m. require (placesThere R s (length (l .f)) (length (l .g))) 9 (answered (takesAll p R b m s (l .f) (l .g))) in
-      like-row _ _ 10 _ _ _ (open-test p a past few s wf kind taken)
+      items-rows p R s b (l .f) (l .g)
+      ∙ like-row _ _ 10 _ _ _ (open-test p a past few s wf kind taken)
       (ap (λ n. andThen (blockChecks p (a .start) n true b) rest) taken
       ∙ checks-row p (a .start) b (length (a .pass .items)) rest (placeRow a l) o (like-row _ _ 9 _ none o (place-there p a past few s wf kind taken l) refl))

@@ -16,6 +16,7 @@ use Rattle.vector.specs.Slice.{overwrite, foldSlice, messageSlice, every}
 use Rattle.vector.specs.Vector.{sum}
 use Rattle.wire.specs.Number.{bytes, bits}
 use Rattle.wire.specs.Proof.{allBelow, numbers, proofHeader, writeProof, writtenIn}
+use Rattle.pass.specs.Checks.{itemChecks}
 use Rattle.prover.specs.Calls.{giveCall}
 use Rattle.prover.specs.Challenge.{challengeCall, challengedFull}
 use Rattle.pass.specs.Lent.{cleared}
@@ -45,7 +46,7 @@ use Rattle.calls.proofs.ExampleKept.{allTrue, all-sized, all-kept}
 
 module _ (f g : List ℕ) where
   pub small-run : TripList smallCalls (freshWorld tripStart f g)
-  unfolding each allTrue lastOf callsOf answersOf refusalsOf table sumOf step messageCall giveCall openCall openAtCall closeCall challengeCall toFullCall writeCall wellFormed turnFormed passFormed powers firstFrom inLimits sizeIn32 partsOf takes takesIn entersIn summedItem enteredIn plus image residue negMod addMod mulMod valuesOf tripleValues bytes bits allBelow numbers proofHeader writeProof writtenIn hornerAt arrived topAt climbFrom evaluatedFrom climbed evaluated meetsAt summed settled sumsAfter stacksFit entered streamed paddingFrom paddingBelow left placed placedAll placedIn
+  unfolding each allTrue lastOf callsOf answersOf refusalsOf table sumOf step messageCall giveCall itemChecks openCall openAtCall closeCall challengeCall toFullCall writeCall wellFormed turnFormed passFormed powers firstFrom inLimits sizeIn32 partsOf takes takesIn entersIn summedItem enteredIn plus image residue negMod addMod mulMod valuesOf tripleValues bytes bits allBelow numbers proofHeader writeProof writtenIn hornerAt arrived topAt climbFrom evaluatedFrom climbed evaluated meetsAt summed settled sumsAfter stacksFit entered streamed paddingFrom paddingBelow left placed placedAll placedIn
   small-run =
       record {
         sized = all-sized P (freshWorld tripStart f g) (callsOf smallCalls) refl;
@@ -56,7 +57,7 @@ module _ (f g : List ℕ) where
       }
 
   pub full-run : TripList fullCalls (freshWorld tripStart f g)
-  unfolding each allTrue lastOf callsOf answersOf refusalsOf every table sumOf step messageGiven messageCall endsCall giveCall openCall toSmallCall closeCall challengedFull challengeCall cleared toFullCall openingGiven openingCall writeCall wellFormed turnFormed passFormed powers firstFrom inLimits sizeIn32 partsOf takes takesIn entersIn summedItem enteredIn plus image residue negMod addMod mulMod sum foldWith overwrite foldSlice messageSlice tripleValues bytes bits allBelow numbers proofHeader writeProof writtenIn hornerAt arrived topAt climbFrom evaluatedFrom climbed evaluated meetsAt summed settled sumsAfter stacksFit entered streamed paddingFrom paddingBelow left placed placedAll placedIn
+  unfolding each allTrue lastOf callsOf answersOf refusalsOf every table sumOf step messageGiven messageCall endsCall giveCall itemChecks openCall toSmallCall closeCall challengedFull challengeCall cleared toFullCall openingGiven openingCall writeCall wellFormed turnFormed passFormed powers firstFrom inLimits sizeIn32 partsOf takes takesIn entersIn summedItem enteredIn plus image residue negMod addMod mulMod sum foldWith overwrite foldSlice messageSlice tripleValues bytes bits allBelow numbers proofHeader writeProof writtenIn hornerAt arrived topAt climbFrom evaluatedFrom climbed evaluated meetsAt summed settled sumsAfter stacksFit entered streamed paddingFrom paddingBelow left placed placedAll placedIn
   full-run =
       record {
         sized = all-sized P (freshWorld tripStart f g) (callsOf fullCalls) refl;
@@ -67,7 +68,7 @@ module _ (f g : List ℕ) where
       }
 
   pub changing-run : TripList changing (freshWorld tripStart f g)
-  unfolding each allTrue lastOf callsOf answersOf refusalsOf every table sumOf step messageGiven messageCall endsCall giveCall openCall openAtCall closeCall challengedFull challengeCall cleared toFullCall openingGiven openingCall writeCall wellFormed turnFormed passFormed powers firstFrom inLimits sizeIn32 partsOf takes takesIn entersIn summedItem enteredIn plus image residue negMod addMod mulMod sum foldWith overwrite foldSlice messageSlice tripleValues bytes bits allBelow numbers proofHeader writeProof writtenIn hornerAt arrived topAt climbFrom evaluatedFrom climbed evaluated meetsAt summed settled sumsAfter stacksFit entered streamed paddingFrom paddingBelow left placed placedAll placedIn
+  unfolding each allTrue lastOf callsOf answersOf refusalsOf every table sumOf step messageGiven messageCall endsCall giveCall itemChecks openCall openAtCall closeCall challengedFull challengeCall cleared toFullCall openingGiven openingCall writeCall wellFormed turnFormed passFormed powers firstFrom inLimits sizeIn32 partsOf takes takesIn entersIn summedItem enteredIn plus image residue negMod addMod mulMod sum foldWith overwrite foldSlice messageSlice tripleValues bytes bits allBelow numbers proofHeader writeProof writtenIn hornerAt arrived topAt climbFrom evaluatedFrom climbed evaluated meetsAt summed settled sumsAfter stacksFit entered streamed paddingFrom paddingBelow left placed placedAll placedIn
   changing-run =
       record {
         sized = all-sized P (freshWorld tripStart f g) (callsOf changing) refl;

@@ -84,15 +84,17 @@ zeros-at m j =
     ⊎-elim (λ (l : j < m). getD-replicate m j 0 0 l)
     (λ (l : m ≤ j). List·getD-eq-default (replicate m 0) 0 {n = j} (omega (arith, length-replicate {A = ℕ} m 0))) (lt-or-le j m)
 
+-- the places past its end are zero
+pub array-beyond : (size : ℕ) (xs : List ℕ) (j : ℕ) → length xs ≤ j → at (inArray size xs) j ≡ 0
+array-beyond size xs j l =
+    let d : ℕ = j - length xs in
+    let e : j ≡ length xs + d = omega arith in
+    ap (at (inArray size xs)) e ∙ getD-append-add xs (replicate (size - length xs) 0) d 0 ∙ zeros-at (size - length xs) d
+
 pub array-below : (p size : ℕ) (xs : List ℕ) → 0 < p → ((j : ℕ) → at xs j < p) → (j : ℕ) → at (inArray size xs) j < p
 array-below p size xs some h j =
     ⊎-elim (λ (l : j < length xs). rw (List·getD-append xs (replicate (size - length xs) 0) 0 j l) (h j))
-    (λ (l : length xs ≤ j).
-    let d : ℕ = j - length xs in
-    let e : j ≡ length xs + d = omega arith in
-    let z : at (inArray size xs) j ≡ 0 =
-    ap (at (inArray size xs)) e ∙ getD-append-add xs (replicate (size - length xs) 0) d 0 ∙ zeros-at (size - length xs) d in
-    rw z some) (lt-or-le j (length xs))
+    (λ (l : length xs ≤ j). rw (array-beyond size xs j l) some) (lt-or-le j (length xs))
 
 all-below : (p : ℕ) (v : ℕ → ℕ) → ((j : ℕ) → v j < p) → (m : ℕ) → allBelow p v m ≡ true
 unfolding allBelow

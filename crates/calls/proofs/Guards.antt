@@ -29,7 +29,8 @@ use Rattle.pass.specs.Open.{noPoints, pointsOf}
 use Rattle.prover.specs.Open.{opened, openKernel, paddedKernel, openCall, openAtCall}
 use Rattle.prover.specs.Take.{takes}
 use Rattle.prover.specs.Calls as calls
-use Rattle.prover.specs.Calls.{itemPlaces, placesThere, giveCall}
+use Rattle.prover.specs.Calls.{placesThere, giveCall}
+use Rattle.prover.proofs.Outcomes.{itemPlaces, give-rows}
 use Rattle.prover.specs.Change.{changes, toFullCall}
 use Rattle.prover.specs.Close as close
 use Rattle.prover.specs.Close.{closing, closeCall}
@@ -213,8 +214,8 @@ module _ (p : ℕ) (a : State) (past : Notes) (few : a .start .rounds ≤ 15) wh
 
       pub item-decided : (x : Given) (l : Lent)
           → giveCall p R s x (l .f) (l .g) ≡ decided (table p a (call.Give x) l) (answered (takes p R s (contributes p (a .start) x) (l .f) (l .g)))
-      unfolding giveCall table
-      item-decided x l = like-row _ _ 10 _ _ _ open-test (like-row _ _ 8 _ _ _ wanted-test (own-rows x l))
+      unfolding table
+      item-decided x l = give-rows p R s x (l .f) (l .g) ∙ like-row _ _ 10 _ _ _ open-test (like-row _ _ 8 _ _ _ wanted-test (own-rows x l))
 
       total-test : (waits next.Total (a .turn .next) ≡ true → s .total ≡ sumOf (a .pass .items)) → close.totalFits p R s ≡ totalFits p a
       total-test sums = by (waits next.Total (a .turn .next)) refl refl

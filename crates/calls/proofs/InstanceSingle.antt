@@ -20,6 +20,7 @@ use Rattle.vector.specs.Fold.{foldWith}
 use Rattle.vector.specs.Slice.{overwrite, fifteen, every}
 use Rattle.kernel.specs.Kernel.{hornerAt, arrived, topAt, climbFrom, evaluatedFrom, climbed, evaluated, meetsAt, summed, settled, sumsAfter, stacksFit, entered, streamed, paddingFrom, paddingBelow}
 use Rattle.kernel.specs.Change.{left, placed, placedAll}
+use Rattle.pass.specs.Checks.{itemChecks}
 use Rattle.prover.specs.Reply as reply
 use Rattle.pass.specs.Formed.{passFormed, turnFormed}
 use Rattle.prover.specs.WellFormed.{wellFormed}
@@ -116,7 +117,7 @@ pub single-replies :
     ∷ says reply.taken
     ∷ says (reply.ends 2147483467 10)
     ∷ []
-unfolding each itemsBelow roundsFrom openingsAt step endsCall giveCall openCall closeCall cleared toFullCall wellFormed turnFormed passFormed powers firstFrom inLimits sizeIn32 partsOf takes takesIn entersIn summedItem enteredIn plus image residue negMod addMod mulMod sum foldWith overwrite every hornerAt arrived topAt climbFrom evaluatedFrom climbed evaluated meetsAt summed settled sumsAfter stacksFit entered streamed paddingFrom paddingBelow left placed placedAll placedIn
+unfolding each itemsBelow roundsFrom openingsAt step endsCall giveCall itemChecks openCall closeCall cleared toFullCall wellFormed turnFormed passFormed powers firstFrom inLimits sizeIn32 partsOf takes takesIn entersIn summedItem enteredIn plus image residue negMod addMod mulMod sum foldWith overwrite every hornerAt arrived topAt climbFrom evaluatedFrom climbed evaluated meetsAt summed settled sumsAfter stacksFit entered streamed paddingFrom paddingBelow left placed placedAll placedIn
 single-replies = refl
 
 -- and with the change before the ends
@@ -130,7 +131,7 @@ pub single-changed :
     ∷ says reply.changed
     ∷ says (reply.ends 2147483467 10)
     ∷ []
-unfolding each itemsBelow roundsFrom openingsAt step endsCall giveCall openCall closeCall cleared toFullCall wellFormed turnFormed passFormed powers firstFrom inLimits sizeIn32 partsOf takes takesIn entersIn summedItem enteredIn plus image residue negMod addMod mulMod sum foldWith overwrite every hornerAt arrived topAt climbFrom evaluatedFrom climbed evaluated meetsAt summed settled sumsAfter stacksFit entered streamed paddingFrom paddingBelow left placed placedAll placedIn
+unfolding each itemsBelow roundsFrom openingsAt step endsCall giveCall itemChecks openCall closeCall cleared toFullCall wellFormed turnFormed passFormed powers firstFrom inLimits sizeIn32 partsOf takes takesIn entersIn summedItem enteredIn plus image residue negMod addMod mulMod sum foldWith overwrite every hornerAt arrived topAt climbFrom evaluatedFrom climbed evaluated meetsAt summed settled sumsAfter stacksFit entered streamed paddingFrom paddingBelow left placed placedAll placedIn
 single-changed = refl
 
 -- its verifier's own list: the item, the close and the verdict; or the item and the file of 18 bytes

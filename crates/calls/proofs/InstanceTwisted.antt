@@ -17,6 +17,7 @@ use Rattle.vector.specs.Opening.{tripleValues, opens}
 use Rattle.vector.specs.Slice.{overwrite, foldSlice, messageSlice, fifteen, every}
 use Rattle.kernel.specs.Kernel.{hornerAt, arrived, topAt, climbFrom, evaluatedFrom, climbed, evaluated, meetsAt, summed, settled, sumsAfter, stacksFit, entered, streamed, paddingFrom, paddingBelow}
 use Rattle.kernel.specs.Change.{left, placed, placedAll}
+use Rattle.pass.specs.Checks.{itemChecks}
 use Rattle.prover.specs.Reply as reply
 use Rattle.pass.specs.Formed.{passFormed, turnFormed}
 use Rattle.prover.specs.WellFormed.{wellFormed}
@@ -134,7 +135,7 @@ pub twisted-replies :
     ∷ says (reply.ends 231 45)
     ∷ (record { answer = answered reply.opening; values = inNinety 2 twistedOpening })
     ∷ [])
-unfolding each itemsBelow roundsFrom openingsAt step messageGiven messageCall endsCall giveCall openCall openAtCall closeCall challengedFull challengeCall cleared toFullCall openingGiven openingCall wellFormed turnFormed passFormed powers firstFrom inLimits sizeIn32 partsOf takes takesIn entersIn weight summedItem enteredIn plus image residue negMod addMod mulMod sum foldWith overwrite foldSlice messageSlice valuesOf tripleValues every hornerAt arrived topAt climbFrom evaluatedFrom climbed evaluated meetsAt summed settled sumsAfter stacksFit entered streamed paddingFrom paddingBelow left placed placedAll placedIn
+unfolding each itemsBelow roundsFrom openingsAt step messageGiven messageCall endsCall giveCall itemChecks openCall openAtCall closeCall challengedFull challengeCall cleared toFullCall openingGiven openingCall wellFormed turnFormed passFormed powers firstFrom inLimits sizeIn32 partsOf takes takesIn entersIn weight summedItem enteredIn plus image residue negMod addMod mulMod sum foldWith overwrite foldSlice messageSlice valuesOf tripleValues every hornerAt arrived topAt climbFrom evaluatedFrom climbed evaluated meetsAt summed settled sumsAfter stacksFit entered streamed paddingFrom paddingBelow left placed placedAll placedIn
 twisted-replies = refl
 
 -- its verifier's own list: the items, the claim, two messages, the verdict and a check

@@ -30,8 +30,10 @@ use Rattle.prover.specs.Records.{Out, out, leaves, answeredStep}
 use Rattle.pass.specs.Open.{noPoints, pointsOf}
 use Rattle.prover.specs.Open.{mayOpen, mayOpenAt, opened, openKernel, paddedKernel, openCall, openAtCall, toSmallCall}
 use Rattle.prover.specs.Take as item
-use Rattle.prover.specs.Take.{nextIndex}
-use Rattle.prover.specs.Calls.{bothLong, passOpen, placesThere, itemPlaces, giveCall}
+use Rattle.prover.specs.Level.{stageOf}
+use Rattle.prover.specs.WellFormed as run
+use Rattle.prover.specs.Calls.{bothLong, passOpen, giveCall}
+use Rattle.pass.specs.Checks.{itemChecks}
 use Rattle.prover.specs.Change.{mayChange, changes, toFullCall}
 use Rattle.prover.specs.Close.{withTotal, goneTo, shutPass, totalFits, finished, closing, closeCall, leavesStep}
 use Rattle.prover.specs.Full.{messageTurn, endsTurn, openingTurn, bothReduced, lentFolds, messageGiven, messageCall, endsGiven, endsCall}
@@ -81,14 +83,10 @@ module _ (p : ℕ) (r : Run) (s : Pass) where
   read : (f g : List ℕ) (rest : Outcome Out) → Keeps f g rest → Keeps f g (lentFolds p r f g rest)
   read f g rest h = checked (bothLong r (length f) (length g)) 9 f g _ (checked (bothReduced p r f g) 16 f g rest h)
 
-  given : (f g : List ℕ) (o : Outcome Item) → ((x : Item) → Keeps f g (itemPlaces p r s f g x)) → Keeps f g (andThen o (itemPlaces p r s f g))
-  given f g (answered x) h = h x
-  given f g (refused k) h = record { so = refl }
-  given f g (refusedAt k i) h = record { so = refl }
-
-  took-item : (f g : List ℕ) (x : Item) → Keeps f g (itemPlaces p r s f g x)
-  took-item f g x =
-      checked (placesThere r s (length f) (length g)) 9 f g _ (same f g (item.takes p r s x f g) (ap (λ r. r .start) (takes-run p r s x f g)))
+  given : (f g : List ℕ) (o : Outcome Item) → Keeps f g (andThen o (λ x. answered (item.takes p r s x f g)))
+  given f g (answered x) = same f g (item.takes p r s x f g) (ap (λ r. r .start) (takes-run p r s x f g))
+  given f g (refused k) = record { so = refl }
+  given f g (refusedAt k i) = record { so = refl }
 
   took-challenge : (c : ℕ) (f g : List ℕ) (m : Mode) → Keeps f g (challenged p r s c f g m)
   unfolding challengedFull
@@ -143,8 +141,7 @@ module _ (p : ℕ) (r : Run) (s : Pass) where
   step-start call.ToSmall l = refl
   step-start (call.Give x) l =
       kept (l .f) (l .g) (giveCall p r s x (l .f) (l .g))
-      (checked (passOpen p r s) 10 (l .f) (l .g) _
-      (checked (ltb (s .taken) (r .start .items)) 8 (l .f) (l .g) _ (given (l .f) (l .g) (partsOf p (r .start) (nextIndex r s) x) (took-item (l .f) (l .g)))))
+      (given (l .f) (l .g) (itemChecks p (stageOf r) (run.wellFormed p r s) (s .kind) (s .taken) x (length (l .f)) (length (l .g))))
   step-start call.Close l =
       kept-closed (closeCall p r s)
       (closed-check (passOpen p r s) 10 _

@@ -42,7 +42,7 @@ pub fn both_long(stage: Stage, flen: usize, glen: usize) -> Check
 }
 
 // 9 of an item: its buffers matter in a change pass only.
-pub fn places_there(stage: Stage, kind: Kind, flen: usize, glen: usize) -> Check
+pub(crate) fn places_there(stage: Stage, kind: Kind, flen: usize, glen: usize) -> Check
     ensures { λ r. ⌜ passed r ≡ placesIn stage kind flen glen ⌝ }
 {
     if cases::is_change(kind) {
@@ -52,7 +52,7 @@ pub fn places_there(stage: Stage, kind: Kind, flen: usize, glen: usize) -> Check
 }
 
 // 16: the places of the current fold are field numbers, in f and in g.
-pub fn both_reduced(p: u32, stage: Stage, f: &[u32], g: &[u32]) -> Check
+fn both_reduced(p: u32, stage: Stage, f: &[u32], g: &[u32]) -> Check
     ensures { λ r. ⌜ passed r ≡ reducedIn p stage (now (f .entry)) (now (g .entry)) ⌝ }
 {
     let start = stage.start;

@@ -62,6 +62,10 @@ refused-not e = let z : _≡_ {A = ℕ} 0 1 = cc in omega arith
 pub refusedAt-not : {A : Type 0} {k i : ℕ} {x : A} → refusedAt k i ≡ answered x → ⊥
 refusedAt-not e = let z : _≡_ {A = ℕ} 0 1 = cc in omega arith
 
+-- 9, then an item is taken
+abbrev pub itemPlaces : ℕ → Run → Pass → List ℕ → List ℕ → Item → Outcome Out
+itemPlaces p r s f g x = require (placesThere r s (length f) (length g)) number.buffer (answered (takes p r s x f g))
+
 -- the outcomes of an item
 module _ (p : ℕ) (r : Run) (s : Pass) (given : Given) (f g : List ℕ) where
   abbrev took : Item → Outcome Out
@@ -70,12 +74,17 @@ module _ (p : ℕ) (r : Run) (s : Pass) (given : Given) (f g : List ℕ) where
   abbrev checks : Outcome Item
   checks = itemChecks p (stageOf r) (wellFormed p r s) (s .kind) (s .taken) given (length f) (length g)
 
-  -- its checks, then it is taken
   pub give-checked : (o : Outcome Item) → o ≡ checks → giveCall p r s given f g ≡ andThen o took
+  unfolding giveCall
+  give-checked o e = ap (λ o. andThen o took) (sym e)
+
+  -- row by row
+  pub give-rows : giveCall p r s given f g
+      ≡ require (passOpen p r s) number.order
+      (require (ltb (s .taken) (r .start .items)) number.items (andThen (partsOf p (r .start) (nextIndex r s) given) (itemPlaces p r s f g)))
   unfolding giveCall itemChecks
-  give-checked o e =
-      by (passOpen p r s) (ltb (s .taken) (r .start .items)) (placesThere r s (length f) (length g)) (partsOf p (r .start) (nextIndex r s) given)
-      ∙ ap (λ o. andThen o took) (sym e)
+  give-rows =
+      sym (by (passOpen p r s) (ltb (s .taken) (r .start .items)) (placesThere r s (length f) (length g)) (partsOf p (r .start) (nextIndex r s) given))
     where
       by : (a b d : Bool) (o : Outcome Item)
           → require a number.order (require b number.items (andThen o (λ x. require d number.buffer (took x))))

@@ -1,6 +1,6 @@
 -- The opening of the verifier's own vectors, at its challenges, passes the check.
 use mathlib.Core.Path.{_≡_, refl, sym, ap, ap₂, _∙_}
-use mathlib.Core.List.{List, [], _∷_, _++_}
+use mathlib.Core.List.{List, [], _++_, append-nil}
 use Prim.Native.Nat.{ℕ, zero, suc, _+_, _-_, _*_, _%_, _≤_, _<_}
 use native.Mathlib.Nat.{add-zero, sub-zero}
 use native.Mathlib.Omega.{arith}
@@ -43,10 +43,6 @@ triple-dropped xs i =
     same : {x y z x′ y′ z′ : ℕ} → x ≡ x′ → y ≡ y′ → z ≡ z′
         → _≡_ {A = Triple} (record { atPoint = x; atMinus = y; atSquare = z }) (record { atPoint = x′; atMinus = y′; atSquare = z′ })
     same a b c = cc
-
-pub append-nil : (xs : List ℕ) → xs ++ [] ≡ xs
-append-nil [] = refl
-append-nil (x ∷ xs) = ap (λ ys. x ∷ ys) (append-nil xs)
 
 -- triple k of those that begin with a list
 pub triple-of : (t : ℕ → Triple) (n : ℕ) (rest : List ℕ) (k : ℕ) → k < n → tripleAt (tripleValues t 0 n ++ rest) (3 * k) ≡ t k
