@@ -8,7 +8,7 @@ use native.Mathlib.Nat.{sub-zero}
 use native.Mathlib.Omega.{arith}
 use borrow.Author.Tests.{le-leb, eq-eqb}
 use lib.IntN.{pos}
-use lib.ListN.{length, replicate, length-replicate, length-append, getD-replicate, List·getD-append, List·getD-eq-default}
+use lib.ListN.{length, replicate, length-replicate, length-append, List·getD-append}
 use Rattle.refusal.specs.Limit.{maxWeight}
 use Rattle.field.specs.Total.{inLimits, limit}
 use Rattle.vector.specs.Vector.{at}

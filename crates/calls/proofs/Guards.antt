@@ -31,6 +31,7 @@ use Rattle.prover.specs.Take.{takes}
 use Rattle.prover.specs.Calls as calls
 use Rattle.prover.specs.Calls.{placesThere, giveCall}
 use Rattle.prover.proofs.Outcomes.{itemPlaces, give-rows}
+use Rattle.prover.proofs.FullOutcomes.{lent-by-rows}
 use Rattle.prover.specs.Change.{changes, toFullCall}
 use Rattle.prover.specs.Close as close
 use Rattle.prover.specs.Close.{closing, closeCall}
@@ -121,7 +122,7 @@ module _ (p : ℕ) (a : State) (past : Notes) (few : a .start .rounds ≤ 15) wh
 
   -- 9 and 16 of a full-mode call
   reads : (l : Lent) (o : Out) → lentFolds p R (l .f) (l .g) (answered o) ≡ decided (readRows p a l) (answered o)
-  reads l o = like-row _ _ 9 _ _ _ (long-test l) (like-row _ _ 16 _ none _ (reduced-test l) refl)
+  reads l o = lent-by-rows p R (l .f) (l .g) (answered o) ∙ like-row _ _ 9 _ _ _ (long-test l) (like-row _ _ 16 _ none _ (reduced-test l) refl)
 
   module _ (s : Pass) (wf : wellFormed p R s ≡ true) where
     formed-and : (x y : Bool) → x ≡ y → cond (wellFormed p R s) x false ≡ y

@@ -33,10 +33,11 @@ use Rattle.prover.specs.Take as item
 use Rattle.prover.specs.Level.{stageOf}
 use Rattle.prover.specs.WellFormed as run
 use Rattle.prover.specs.Calls.{bothLong, passOpen, giveCall}
+use Rattle.pass.specs.Lent.{goodIn}
 use Rattle.pass.specs.Checks.{itemChecks}
 use Rattle.prover.specs.Change.{mayChange, changes, toFullCall}
 use Rattle.prover.specs.Close.{withTotal, goneTo, shutPass, totalFits, finished, closing, closeCall, leavesStep}
-use Rattle.prover.specs.Full.{messageTurn, endsTurn, openingTurn, bothReduced, lentFolds, messageGiven, messageCall, endsGiven, endsCall}
+use Rattle.prover.specs.Full.{messageTurn, endsTurn, openingTurn, lentFolds, messageGiven, messageCall, endsGiven, endsCall}
 use Rattle.prover.specs.Challenge.{challengeTurn, challengedSmall, challengedFull, challenged, challengeCall}
 use Rattle.prover.specs.Opening.{openingGiven, openingCall}
 use Rattle.prover.specs.Written.{writeCall, writtenStep}
@@ -81,7 +82,12 @@ module _ (p : ℕ) (r : Run) (s : Pass) where
   checked false k f g rest h = record { so = refl }
 
   read : (f g : List ℕ) (rest : Outcome Out) → Keeps f g rest → Keeps f g (lentFolds p r f g rest)
-  read f g rest h = checked (bothLong r (length f) (length g)) 9 f g _ (checked (bothReduced p r f g) 16 f g rest h)
+  read f g rest h = by (goodIn p (stageOf r) f g)
+    where
+      by : (o : Outcome (Unit {0})) → Keeps f g (andThen o (λ x. rest))
+      by (answered x) = h
+      by (refused k) = record { so = refl }
+      by (refusedAt k i) = record { so = refl }
 
   given : (f g : List ℕ) (o : Outcome Item) → Keeps f g (andThen o (λ x. answered (item.takes p r s x f g)))
   given f g (answered x) = same f g (item.takes p r s x f g) (ap (λ r. r .start) (takes-run p r s x f g))

@@ -9,7 +9,7 @@ use borrow.Author.Tests.{le-leb, ltb-false, lt-ltb, eq-eqb}
 use lib.Dec.{ltb}
 use lib.ListN.{length}
 use Rattle.refusal.specs.Number as number
-use Rattle.refusal.specs.Outcome.{Outcome, answered, require}
+use Rattle.refusal.specs.Outcome.{Outcome, answered, require, andThen}
 use Rattle.vector.specs.Rounds.{size}
 use Rattle.vector.specs.Vector.{Vector, at}
 use Rattle.vector.specs.Fold.{fold, endValue}
@@ -47,7 +47,10 @@ passed-row b k rest e = ap (λ t. require t k rest) e
 
 pub lent-rows : (p : ℕ) (r : Run) (fs gs : List ℕ) (rest : Outcome Out) → bothLong r (length fs) (length gs) ≡ true → bothReduced p r fs gs ≡ true
     → lentFolds p r fs gs rest ≡ rest
-lent-rows p r fs gs rest l e = passed-row (bothLong r (length fs) (length gs)) number.buffer _ l ∙ passed-row (bothReduced p r fs gs) number.vector rest e
+lent-rows p r fs gs rest l e =
+    ap (λ o. andThen o (λ x. rest))
+    (passed-row {A = Unit {0}} (bothLong r (length fs) (length gs)) number.buffer _ l
+    ∙ passed-row {A = Unit {0}} (bothReduced p r fs gs) number.vector (answered tt) e)
 
 -- RECORDS: an answered call returns a well-formed record
 module _ (p : ℕ) (r : Run) (s : Pass) where

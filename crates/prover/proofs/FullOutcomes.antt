@@ -21,6 +21,18 @@ use Rattle.prover.specs.Full.{bothReduced, lentFolds}
 use Rattle.prover.specs.Challenge.{keptChallenge, challengedFull, challenged}
 use Rattle.prover.proofs.Outcomes.{stop, pass, refused-not}
 
+-- the lent folds, row by row
+pub lent-by-rows : (p : ℕ) (r : Run) (f g : List ℕ) (rest : Outcome Out)
+    → lentFolds p r f g rest ≡ require (bothLong r (length f) (length g)) number.buffer (require (bothReduced p r f g) number.vector rest)
+lent-by-rows p r f g rest = by (bothLong r (length f) (length g)) (bothReduced p r f g)
+  where
+    by : (a b : Bool)
+        → andThen (require a number.buffer (require b number.vector (answered (tt {0})))) (λ x. rest)
+        ≡ require a number.buffer (require b number.vector rest)
+    by true true = refl
+    by true false = refl
+    by false b = refl
+
 module _ (p : ℕ) (r : Run) (s : Pass) (f g : List ℕ) where
   abbrev good : Outcome (Unit {0})
   good = goodIn p (stageOf r) f g
@@ -35,21 +47,11 @@ module _ (p : ℕ) (r : Run) (s : Pass) (f g : List ℕ) where
 
   -- the lent folds, then the rest
   module _ (rest : Outcome Out) where
-    lent-then : lentFolds p r f g rest ≡ andThen good (λ x. rest)
-    lent-then = by (bothLong r (length f) (length g)) (bothReduced p r f g)
-      where
-        by : (a b : Bool)
-            → require a number.buffer (require b number.vector rest)
-            ≡ andThen (require a number.buffer (require b number.vector (answered (tt {0})))) (λ x. rest)
-        by true true = refl
-        by true false = refl
-        by false b = refl
-
     pub lent-refused : (k : ℕ) → good ≡ refused k → leaves r s f g (lentFolds p r f g rest) ≡ out (refusedStep r s k) f g
-    lent-refused k e = ap (leaves r s f g) (lent-then ∙ ap (λ o. andThen o (λ x. rest)) e)
+    lent-refused k e = ap (λ o. leaves r s f g (andThen o (λ x. rest))) e
 
     pub lent-read : good ≡ answered tt → leaves r s f g (lentFolds p r f g rest) ≡ leaves r s f g rest
-    lent-read e = ap (leaves r s f g) (lent-then ∙ ap (λ o. andThen o (λ x. rest)) e)
+    lent-read e = ap (λ o. leaves r s f g (andThen o (λ x. rest))) e
 
   -- a call that tests its turn and the lent folds
   module _ (turn : Bool) (o : Out) where

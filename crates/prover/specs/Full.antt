@@ -2,22 +2,20 @@
 use Prim.Native.Nat.{ℕ, _/_}
 use mathlib.Core.Bool.{Bool}
 use mathlib.Core.List.{List}
-use lib.ListN.{length}
 use Rattle.refusal.specs.Number as number
-use Rattle.refusal.specs.Outcome.{Outcome, answered, require}
+use Rattle.refusal.specs.Outcome.{Outcome, answered, require, andThen}
 use Rattle.vector.specs.Vector.{at}
 use Rattle.vector.specs.Message.{Message}
 use Rattle.vector.specs.Slice.{messageSlice}
 use Rattle.phase.specs.declared.Next.the-variants as next
 use Rattle.phase.specs.Turn as turn
-use Rattle.pass.specs.Lent.{reducedIn}
+use Rattle.pass.specs.Lent.{reducedIn, goodIn}
 use Rattle.prover.specs.declared.Run.{Run}
 use Rattle.pass.specs.declared.Pass.{Pass}
 use Rattle.prover.specs.declared.Answer.the-variants as answer
 use Rattle.prover.specs.Records.{Out, out, answeredStep}
 use Rattle.prover.specs.Level.{stageOf, foldSize}
 use Rattle.prover.specs.WellFormed.{wellFormed}
-use Rattle.prover.specs.Calls.{bothLong}
 use Rattle.prover.specs.Close.{withMessage, withEnds}
 
 -- whose turn it is
@@ -35,8 +33,7 @@ bothReduced p r f g = reducedIn p (stageOf r) f g
 
 -- "A full-mode call reads as many first places as the current fold is long": they are there (9) and are field numbers (16)
 abbrev pub lentFolds : ℕ → Run → List ℕ → List ℕ → Outcome Out → Outcome Out
-lentFolds p r f g rest =
-    require (bothLong r (length f) (length g)) number.buffer (require (bothReduced p r f g) number.vector rest)
+lentFolds p r f g rest = andThen (goodIn p (stageOf r) f g) (λ x. rest)
 
 -- the run keeps the message of its round, and waits for the challenge
 abbrev pub keptMessage : Run → Message → Run
