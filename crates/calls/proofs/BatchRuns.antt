@@ -10,7 +10,8 @@ use Rattle.phase.specs.declared.Mode.the-variants.{Small, Full}
 use Rattle.runs.specs.Trip.{Trip}
 use Rattle.calls.specs.Step.{Lent}
 use Rattle.calls.specs.Proper.{Valid, Brings, Host, openingCalls}
-use Rattle.calls.specs.Begins.{Opens, openingsWorld, batchRun}
+use Rattle.calls.specs.Begins.{openingsWorld, batchRun}
+use Rattle.calls.specs.Starts.{Opens}
 use Rattle.calls.specs.Demand3.{AllAnswered, AllProper}
 use Rattle.calls.proofs.LiveWorld.{Lives, lives-answered, lives-sized, lives-kept}
 use Rattle.calls.proofs.LiveTakes.{last-quiet, all-take}

@@ -14,14 +14,17 @@ use Rattle.item.specs.Item.{contributes, entersAs}
 use Rattle.item.proofs.Untwisted.{enters-same}
 use Rattle.runs.specs.Trip.{Trip, tripItem, vectorF, vectorG}
 use Rattle.r1cs.proofs.RuleTotals.{padded-same}
-use Rattle.batch.specs.Batch.{combined}
+use Rattle.batch.specs.Batch.{combined, mostItems}
 use Rattle.calls.specs.Starts.{Whole}
 use Rattle.calls.specs.BatchTrip.{batchTrip}
 use Rattle.calls.proofs.RuleTrips.{pairs-length, pairs-at}
 
-module _ (p z m : ℕ) (logs : List (List ℕ)) (items : ℕ) (some : 1 ≤ items) (most : items ≤ maxItems) where
+module _ (p z m : ℕ) (logs : List (List ℕ)) (some : 1 ≤ mostItems logs m) (most : mostItems logs m ≤ maxItems) where
+  abbrev items : ℕ
+  items = mostItems logs m
+
   abbrev T : Trip
-  T = batchTrip p z m logs items
+  T = batchTrip p z m logs
 
   -- a trip that lists of calls speak of
   pub batch-whole : Whole T

@@ -1,4 +1,4 @@
--- A run that begins at its openings is one that the lists go on from: its records stand for its state, and nothing is known of its buffers.
+-- Every run that a start gives is one that the lists go on from: its records stand for its state, and nothing is known of its buffers.
 use mathlib.Core.Path.{_≡_, refl, sym, ap, ap₂, _∙_}
 use mathlib.Core.Bool.{Bool, true, false, true≢false}
 use mathlib.Core.List.{List, [], _∷_, _++_}
@@ -22,13 +22,14 @@ use Rattle.phase.specs.declared.Kind.the-variants.{Shut}
 use Rattle.item.specs.declared.Start.{Start}
 use Rattle.runs.specs.Trip.{Trip}
 use Rattle.runs.specs.Passes.{passAfter}
-use Rattle.calls.specs.Begins.{Opens, atOpenings, openingsWorld}
-use Rattle.calls.proofs.Records.{Notes, inArray}
+use Rattle.calls.specs.Starts.{Opens}
+use Rattle.calls.specs.Begins.{Begin, total, openings, CanBegin, begun, atOpenings, openingsWorld}
+use Rattle.calls.proofs.Records.{Notes, noNotes, inArray}
 use Rattle.calls.proofs.Fits.{lt-or-le, zeros-at, array-beyond}
 use Rattle.calls.proofs.Follows.{positive, no-items}
-use Rattle.calls.proofs.Refusals.{Faithful}
+use Rattle.calls.proofs.Refusals.{Faithful, fresh-faithful}
 use Rattle.calls.proofs.Agrees.{Agrees}
-use Rattle.calls.proofs.Answers.{Going}
+use Rattle.calls.proofs.Answers.{Going, fresh-going}
 
 -- lists that have the same places
 same-list : (xs ys : List ℕ) → length xs ≡ length ys → ((k : ℕ) → k < length xs → at xs k ≡ at ys k) → xs ≡ ys
@@ -115,3 +116,18 @@ module _ (p : ℕ) (large : maxWeight < p) (through : Bool) (T : Trip) (whole : 
 
   pub opens-going : (f g : List ℕ) → Going p large through T whole (openingsWorld (T .start) cs f g) (opensNotes p large (T .start) cs o)
   opens-going f g = record { faithful = opens-faithful p large (T .start) cs o f g; start = refl; agrees = opens-agrees f g }
+
+-- WHEREVER A RUN BEGINS
+module _ (p : ℕ) (large : maxWeight < p) where
+  abbrev pub begunNotes : (s : Start) (b : Begin) → CanBegin s b → Notes
+  begunNotes s total h = noNotes
+  begunNotes s (openings cs) h = opensNotes p large s cs h
+
+  pub begun-faithful : (s : Start) (b : Begin) (h : CanBegin s b) (f g : List ℕ) → Faithful p large (begun s b f g) (begunNotes s b h)
+  begun-faithful s total h f g = fresh-faithful p large s h f g
+  begun-faithful s (openings cs) h f g = opens-faithful p large s cs h f g
+
+  pub begun-going : (through : Bool) (T : Trip) (whole : length (T .items) ≡ T .start .items) (b : Begin) (h : CanBegin (T .start) b) (f g : List ℕ)
+      → Going p large through T whole (begun (T .start) b f g) (begunNotes (T .start) b h)
+  begun-going through T whole total h f g = fresh-going p large through T whole h f g
+  begun-going through T whole (openings cs) h f g = opens-going p large through T whole cs h f g

@@ -22,15 +22,16 @@ use Rattle.calls.specs.Lists.{after, along, somewhere}
 use Rattle.calls.specs.Step.{Lent, Result, isAnswered, leaving}
 use Rattle.calls.specs.State.{State}
 use Rattle.calls.specs.Table.{Refusal, refusedWith}
-use Rattle.calls.specs.World.{Made, World, freshWorld, came, onward}
+use Rattle.calls.specs.World.{Made, World, came, onward}
 use Rattle.calls.specs.Statement.{Sized, Decides}
-use Rattle.calls.specs.Starts.{Startable}
+use Rattle.calls.specs.Begins.{Begin, CanBegin, begun}
 use Rattle.calls.specs.Demand3.{AllSized, AllAnswered}
 use Rattle.calls.specs.Blocks.{blockTable, withItems, Wide, made, given, SizedWide, blockCame, wideOn, single, singles, StandsFor, BlockDecided, WideDecided, standing, expanded}
 use Rattle.calls.proofs.Records.{Notes, noted, runOf, passOf}
 use Rattle.calls.proofs.Steps.{some-none, settled, refusedResult, leaving-so}
 use Rattle.calls.proofs.Fits.{few, formed, kind-is, taken-is}
-use Rattle.calls.proofs.Refusals.{Faithful, faithful-on, fresh-faithful, refused-with}
+use Rattle.calls.proofs.Refusals.{Faithful, faithful-on, refused-with}
+use Rattle.calls.proofs.Begins.{begun-faithful}
 use Rattle.calls.proofs.BlockRows.{block-admits, block-free, block-decided}
 use Rattle.calls.proofs.BlockSingles.{all-run, all-answer, block, Singly, singly, admitted}
 
@@ -194,9 +195,9 @@ module _ (p : ℕ) (large : maxWeight < p) where
             (subst (λ v. AllSized p v (expanded p (wideOn p w x) xs)) (m .same) (rest .2)),
       )
 
-  -- from a fresh run on
-  pub fresh-blocks : (s : Start) → Startable s → (f g : List ℕ) (xs : List Wide)
-      → (let w : World = freshWorld s f g in
+  -- wherever the run begins
+  pub begun-blocks : (s : Start) (b : Begin) → CanBegin s b → (f g : List ℕ) (xs : List Wide)
+      → (let w : World = begun s b f g in
       along (wideOn p) (λ w x. SizedWide x) w xs
       → along (wideOn p) (WideDecided p) w xs × (after (wideOn p) w xs ≡ after (onward p) w (expanded p w xs)) × AllSized p w (expanded p w xs))
-  fresh-blocks s h f g xs = all-blocks (freshWorld s f g) (fresh-faithful p large s h f g) xs
+  begun-blocks s b h f g xs = all-blocks (begun s b f g) (begun-faithful p large s b h f g) xs

@@ -143,7 +143,7 @@ module _ (p : ℕ) (large : maxWeight < p) (through : Bool) (T : Trip) (whole : 
   check-so : (b : ℕ) (h : H (openingAt b)) → checks (T .start .rounds) (openingAt b) (replyOf (cameOf (openingAt b) h) .values) ≡ checkAt p T cs b ∷ []
   check-so b h =
       ap (λ (x : Answer). checks (T .start .rounds) (openingAt b) (x .values)) (hit-replies p large through T whole cs (openingAt b) h)
-      ∙ ap (λ values. (record { query = query.CheckOpening b; shown = record { file = []; values = values } }) ∷ []) (opening-of p large through T whole cs b _ h refl)
+      ∙ ap (λ values. (record { query = query.CheckOpening b; shown = record { file = []; values = values; logs = [] } }) ∷ []) (opening-of p large through T whole cs b _ h refl)
 
   claim-so : (plain : Bool) (t : ℤ) (c : ℕ) → claims (cond plain (reply.total t) (reply.fieldTotal c)) ++ [] ≡ plainly (cond plain (query.Close t) (query.CloseClaim c)) ∷ []
   claim-so true t c = refl
@@ -199,6 +199,6 @@ module _ (p : ℕ) (large : maxWeight < p) (T : Trip) (valid : Valid p T) (k : �
 
   pub file-list : (file : List ℕ) → file ≡ proofOfTrip p T cs → byFile p T begin ms file ≡ wholeByFile p T cs bs
   file-list file e =
-      ap₂ (λ file xs. itemsOf (T .items) ++ record { query = query.Proof; shown = record { file = file; values = [] } } ∷ xs) e
+      ap₂ (λ file xs. itemsOf (T .items) ++ record { query = query.Proof; shown = record { file = file; values = []; logs = [] } } ∷ xs) e
       (all-so (λ q x. checks (T .start .rounds) q (x .values)) (byCheck p T cs) (each-check p large true T (valid .whole .items) cs)
       ∙ checks-whole p T cs bs (T .start .rounds))

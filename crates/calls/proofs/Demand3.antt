@@ -16,18 +16,22 @@ use Rattle.calls.specs.declared.query.Query.{Query}
 use Rattle.calls.specs.declared.query.Query.the-variants as query
 use Rattle.calls.specs.Lists.{after, along}
 use Rattle.calls.specs.Step.{isAnswered}
-use Rattle.calls.specs.World.{Made, World, freshWorld, came, onward}
+use Rattle.calls.specs.World.{Made, World, came, onward}
+use Rattle.calls.specs.Begins.{Begin, CanBegin, begun}
 use Rattle.calls.specs.Meaning.{meant, meaning, messageAt, proofOfTrip}
 use Rattle.calls.specs.QueryStep.{Shown}
 use Rattle.calls.specs.QueryState.{VerifierState, Posed, Hearing, freshHearing, heard, hearsOn}
 use Rattle.calls.specs.Given.{replyOf, BringsRun}
 use Rattle.calls.specs.Starts.{Whole}
 use Rattle.calls.specs.Demand3.{AllSized, AllKept, AllTake, AllBringRun, AllSay, Demand3}
-use Rattle.calls.proofs.BlockLists.{fresh-blocks}
+use Rattle.calls.proofs.BlockLists.{begun-blocks}
 use Rattle.calls.proofs.HeardBlocks.{every-heard-block}
 use Rattle.calls.proofs.Records.{Notes}
-use Rattle.calls.proofs.Refusals.{all-decided, fresh-faithful}
-use Rattle.calls.proofs.Answers.{Going, all-right, fresh-going}
+use Rattle.calls.proofs.Refusals.{all-decided}
+use Rattle.calls.proofs.Begins.{begun-faithful, begun-going}
+use Rattle.calls.proofs.BatchRuns.{batch-proper}
+use Rattle.calls.proofs.BatchOpenings.{batch-checked}
+use Rattle.calls.proofs.Answers.{Going, all-right}
 use Rattle.calls.proofs.Alike.{last-replies}
 use Rattle.calls.proofs.Hits.{hit-replies, hit-somewhere}
 use Rattle.calls.proofs.Links.{total-of, claim-of, message-of, file-of}
@@ -62,6 +66,7 @@ module _ (p : ℕ) (large : maxWeight < p) (through : Bool) (T : Trip) (whole : 
       let f = file-of p large through T (whole .items) cs (l .file) (g .0) (g .1) in
       (f .0 ∙ ap (proofOfTrip p T) (sym e), f .1)
   brings b e (query.CheckOpening x) l h = tt
+  brings b e (query.CheckBatch m z x) l h = tt
 
   -- A VERIFIER'S LIST that brings what the run gave
   module _ (prime : Prime p) (odd : p % 2 ≡ 1) (word : p ≤ 2 ^ 32) (listed : length cs ≡ T .start .rounds) where
@@ -79,13 +84,13 @@ module _ (p : ℕ) (large : maxWeight < p) (through : Bool) (T : Trip) (whole : 
 
 module _ (p : ℕ) (large : maxWeight < p) (prime : Prime p) (odd : p % 2 ≡ 1) (word : p ≤ 2 ^ 32) where
   -- the last call of a list replies what is meant
-  replies : (through : Bool) (T : Trip) → Whole T → (f g : List ℕ) (ms : List Made) (m : Made)
-      → (let w : World = freshWorld (T .start) f g in
+  replies : (through : Bool) (T : Trip) → Whole T → (b : Begin) → CanBegin (T .start) b → (f g : List ℕ) (ms : List Made) (m : Made)
+      → (let w : World = begun (T .start) b f g in
       let x : World = after (onward p) w ms in
       AllSized p w (ms ++ m ∷ []) → AllKept p through T w (ms ++ m ∷ []) → isAnswered (came p x m .answer) ≡ true → replyOf (came p x m) ≡ meaning p T (x .state) (m .call))
-  replies through T whole f g ms m z kept =
-      let w : World = freshWorld (T .start) f g in
-      let going = fresh-going p large through T (whole .items) (whole .start) f g in
+  replies through T whole b h f g ms m z kept =
+      let w : World = begun (T .start) b f g in
+      let going = begun-going p large through T (whole .items) b h f g in
       last-replies p T through w ms m (all-decided p large w (going .faithful) (ms ++ m ∷ []) z) (all-right p large through T (whole .items) w going (ms ++ m ∷ []) z kept)
 
   -- DEMAND 3
@@ -93,18 +98,20 @@ module _ (p : ℕ) (large : maxWeight < p) (prime : Prime p) (odd : p % 2 ≡ 1)
   demand3 =
       record {
         starts = all-starts p;
-        refusals = λ s h f g ms z. all-decided p large (freshWorld s f g) (fresh-faithful p large s h f g) ms z;
-        answers = λ through T whole f g ms z kept.
-            all-right p large through T (whole .items) (freshWorld (T .start) f g) (fresh-going p large through T (whole .items) (whole .start) f g) ms z kept;
+        refusals = λ s b h f g ms z. all-decided p large (begun s b f g) (begun-faithful p large s b h f g) ms z;
+        answers = λ through T whole b h f g ms z kept.
+            all-right p large through T (whole .items) (begun (T .start) b f g) (begun-going p large through T (whole .items) b h f g) ms z kept;
         proper = proper-run p large prime odd word;
-        alike = λ T whole th th′ f g f′ g′ ms ns m n z z′ kept kept′ challenges asked e e′.
-            replies th T whole f g ms m z kept e ∙ ap₂ (meant p T) challenges asked ∙ sym (replies th′ T whole f′ g′ ns n z′ kept′ e′);
+        properBatch = batch-proper p large;
+        alike = λ T whole b b′ h h′ th th′ f g f′ g′ ms ns m n z z′ kept kept′ challenges asked e e′.
+            replies th T whole b h f g ms m z kept e ∙ ap₂ (meant p T) challenges asked ∙ sym (replies th′ T whole b′ h′ f′ g′ ns n z′ kept′ e′);
         verifierRefusals = every-query p;
-        verifierAnswers = λ through T whole f g ms z kept cs listed takes qs brought.
-            all-say p large through T whole cs (freshWorld (T .start) f g) (fresh-going p large through T (whole .items) (whole .start) f g) ms z kept takes prime odd word listed
+        verifierAnswers = λ through T whole b h f g ms z kept cs listed takes qs brought.
+            all-say p large through T whole cs (begun (T .start) b f g) (begun-going p large through T (whole .items) b h f g) ms z kept takes prime odd word listed
             (freshHearing (T .start) cs) (fresh-follows p large prime odd word T whole cs listed) qs brought;
-        openingsChecked = λ through T whole f g ms z kept cs listed takes.
-            openings-checked p large prime odd word T whole cs listed through f g ms z kept takes;
+        openingsChecked = λ through T whole b h f g ms z kept cs listed takes.
+            openings-checked p large prime odd word T whole cs listed through b h f g ms z kept takes;
+        batchChecked = batch-checked p large prime odd;
         verifierProper = λ T valid k cs bs l brought.
             let told = proper-messages p large prime odd word T valid k cs bs l brought in (
               messages-list p large T valid k cs bs l brought,
@@ -119,7 +126,7 @@ module _ (p : ℕ) (large : maxWeight < p) (prime : Prime p) (odd : p % 2 ≡ 1)
                   ),
             );
         verdicts = λ s h cs listed. every-verdict p s cs large h listed;
-        blocks = fresh-blocks p large;
+        blocks = begun-blocks p large;
         verifierBlocks = every-heard-block p;
       }
 

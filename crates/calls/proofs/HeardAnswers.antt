@@ -8,9 +8,7 @@ use native.Mathlib.Omega.{arith}
 use lib.Dec.{eqb, ltb}
 use lib.ListN.{length}
 use borrow.Author.Tests.{eq-eqb, eqb-true, ltb-true}
-use Rattle.algebra.specs.Mod.{residue}
 use Rattle.algebra.specs.Prime.{Prime}
-use Rattle.algebra.proofs.Congruence.{residue-small}
 use Rattle.refusal.specs.Limit.{maxWeight}
 use Rattle.refusal.proofs.Outcome.{both}
 use Rattle.field.specs.Integer.{image}
@@ -19,13 +17,14 @@ use Rattle.vector.specs.Rounds.{roundsOf}
 use Rattle.vector.specs.Vector.{at}
 use Rattle.vector.specs.Slice.{isNonzero}
 use Rattle.vector.specs.Message.{Message}
-use Rattle.vector.specs.Opening.{opening}
+use Rattle.vector.specs.Opening.{openingOf, opening}
 use Rattle.vector.proofs.Rounds.{rounds-at-most, rounds-enough}
 use Rattle.vector.proofs.Overwrite.{fifteen-at}
 use Rattle.verifier.specs.declared.Verifier.{Verifier}
 use Rattle.verifier.specs.Records.{Replied, yes, holds}
 use Rattle.verifier.specs.Claims.{messageOf3, closedWith, passedWith, failedNow, hears, finds}
 use Rattle.verifier.specs.Openings.{openingFinds}
+use Rattle.verifier.specs.Batch.{batchFinds}
 use Rattle.verifier.specs.ProofFile.{fileMessage, hearsNext, hearsFirst, endsAgree, compares, afterFile}
 use Rattle.verifier.proofs.TrueOpenings.{true-opening-holds}
 use Rattle.item.specs.declared.Start.{Start}
@@ -36,9 +35,10 @@ use Rattle.calls.specs.QueryStep.{Shown, replies}
 use Rattle.calls.specs.QueryStep as said
 use Rattle.calls.specs.QueryState.{VerifierState, atRound, hearing, goesOnHeard, hasAll, verifierTable}
 use Rattle.calls.specs.Meaning.{messageAt, proofOfTrip}
+use Rattle.calls.proofs.BatchHeard.{nonzero, batch-holds}
 use Rattle.calls.proofs.HeardMeaning.{BringsTrip, SaysTrip}
 use Rattle.calls.proofs.QueryStands.{Carries, verdict-turn}
-use Rattle.calls.proofs.QueryTurns.{item-rows, close-rows, claim-rows, file-rows, message-rows, verdict-row, opening-point}
+use Rattle.calls.proofs.QueryTurns.{item-rows, close-rows, claim-rows, file-rows, message-rows, verdict-row, opening-point, batch-rows}
 use Rattle.calls.proofs.QuerySteps.{heardAs, goesTo, saysSo}
 use Rattle.calls.proofs.QueryKeeps.{stands-after}
 use Rattle.calls.proofs.HeardTrip.{Fine, total-product}
@@ -63,17 +63,11 @@ module _ (p : ℕ) (large : maxWeight < p) (prime : Prime p) (odd : p % 2 ≡ 1)
   enough = rw rounds (rounds-enough (T .start .items) most)
 
   -- an opening of the trip, whatever the verifier was asked before
-  nonzero : (b : ℕ) → (ltb 0 b ≡ true) × (ltb b p ≡ true) → residue p b ≡ 0 → ⊥
-  nonzero b h e =
-      let least = ltb-true 0 b (h .0) in
-      let below = ltb-true b p (h .1) in
-      omega (arith, residue-small p b (omega arith))
-
   pub opening-holds : (k : ℕ) (v : Verifier) → Carries (T .start) cs k v → (b : ℕ) → isNonzero p b ≡ true
       → openingFinds p v b (opening p n (at cs) (vectorF p T) (vectorG p T) b) ≡ holds
   opening-holds k v c b ok =
       ap (λ k. openingFinds p v b (opening p k (at cs) (vectorF p T) (vectorG p T) b)) (sym (ap (λ s. s .rounds) (c .start)))
-      ∙ true-opening-holds prime odd b (nonzero b (both (ltb 0 b) (ltb b p) ok)) v (at cs)
+      ∙ true-opening-holds prime odd b (nonzero p b ok) v (at cs)
       (λ k h. ap (λ xs. at xs k) (c .challenges) ∙ fifteen-at n cs few (omega (arith, listed)) k (omega (arith, ap (λ s. s .rounds) (c .start))))
       (vectorF p T) (vectorG p T)
 
@@ -190,5 +184,14 @@ module _ (p : ℕ) (large : maxWeight < p) (prime : Prime p) (odd : p % 2 ≡ 1)
           ap (λ xs. said.opens (openingFinds p v b xs))
           (values ∙ ap (λ ds. opening p n (at ds) (vectorF p T) (vectorG p T) b) (f .challenges))
           ∙ ap said.opens (opening-holds (length (a .items)) v (carries p T cs a v f) b (opening-point p a l b e)),
+      f,
+    )
+    answers-right (query.CheckBatch m z b) l e brings = (
+      λ opens.
+          let rows = batch-rows p a l m z b e in
+          let some : 0 < n = subst (λ s. 0 < s .rounds) (f .start) (ltb-true 0 (a .start .rounds) (rows .0)) in
+          ap (λ xs. said.finds (batchFinds p v z b xs (l .logs)))
+          (opens .0 ∙ ap (λ ds. openingOf p n (at ds) (vectorF p T) b) (f .challenges))
+          ∙ ap said.finds (batch-holds p prime odd (T .start) few some cs listed (length (a .items)) v (carries p T cs a v f) z b (rows .1) (vectorF p T) (l .logs) (opens .1)),
       f,
     )

@@ -1,11 +1,10 @@
 -- What an answered call of a verifier brings and says, of the trip alone.
 use Prim.Native.Nat.{ℕ, _^_}
-use mathlib.Core.Path.{_≡_, refl}
+use mathlib.Core.Path.{_≡_}
 use mathlib.Core.Bool.{true}
 use lib.ListN.{length}
 use Rattle.field.specs.Total.{inLimits}
-use Rattle.vector.specs.Vector.{at, dot}
-use Rattle.vector.specs.Opening.{opening}
+use Rattle.vector.specs.Vector.{dot}
 use Rattle.verifier.specs.Reply as reply
 use Rattle.verifier.specs.Records.{yes, holds}
 use Rattle.runs.specs.Trip.{Trip, tripItem, vectorF, vectorG, totalOf}
@@ -27,6 +26,7 @@ BringsTrip p T a query.Verdict l = Unit {0}
 -- there is a proof file where the run's total is within its limits
 BringsTrip p T a query.Proof l = (l .file ≡ proofOfTrip p T (a .challenges)) × (inLimits p (totalOf T) ≡ true)
 BringsTrip p T a (query.CheckOpening b) l = Unit {0}
+BringsTrip p T a (query.CheckBatch m z b) l = Unit {0}
 
 -- every message passes, every verdict is yes, and an opening of the trip at the point opens
 abbrev pub SaysTrip : ℕ → Trip → VerifierState → Query → Shown → Said → Type 0
@@ -36,14 +36,15 @@ SaysTrip p T a (query.CloseClaim c) l t = t ≡ replies reply.closed
 SaysTrip p T a (query.Message even cross odd) l t = t ≡ replies reply.passed
 SaysTrip p T a query.Verdict l t = t ≡ finds yes
 SaysTrip p T a query.Proof l t = t ≡ finds yes
-SaysTrip p T a (query.CheckOpening b) l t =
-    l .values ≡ opening p (T .start .rounds) (at (a .challenges)) (vectorF p T) (vectorG p T) b → t ≡ opens holds
+SaysTrip p T a (query.CheckOpening b) l t = OpensTrip p T a (query.CheckOpening b) l → t ≡ opens holds
+SaysTrip p T a (query.CheckBatch m z b) l t = OpensTrip p T a (query.CheckBatch m z b) l → t ≡ finds yes
 
-pub says-agreed : (p : ℕ) (T : Trip) (a : VerifierState) (q : Query) (l : Shown) (t : Said) → SaysTrip p T a q l t → OpensTrip p T a (record { query = q; shown = l }) → t ≡ agreed q
+pub says-agreed : (p : ℕ) (T : Trip) (a : VerifierState) (q : Query) (l : Shown) (t : Said) → SaysTrip p T a q l t → OpensTrip p T a q l → t ≡ agreed q
 says-agreed p T a (query.Give x) l t h o = h
 says-agreed p T a (query.Close z) l t h o = h
 says-agreed p T a (query.CloseClaim c) l t h o = h
 says-agreed p T a (query.Message even cross odd) l t h o = h
 says-agreed p T a query.Verdict l t h o = h
 says-agreed p T a query.Proof l t h o = h
-says-agreed p T a (query.CheckOpening b) l t h o = h (o b refl)
+says-agreed p T a (query.CheckOpening b) l t h o = h o
+says-agreed p T a (query.CheckBatch m z b) l t h o = h o

@@ -50,6 +50,7 @@ use Rattle.calls.specs.Lists.{after, each}
 use Rattle.calls.specs.Step.{Lent, step}
 use Rattle.calls.specs.Meaning.{says, messagesTo}
 use Rattle.calls.specs.World.{Made, World, freshWorld, came, onward}
+use Rattle.calls.specs.Begins.{total}
 use Rattle.calls.specs.QueryStep.{ask}
 use Rattle.calls.specs.QueryStep as said
 use Rattle.calls.specs.QueryState.{Posed, plainly, Hearing, freshHearing, hearsOn}
@@ -143,7 +144,7 @@ singleFile = 82 ∷ 86 ∷ 80 ∷ 1 ∷ 0 ∷ 0 ∷ 248 ∷ 248 ∷ 255 ∷ 255 
 
 abbrev singleByFile : List Posed
 singleByFile =
-    plainly (query.Give (Reading (negsuc 179) 10)) ∷ (record { query = query.Proof; shown = record { file = singleFile; values = [] } }) ∷ []
+    plainly (query.Give (Reading (negsuc 179) 10)) ∷ (record { query = query.Proof; shown = record { file = singleFile; values = []; logs = [] } }) ∷ []
 
 pub single-list : wholeByMessages P single [] (2 ∷ []) ≡ singleList
 unfolding messagesFrom sumOf
@@ -173,7 +174,7 @@ module _ (k : ℕ) where
 
   pub single-right : AllRight P true single singleWorld (singleRun k)
   single-right =
-      demand3-31 .answers true single single-whole (singleLent .f) (singleLent .g) (singleRun k) (single-proper .1) (single-proper .2 true)
+      demand3-31 .answers true single single-whole total (single-whole .start) (singleLent .f) (singleLent .g) (singleRun k) (single-proper .1) (single-proper .2 true)
 
   -- its verifier's own list is that one, agrees with all of it, and brings what the run gave; so the verdict is yes
   pub single-verifier : (byMessages P single singleWorld (singleRun k) ≡ singleList)
@@ -186,12 +187,12 @@ module _ (k : ℕ) where
 
   pub single-says : AllSay P single singleHearing singleList
   single-says =
-      demand3-31 .verifierAnswers true single single-whole (singleLent .f) (singleLent .g) (singleRun k) (single-proper .1) (single-proper .2 true) [] refl (single-proper .3) singleList
+      demand3-31 .verifierAnswers true single single-whole total (single-whole .start) (singleLent .f) (singleLent .g) (singleRun k) (single-proper .1) (single-proper .2 true) [] refl (single-proper .3) singleList
       (single-verifier .2)
 
   pub single-checked : (qs : List Posed) → OpeningsChecked P single singleWorld (singleRun k) (after (hearsOn P) singleHearing qs)
   single-checked =
-      demand3-31 .openingsChecked true single single-whole (singleLent .f) (singleLent .g) (singleRun k) (single-proper .1) (single-proper .2 true) [] refl (single-proper .3)
+      demand3-31 .openingsChecked true single single-whole total (single-whole .start) (singleLent .f) (singleLent .g) (singleRun k) (single-proper .1) (single-proper .2 true) [] refl (single-proper .3)
 
   -- a file with room
   abbrev into : Lent
@@ -215,5 +216,5 @@ module _ (k : ℕ) where
 
   pub single-file-says : AllSay P single singleHearing singleByFile
   single-file-says =
-      demand3-31 .verifierAnswers true single single-whole (singleLent .f) (singleLent .g) longer (single-filed .0 .1) (single-filed .0 .2 true) [] refl (single-filed .0 .3) singleByFile
+      demand3-31 .verifierAnswers true single single-whole total (single-whole .start) (singleLent .f) (singleLent .g) longer (single-filed .0 .1) (single-filed .0 .2 true) [] refl (single-filed .0 .3) singleByFile
       (single-filed .3)

@@ -50,6 +50,7 @@ use Rattle.calls.specs.Lists.{after, each}
 use Rattle.calls.specs.Step.{Lent, step}
 use Rattle.calls.specs.Meaning.{Answer, says}
 use Rattle.calls.specs.World.{Made, World, freshWorld}
+use Rattle.calls.specs.Begins.{total}
 use Rattle.calls.specs.QueryStep.{ask}
 use Rattle.calls.specs.QueryStep as said
 use Rattle.calls.specs.QueryState.{Posed, plainly, Hearing, freshHearing, hearsOn}
@@ -148,7 +149,7 @@ twistedList =
     ∷ plainly (query.Message 516 141 210)
     ∷ plainly (query.Message 1134 1575 504)
     ∷ plainly query.Verdict
-    ∷ (record { query = query.CheckOpening 3; shown = record { file = []; values = twistedOpening } })
+    ∷ (record { query = query.CheckOpening 3; shown = record { file = []; values = twistedOpening; logs = [] } })
     ∷ []
 
 pub twisted-list : wholeByMessages P twisted (2 ∷ 3 ∷ []) (3 ∷ []) ≡ twistedList
@@ -175,7 +176,7 @@ twisted-proper = demand3-31 .proper twisted twisted-valid 1 (2 ∷ 3 ∷ []) (3 
 
 pub twisted-right : AllRight P true twisted twistedWorld twistedRun
 twisted-right =
-    demand3-31 .answers true twisted twisted-whole (twistedLent .f) (twistedLent .g) twistedRun (twisted-proper .1) (twisted-proper .2 true)
+    demand3-31 .answers true twisted twisted-whole total (twisted-whole .start) (twistedLent .f) (twistedLent .g) twistedRun (twisted-proper .1) (twisted-proper .2 true)
 
 abbrev twistedHearing : Hearing
 twistedHearing = freshHearing (twisted .start) (2 ∷ 3 ∷ [])
@@ -191,10 +192,10 @@ twisted-verifier =
 -- so every message passes and the verdict is yes
 pub twisted-says : AllSay P twisted twistedHearing twistedList
 twisted-says =
-    demand3-31 .verifierAnswers true twisted twisted-whole (twistedLent .f) (twistedLent .g) twistedRun (twisted-proper .1) (twisted-proper .2 true) (2 ∷ 3 ∷ []) refl (twisted-proper .3) twistedList
+    demand3-31 .verifierAnswers true twisted twisted-whole total (twisted-whole .start) (twistedLent .f) (twistedLent .g) twistedRun (twisted-proper .1) (twisted-proper .2 true) (2 ∷ 3 ∷ []) refl (twisted-proper .3) twistedList
     (twisted-verifier .2)
 
 -- and every check of the run's openings is yes, before the list, after it or after any other
 pub twisted-checked : (qs : List Posed) → OpeningsChecked P twisted twistedWorld twistedRun (after (hearsOn P) twistedHearing qs)
 twisted-checked =
-    demand3-31 .openingsChecked true twisted twisted-whole (twistedLent .f) (twistedLent .g) twistedRun (twisted-proper .1) (twisted-proper .2 true) (2 ∷ 3 ∷ []) refl (twisted-proper .3)
+    demand3-31 .openingsChecked true twisted twisted-whole total (twisted-whole .start) (twistedLent .f) (twistedLent .g) twistedRun (twisted-proper .1) (twisted-proper .2 true) (2 ∷ 3 ∷ []) refl (twisted-proper .3)

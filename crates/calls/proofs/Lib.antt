@@ -30,6 +30,7 @@ pub mod QueryLists
 pub mod JoinedLists
 pub mod HeardBlocks
 pub mod QueryKept
+pub mod BatchHeard
 pub mod QueryVerdicts
 pub mod StartKept
 pub mod HeardMeaning
@@ -52,6 +53,7 @@ pub mod LiveStep
 pub mod LiveVectors
 pub mod LiveWorld
 pub mod Pointed
+pub mod BatchTakes
 pub mod OpeningChecks
 pub mod LivePass
 pub mod LiveFull
@@ -69,5 +71,6 @@ pub mod InstanceTwisted
 pub mod InstanceSingle
 pub mod RuleTrips
 pub mod BatchTrips
+pub mod BatchOpenings
 pub mod ExampleKept
 pub mod Examples

@@ -21,7 +21,8 @@ use Rattle.verifier.specs.WellFormed.{wellFormed}
 use Rattle.verifier.specs.Sums.{takes}
 use Rattle.verifier.specs.Claims.{messageOf3, closes, hears, finds}
 use Rattle.verifier.specs.Openings.{openingFinds}
-use Rattle.verifier.specs.Calls.{passOpen, withParts, give, close, closeClaim, allReduced3, message, verdict, hasRounds, checkOpening}
+use Rattle.verifier.specs.Batch.{batchFinds}
+use Rattle.verifier.specs.Calls.{passOpen, withParts, give, close, closeClaim, allReduced3, message, verdict, hasRounds, checkOpening, checkBatch}
 use Rattle.verifier.specs.ProofFile.{Judgement, judges, readTotal, proof}
 use Rattle.verifier.proofs.Invariant.{formed-says}
 use Rattle.item.specs.declared.Start.{Start}
@@ -183,3 +184,15 @@ module _ (p : ℕ) (a : VerifierState) (v : Verifier) (s : Stands p a v) where
       (same-row (isNonzero p b) 6 _ _ _
       (like-row _ _ 6 _ _ _ (ap (λ n. eqb (length (l .values)) (6 * n)) (ap (λ s. s .rounds) (s .carries .start)))
       (same-row (allReduced p (length (l .values)) (l .values)) 11 _ none _ refl)))
+
+  pub batch-decided : (m z b : ℕ) (l : Shown)
+      → checkBatch p v m z b (l .values) (l .logs) ≡ decided (verifierTable p a (query.CheckBatch m z b) l) (answered (batchFinds p v z b (l .values) (l .logs)))
+  unfolding checkBatch verifierTable
+  batch-decided m z b l =
+      same-row (leb 1 m && leb m 8) 17 _ _ _
+      (like-row _ _ 10 _ _ _ rounds-test
+      (same-row (isNonzero p z) 6 _ _ _
+      (same-row (isNonzero p b) 6 _ _ _
+      (like-row _ _ 6 _ _ _ (ap (λ n. eqb (length (l .values)) (3 * n) && eqb (length (l .logs)) m) (ap (λ s. s .rounds) (s .carries .start)))
+      (same-row (allReduced p (length (l .values)) (l .values)) 11 _ _ _
+      (same-row (allReduced p (length (l .logs)) (l .logs)) 11 _ none _ refl))))))

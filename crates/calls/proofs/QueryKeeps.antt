@@ -131,6 +131,7 @@ module _ (p : ℕ) (a : VerifierState) (v : Verifier) (s : Stands p a v) where
   formed-asked query.Verdict l = s .carries .formed
   formed-asked query.Proof l = proof-kept p v (l .file) (s .carries .formed)
   formed-asked (query.CheckOpening b) l = s .carries .formed
+  formed-asked (query.CheckBatch m z b) l = s .carries .formed
 
   formed-answered : (c : Query) (l : Shown) → verifierTable p a c l ≡ none → wellFormed (goesTo p v c l) ≡ true
   formed-answered c l e =
@@ -218,3 +219,4 @@ module _ (p : ℕ) (a : VerifierState) (v : Verifier) (s : Stands p a v) where
   stands-after query.Verdict l e = verdict-stands p a v (s .carries) (verdict-turn p a v s ∙ verdict-row p a l e)
   stands-after query.Proof l e = file-stands l e
   stands-after (query.CheckOpening b) l e = s
+  stands-after (query.CheckBatch m z b) l e = s

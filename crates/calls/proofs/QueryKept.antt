@@ -26,6 +26,7 @@ hears-kept b (query.Message even cross odd) t = heard-kept b t
 hears-kept b query.Verdict t = heard-kept b t
 hears-kept b query.Proof t = heard-kept b t
 hears-kept b (query.CheckOpening x) t = (refl, refl)
+hears-kept b (query.CheckBatch m z x) t = (refl, refl)
 
 pub follow-kept : (b : VerifierState) (q : Query) (o : Outcome Said) → (followHeard b q o .start ≡ b .start) × (followHeard b q o .challenges ≡ b .challenges)
 follow-kept b q (answered t) = hears-kept b q t

@@ -13,6 +13,7 @@ use Rattle.verifier.specs.Records.{Replied, leaves}
 use Rattle.verifier.specs.Sums.{takes}
 use Rattle.verifier.specs.Claims.{messageOf3, closes, passedWith, failedNow, hears, finds}
 use Rattle.verifier.specs.Openings.{openingFinds}
+use Rattle.verifier.specs.Batch.{batchFinds}
 use Rattle.verifier.specs.ProofFile.{afterFile, Judgement, leavesJudged}
 use Rattle.item.specs.Item.{contributes}
 use Rattle.calls.specs.declared.query.Query.{Query}
@@ -22,7 +23,7 @@ use Rattle.calls.specs.QueryStep as said
 use Rattle.calls.specs.QueryState.{VerifierState, verifierTable}
 use Rattle.calls.specs.Table.{Refusal, refusedWith, decided}
 use Rattle.calls.proofs.QueryStands.{Stands}
-use Rattle.calls.proofs.QueryGuards.{item-decided, close-decided, close-claim-decided, message-decided, verdict-decided, proof-decided, opening-decided}
+use Rattle.calls.proofs.QueryGuards.{item-decided, close-decided, close-claim-decided, message-decided, verdict-decided, proof-decided, opening-decided, batch-decided}
 
 -- what a message is answered, by whether it passes
 abbrev pub heardAs : ℕ → Verifier → Message → Bool → Replied
@@ -38,6 +39,7 @@ goesTo p v (query.Message even cross odd) l = hears p v (messageOf3 even cross o
 goesTo p v query.Verdict l = v
 goesTo p v query.Proof l = afterFile p v (proofTotal (l .file)) (l .file)
 goesTo p v (query.CheckOpening b) l = v
+goesTo p v (query.CheckBatch m z b) l = v
 
 abbrev pub saysSo : ℕ → Verifier → Query → Shown → Said
 saysSo p v (query.Give x) l = replies reply.taken
@@ -47,6 +49,7 @@ saysSo p v (query.Message even cross odd) l = replies (hears p v (messageOf3 eve
 saysSo p v query.Verdict l = said.finds (finds p v)
 saysSo p v query.Proof l = said.finds (finds p (afterFile p v (proofTotal (l .file)) (l .file)))
 saysSo p v (query.CheckOpening b) l = said.opens (openingFinds p v b (l .values))
+saysSo p v (query.CheckBatch m z b) l = said.finds (batchFinds p v z b (l .values) (l .logs))
 
 abbrev pub answers : ℕ → Verifier → Query → Shown → Spoken
 answers p v c l = record { verifier = goesTo p v c l; told = answered (saysSo p v c l) }
@@ -93,3 +96,5 @@ asks p a v s query.Verdict l = ap (saying said.finds v) (verdict-decided p a v s
 asks p a v s query.Proof l = ap (judgedHeard v) (proof-decided p a v s l) ∙ judged-so v (verifierTable p a query.Proof l) _
 asks p a v s (query.CheckOpening b) l =
     ap (saying said.opens v) (opening-decided p a v s b l) ∙ said-so said.opens v (verifierTable p a (query.CheckOpening b) l) _
+asks p a v s (query.CheckBatch m z b) l =
+    ap (saying said.finds v) (batch-decided p a v s m z b l) ∙ said-so said.finds v (verifierTable p a (query.CheckBatch m z b) l) _

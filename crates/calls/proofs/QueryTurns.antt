@@ -87,3 +87,9 @@ module _ (p : ℕ) (a : VerifierState) (l : Shown) where
   pub opening-point : (b : ℕ) → verifierTable p a (query.CheckOpening b) l ≡ none → isNonzero p b ≡ true
   unfolding verifierTable
   opening-point b e = row-passed (isNonzero p b) 6 _ (row-passed (ltb 0 (a .start .rounds)) 10 _ e .1) .0
+
+  pub batch-rows : (m z b : ℕ) → verifierTable p a (query.CheckBatch m z b) l ≡ none → (ltb 0 (a .start .rounds) ≡ true) × (isNonzero p b ≡ true)
+  unfolding verifierTable
+  batch-rows m z b e =
+      let x = row-passed (ltb 0 (a .start .rounds)) 10 _ (row-passed (leb 1 m && leb m 8) 17 _ e .1) in
+      (x .0, row-passed (isNonzero p b) 6 _ (row-passed (isNonzero p z) 6 _ (x .1) .1) .0)

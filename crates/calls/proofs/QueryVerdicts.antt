@@ -56,6 +56,7 @@ module _ (p : ℕ) where
     unchanged query.Verdict l = refl
     unchanged query.Proof l = ap (λ o. leavesJudged v o .0) (sym (row-open p v (l .file) shut))
     unchanged (query.CheckOpening b) l = refl
+    unchanged (query.CheckBatch m z b) l = refl
 
     after-same : (ms : List Posed) → afterPosed v ms ≡ v
     unfolding after

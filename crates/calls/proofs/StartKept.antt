@@ -60,7 +60,8 @@ use Rattle.calls.specs.declared.query.Query.{Query}
 use Rattle.calls.specs.declared.query.Query.the-variants as query
 use Rattle.calls.specs.Lists.{always}
 use Rattle.calls.specs.Step.{Lent, step}
-use Rattle.calls.specs.World.{Made, World, freshWorld, onward}
+use Rattle.calls.specs.World.{Made, World, onward}
+use Rattle.calls.specs.Begins.{Begin, total, openings, begun}
 use Rattle.calls.specs.QueryStep.{Shown, ask}
 use Rattle.calls.specs.QueryState.{Posed, Hearing, freshHearing, hearsOn}
 use Rattle.calls.proofs.QuerySteps.{heardAs}
@@ -267,6 +268,7 @@ module _ (p : ℕ) (v : Verifier) where
       (judged-check (eqb (v .taken) (v .start .items)) 8 _
       (judged-check (v .start .plain) 10 _ (judged (readProofOf p (v .start .rounds) (l .file)) (l .file)))))
   ask-start (query.CheckOpening b) l = refl
+  ask-start (query.CheckBatch m z b) l = refl
 
 -- ALONG A LIST the modulus is that of its start
 module _ (s : Start) where
@@ -276,9 +278,10 @@ module _ (s : Start) where
   runs-stay (m ∷ ms) w e =
       (ap modulusOf e, runs-stay ms (onward (modulusOf s) w m) (step-start (modulusOf s) (w .run) (w .pass) (m .call) (m .lent) ∙ e))
 
-  pub run-modulus : (f g : List ℕ) (ms : List Made)
-      → always (onward (modulusOf s)) (λ w. modulusOf (w .run .start) ≡ modulusOf s) (freshWorld s f g) ms
-  run-modulus f g ms = runs-stay ms (freshWorld s f g) refl
+  pub run-modulus : (b : Begin) (f g : List ℕ) (ms : List Made)
+      → always (onward (modulusOf s)) (λ w. modulusOf (w .run .start) ≡ modulusOf s) (begun s b f g) ms
+  run-modulus total f g ms = runs-stay ms (begun s total f g) refl
+  run-modulus (openings cs) f g ms = runs-stay ms (begun s (openings cs) f g) refl
 
   verifiers-stay : (qs : List Posed) (h : Hearing) → h .verifier .start ≡ s
       → always (hearsOn (modulusOf s)) (λ h. modulusOf (h .verifier .start) ≡ modulusOf s) h qs

@@ -265,3 +265,4 @@ module _ (p : ℕ) (s : Start) (cs : List ℕ) (large : maxWeight < p) (fits : S
       let found = file-found l e in
       (judged p s cs (fileBrought p n b (l .file)) (finds p (w l e)) found, bears-with query.Proof l e (settled (file-turn l e) found))
   answers-judged (query.CheckOpening x) l e = (tt, h)
+  answers-judged (query.CheckBatch m z x) l e = (tt, h)

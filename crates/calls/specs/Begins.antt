@@ -1,9 +1,6 @@
--- A run that begins at its openings, its challenges handed in: a batch of document 02, (a).
-use Prim.Native.Nat.{ℕ, _<_}
-use mathlib.Core.Path.{_≡_}
-use mathlib.Core.Bool.{false}
+-- WHERE A RUN'S LIST BEGINS: at the total of a fresh run, or, for a batch of document 02, (a), at the openings, its challenges handed in.
+use Prim.Native.Nat.{ℕ}
 use mathlib.Core.List.{List}
-use lib.ListN.{length}
 use Rattle.phase.specs.declared.Mode.the-variants.{Small}
 use Rattle.phase.specs.declared.Next.the-variants as next
 use Rattle.prover.specs.Start.{openingsRun, zeroPass}
@@ -12,16 +9,9 @@ use Rattle.runs.specs.Trip.{Trip}
 use Rattle.calls.specs.State.{State, noPass}
 use Rattle.calls.specs.Lists.{each}
 use Rattle.calls.specs.Step.{Lent}
-use Rattle.calls.specs.World.{Made, World}
-use Rattle.calls.specs.Starts.{Startable}
+use Rattle.calls.specs.World.{Made, World, freshWorld}
+use Rattle.calls.specs.Starts.{Startable, Opens}
 use Rattle.calls.specs.Proper.{openingCalls, makes, hostOn}
-
--- "by n challenges handed in", of field numbers, and n is not 0
-pub record Opens (s : Start) (cs : List ℕ) : Type 0 where
-  pub start : Startable s
-  pub numbers : s .plain ≡ false
-  pub rounds : 0 < s .rounds
-  pub listed : length cs ≡ s .rounds
 
 abbrev pub atOpenings : Start → List ℕ → List ℕ → List ℕ → State
 atOpenings s cs f g =
@@ -30,6 +20,18 @@ atOpenings s cs f g =
 -- what an answered start of a batch gives
 abbrev pub openingsWorld : Start → List ℕ → List ℕ → List ℕ → World
 openingsWorld s cs f g = record { state = atOpenings s cs f g; run = openingsRun s cs; pass = zeroPass }
+
+pub data Begin : Type 0 where
+  total : Begin
+  openings : List ℕ → Begin
+
+abbrev pub CanBegin : Start → Begin → Type 0
+CanBegin s total = Startable s
+CanBegin s (openings cs) = Opens s cs
+
+abbrev pub begun : Start → Begin → List ℕ → List ℕ → World
+begun s total f g = freshWorld s f g
+begun s (openings cs) f g = openingsWorld s cs f g
 
 -- a batch's own list, from that on: a change to full mode, where k is n + 1, then an opening at each point
 abbrev pub batchRun : ℕ → Trip → ℕ → List ℕ → List ℕ → Lent → List Made

@@ -45,7 +45,7 @@ abbrev pub checks : ℕ → Question → List ℕ → List Posed
 checks n total values = []
 checks n (roundMessage i) values = []
 checks n ends values = []
-checks n (openingAt b) values = record { query = query.CheckOpening b; shown = record { file = []; values = take (6 * n) values } } ∷ []
+checks n (openingAt b) values = record { query = query.CheckOpening b; shown = record { file = []; values = take (6 * n) values; logs = [] } } ∷ []
 checks n proof values = []
 checks n (done x) values = []
 
@@ -63,7 +63,7 @@ module _ (p : ℕ) (T : Trip) (w : World) (ms : List Made) where
   abbrev pub byFile : List ℕ → List Posed
   byFile file =
       itemsOf (T .items)
-      ++ record { query = query.Proof; shown = record { file = file; values = [] } } ∷ carriedOver (λ q x. checks (T .start .rounds) q (x .values))
+      ++ record { query = query.Proof; shown = record { file = file; values = []; logs = [] } } ∷ carriedOver (λ q x. checks (T .start .rounds) q (x .values))
 
 -- the run's call that writes it
 abbrev pub writesProof : Lent → Made

@@ -1,5 +1,5 @@
--- DEMAND 3: "a single theorem whose subject is the whole list". To be read top to bottom with Lists, Starts, State, World, Table, Meaning,
--- Statement (a run's list), Proper (a run's own list), QueryState (a verifier's list), Given (a verifier's beside a run's), Carried and
+-- DEMAND 3: "a single theorem whose subject is the whole list". To be read top to bottom with Lists, Starts, State, World, Begins, Table,
+-- Meaning, Statement (a run's list), Proper (a run's own list), QueryState (a verifier's list), Given (a verifier's beside a run's), Carried and
 -- WholeList (the verifier's own list), Verdict (a verifier's verdicts) and Blocks (lists with blocks of items).
 use Prim.Native.Nat.{ℕ, _+_, _<_, _≤_}
 use mathlib.Core.Path.{_≡_}
@@ -20,12 +20,14 @@ use Rattle.calls.specs.Meaning.{question, Kept}
 use Rattle.calls.specs.Statement.{Sized, Decides, CountsHold, Holds, Right}
 use Rattle.calls.specs.QueryState.{verifierTable, Posed, Hearing, freshHearing, heard, hearsOn, DecidesHeard}
 use Rattle.calls.specs.Proper.{Valid, Brings, properRun}
-use Rattle.calls.specs.Given.{replyOf, BringsRun, OpeningsChecked, agreed, OpensTrip}
+use Rattle.calls.specs.Given.{replyOf, BringsRun, OpeningsChecked, BatchChecked, agreed, OpensTrip}
 use Rattle.calls.specs.Carried.{byMessages, byFile, writesProof}
 use Rattle.calls.specs.WholeList.{wholeByMessages, wholeByFile}
 use Rattle.calls.specs.Verdict.{broughtWith, Judges, Account, freshAccount, accountOn}
 use Rattle.calls.specs.Blocks.{Wide, SizedWide, wideOn, WideDecided, expanded, WidePosed, wideHears, WideDecidedHeard, expandedHeard}
-use Rattle.calls.specs.Starts.{Startable, Whole, Starts}
+use Rattle.calls.specs.Starts.{Startable, Opens, Whole, batchRows, Starts}
+use Rattle.calls.specs.Begins.{Begin, CanBegin, begun, openingsWorld, batchRun}
+use Rattle.calls.specs.BatchTrip.{batchTrip}
 
 -- ALONG A RUN'S LIST
 module _ (p : ℕ) where
@@ -71,7 +73,7 @@ module _ (p : ℕ) where
   -- the verifier agrees with what the table lets through, with a check where it is of an opening of the trip
   abbrev pub AllSay : Trip → Hearing → List Posed → Type 0
   AllSay T =
-      along (hearsOn p) (λ h q. verifierTable p (h .state) (q .query) (q .shown) ≡ none → OpensTrip p T (h .state) q → heard p h q .told ≡ answered (agreed (q .query)))
+      along (hearsOn p) (λ h q. verifierTable p (h .state) (q .query) (q .shown) ≡ none → OpensTrip p T (h .state) (q .query) (q .shown) → heard p h q .told ≡ answered (agreed (q .query)))
 
   -- every call is answered, and the verifier agrees
   abbrev pub AllAgreed : Hearing → List Posed → Type 0
@@ -84,24 +86,29 @@ module _ (p : ℕ) where
       (λ w q. isAnswered (heard p (w .now) q .told) ≡ true → Judges p s cs (broughtWith p (s .rounds) (w .brought) (q .query) (q .shown)) (q .query) (heard p (w .now) q .told))
 
 pub record Demand3 (p : ℕ) : Type 0 where
-  -- each start is refused exactly by 3 and 6, and otherwise gives the records that the lists below begin with
+  -- each start is refused exactly by its rows, and otherwise gives the records that the lists below begin with
   pub starts : Starts p
   -- WHATEVER THE LIST: refused exactly when, and with the number that, the table says, and then nothing changes; and every small pass
   -- for a round, the ends or openings holds exactly document 01's entries, level by level
-  pub refusals : (s : Start) → Startable s → (f g : List ℕ) (ms : List Made) → (let w : World = freshWorld s f g in AllSized p w ms → AllDecided p w ms)
+  pub refusals : (s : Start) (b : Begin) → CanBegin s b → (f g : List ℕ) (ms : List Made)
+      → (let w : World = begun s b f g in AllSized p w ms → AllDecided p w ms)
   -- WHERE EVERY PASS GIVES THE TRIP'S ITEMS AND THE BUFFERS ARE KEPT: every answer is what is meant, every stack entry is the fold's item,
   -- every buffer and every proof file is as document 01 says, after every call
-  pub answers : (through : Bool) (T : Trip) → Whole T → (f g : List ℕ) (ms : List Made)
-      → (let w : World = freshWorld (T .start) f g in AllSized p w ms → AllKept p through T w ms → AllRight p through T w ms)
+  pub answers : (through : Bool) (T : Trip) → Whole T → (b : Begin) → CanBegin (T .start) b → (f g : List ℕ) (ms : List Made)
+      → (let w : World = begun (T .start) b f g in AllSized p w ms → AllKept p through T w ms → AllRight p through T w ms)
   -- A PROPER RUN IS ANSWERED THROUGHOUT, in small mode, in full mode and with a change at every place; it meets what is asked above, and
   -- takes the challenges that it is brought
   pub proper : (T : Trip) → Valid p T → (k : ℕ) (cs bs : List ℕ) (l : Lent) → Brings p T k cs bs l
       → AllProper p cs T (freshWorld (T .start) (l .f) (l .g)) (properRun p T k cs bs l)
+  -- A BATCH'S OWN LIST, in small mode (k above n + 1) and with a change before its openings, likewise
+  pub properBatch : (T : Trip) → Valid p T → (k : ℕ) (cs bs : List ℕ) (l : Lent) → Brings p T k cs bs l → Opens (T .start) cs → T .start .rounds < k
+      → AllProper p cs T (openingsWorld (T .start) cs (l .f) (l .g)) (batchRun p T k cs bs l)
   -- ALIKE: two lists for the same trip, each in any mode and with any change; where the same challenges were taken and the same is asked,
   -- the same is answered
-  pub alike : (T : Trip) → Whole T → (th th′ : Bool) (f g f′ g′ : List ℕ) (ms ns : List Made) (m n : Made)
-      → (let w : World = freshWorld (T .start) f g in
-      let v : World = freshWorld (T .start) f′ g′ in
+  pub alike : (T : Trip) → Whole T → (b b′ : Begin) → CanBegin (T .start) b → CanBegin (T .start) b′ → (th th′ : Bool) (f g f′ g′ : List ℕ)
+      (ms ns : List Made) (m n : Made)
+      → (let w : World = begun (T .start) b f g in
+      let v : World = begun (T .start) b′ f′ g′ in
       let x : World = after (onward p) w ms in
       let y : World = after (onward p) v ns in
       AllSized p w (ms ++ m ∷ []) → AllSized p v (ns ++ n ∷ []) → AllKept p th T w (ms ++ m ∷ []) → AllKept p th′ T v (ns ++ n ∷ [])
@@ -111,15 +118,23 @@ pub record Demand3 (p : ℕ) : Type 0 where
   pub verifierRefusals : (s : Start) → Startable s → (cs : List ℕ) (qs : List Posed) → AllDecidedHeard p (freshHearing s cs) qs
   -- BESIDE A RUN'S LIST that took the verifier's challenges: where the answered calls bring the trip's items first to last and what the run
   -- gave, every message passes and every verdict is yes
-  pub verifierAnswers : (through : Bool) (T : Trip) → Whole T → (f g : List ℕ) (ms : List Made)
-      → (let w : World = freshWorld (T .start) f g in
+  pub verifierAnswers : (through : Bool) (T : Trip) → Whole T → (b : Begin) → CanBegin (T .start) b → (f g : List ℕ) (ms : List Made)
+      → (let w : World = begun (T .start) b f g in
       AllSized p w ms → AllKept p through T w ms → (cs : List ℕ) → length cs ≡ T .start .rounds → AllTake p cs w ms
       → (qs : List Posed) → AllBringRun p T w ms (freshHearing (T .start) cs) qs → AllSay p T (freshHearing (T .start) cs) qs)
   -- and "at any time", whatever the verifier was asked before, every check of the run's openings is yes
-  pub openingsChecked : (through : Bool) (T : Trip) → Whole T → (f g : List ℕ) (ms : List Made)
-      → (let w : World = freshWorld (T .start) f g in
+  pub openingsChecked : (through : Bool) (T : Trip) → Whole T → (b : Begin) → CanBegin (T .start) b → (f g : List ℕ) (ms : List Made)
+      → (let w : World = begun (T .start) b f g in
       AllSized p w ms → AllKept p through T w ms → (cs : List ℕ) → length cs ≡ T .start .rounds → AllTake p cs w ms
       → (qs : List Posed) → OpeningsChecked p T w ms (after (hearsOn p) (freshHearing (T .start) cs) qs))
+  -- OF A BATCH whose start the table lets through: "at any time" a verifier with its n and its challenges says yes to what its run opened and
+  -- to the logs' values
+  pub batchChecked : (m : ℕ) (logs : List (List ℕ)) (z : ℕ) (cs : List ℕ) → batchRows p m logs z cs ≡ none → (through : Bool) (f g : List ℕ)
+      (ms : List Made)
+      → (let T : Trip = batchTrip p z m logs in
+      let w : World = openingsWorld (T .start) cs f g in
+      AllSized p w ms → AllKept p through T w ms → (s : Start) → Startable s → s .rounds ≡ T .start .rounds → (qs : List Posed)
+      → BatchChecked p T w ms z m logs (after (hearsOn p) (freshHearing s cs) qs))
   -- A PROPER RUN'S VERIFIER has for its own list the L items, the close, n messages, the verdict and a check of each opening, which bring
   -- what the run gave; it answers them throughout and agrees: every message passes, the verdict and every check are yes; and so with the proof
   -- file of a plain run, which the run goes on to write into any file that has room for it: the L items, the file, the checks
@@ -142,8 +157,8 @@ pub record Demand3 (p : ℕ) : Type 0 where
   pub verdicts : (s : Start) → Startable s → (cs : List ℕ) → length cs ≡ s .rounds → (qs : List Posed) → AllJudged p s cs (freshAccount s cs) qs
   -- WITH BLOCKS OF ITEMS AMONG THE CALLS: each is refused exactly when its rows say, or stands for its single items, all of them answered; and the
   -- list ends as the one in which each answered block stands as its single items, of which all the above is said
-  pub blocks : (s : Start) → Startable s → (f g : List ℕ) (xs : List Wide)
-      → (let w : World = freshWorld s f g in
+  pub blocks : (s : Start) (b : Begin) → CanBegin s b → (f g : List ℕ) (xs : List Wide)
+      → (let w : World = begun s b f g in
       along (wideOn p) (λ w x. SizedWide x) w xs
       → along (wideOn p) (WideDecided p) w xs × (after (wideOn p) w xs ≡ after (onward p) w (expanded p w xs)) × AllSized p w (expanded p w xs))
   pub verifierBlocks : (s : Start) → Startable s → (cs : List ℕ) (xs : List WidePosed)

@@ -48,7 +48,7 @@ abbrev file : List ℕ
 file = proofFile 2 (negsuc 5099) (2147482047 ∷ 2147478297 ∷ 2147480147 ∷ 2147457147 ∷ 2147482997 ∷ 200 ∷ 2147483237 ∷ 65 ∷ [])
 
 abbrev withFile : Posed
-withFile = record { query = query.Proof; shown = record { file = file; values = [] } }
+withFile = record { query = query.Proof; shown = record { file = file; values = []; logs = [] } }
 
 abbrev opening : Posed
 opening =
@@ -58,6 +58,7 @@ opening =
           record {
             file = [];
             values = 2147483277 ∷ 330 ∷ 2147483277 ∷ 2147483197 ∷ 2147483037 ∷ 2147483237 ∷ 70 ∷ 2147483637 ∷ 70 ∷ 60 ∷ 40 ∷ 65 ∷ [];
+            logs = [];
           };
     }
 

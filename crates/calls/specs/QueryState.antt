@@ -4,8 +4,9 @@ use mathlib.Core.Path.{_≡_}
 use mathlib.Core.Bool.{Bool, true, false, not, _&&_, _||_}
 use mathlib.Core.List.{List, [], _∷_}
 use mathlib.Core.Option.{Option, none, some}
-use lib.Dec.{eqb, ltb}
+use lib.Dec.{eqb, leb, ltb}
 use lib.ListN.{length}
+use Rattle.refusal.specs.Limit.{maxLogs}
 use Rattle.refusal.specs.Outcome.{Outcome, answered, refused, refusedAt}
 use Rattle.field.specs.Total.{inLimits}
 use Rattle.wire.specs.Header.{marked, versionOf}
@@ -65,6 +66,7 @@ goesOnHeard a (query.Message even cross odd) t = hearing a t
 goesOnHeard a query.Verdict t = hearing a t
 goesOnHeard a query.Proof t = hearing a t
 goesOnHeard a (query.CheckOpening b) t = a
+goesOnHeard a (query.CheckBatch m z b) t = a
 
 abbrev pub followHeard : VerifierState → Query → Outcome Said → VerifierState
 followHeard a c (answered x) = goesOnHeard a c x
@@ -106,6 +108,15 @@ verifierTable p a (query.CheckOpening b) l =
     (row (isNonzero p b) 6
     (row (eqb (length (l .values)) (6 * a .start .rounds)) 6
     (row (allReduced p (length (l .values)) (l .values)) 11 none)))
+-- document 02, (a): "17 no logs or more than eight .. before 10 for n = 0 and any number handed in"; "one such value for each (else 6)"
+verifierTable p a (query.CheckBatch m z b) l =
+    row (leb 1 m && leb m maxLogs) 17
+    (row (ltb 0 (a .start .rounds)) 10
+    (row (isNonzero p z) 6
+    (row (isNonzero p b) 6
+    (row (eqb (length (l .values)) (3 * a .start .rounds) && eqb (length (l .logs)) m) 6
+    (row (allReduced p (length (l .values)) (l .values)) 11
+    (row (allReduced p (length (l .logs)) (l .logs)) 11 none))))))
 
 -- A LIST OF CALLS: "each call given the record that the last returned"
 -- a call with what it is lent
@@ -115,7 +126,7 @@ pub record Posed : Type 0 where
 
 -- one that is lent nothing
 abbrev pub plainly : Query → Posed
-plainly q = record { query = q; shown = record { file = []; values = [] } }
+plainly q = record { query = q; shown = record { file = []; values = []; logs = [] } }
 
 -- the verifier, and the state that follows from the answered calls
 pub record Hearing : Type 0 where

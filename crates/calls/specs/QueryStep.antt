@@ -5,15 +5,16 @@ use Rattle.refusal.specs.Outcome.{Outcome, answered, refused, refusedAt}
 use Rattle.verifier.specs.declared.Verifier.{Verifier}
 use Rattle.verifier.specs.Reply.{Reply}
 use Rattle.verifier.specs.Records.{Handed, leaves, Finding, OpeningFinding}
-use Rattle.verifier.specs.Calls.{give, close, closeClaim, message, verdict, checkOpening}
+use Rattle.verifier.specs.Calls.{give, close, closeClaim, message, verdict, checkOpening, checkBatch}
 use Rattle.verifier.specs.ProofFile.{proof, leavesJudged}
 use Rattle.calls.specs.declared.query.Query.{Query}
 use Rattle.calls.specs.declared.query.Query.the-variants as query
 
--- the file and the opening values that a call is lent; none of them is written
+-- the file, the opening values and, of a batch, each log's value that a call is lent; none of them is written
 pub record Shown : Type 0 where
   pub file : List ℕ
   pub values : List ℕ
+  pub logs : List ℕ
 
 -- what an answered call says: a reply, the verdict, or the verdict on an opening
 pub data Said : Type 0 where
@@ -45,3 +46,4 @@ ask p v (query.Message even cross odd) l = replying (leaves v (message p v even 
 ask p v query.Verdict l = saying finds v (verdict p v)
 ask p v query.Proof l = saying finds (leavesJudged v (proof p v (l .file)) .0) (leavesJudged v (proof p v (l .file)) .1)
 ask p v (query.CheckOpening b) l = saying opens v (checkOpening p v b (l .values))
+ask p v (query.CheckBatch m z b) l = saying finds v (checkBatch p v m z b (l .values) (l .logs))

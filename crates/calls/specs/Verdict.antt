@@ -72,6 +72,7 @@ broughtWith p n b (query.Message even cross odd) l = messageBrought b (messageOf
 broughtWith p n b query.Verdict l = b
 broughtWith p n b query.Proof l = fileBrought p n b (l .file)
 broughtWith p n b (query.CheckOpening x) l = b
+broughtWith p n b (query.CheckBatch m z x) l = b
 
 -- a refused call brings nothing
 abbrev pub broughtAs : ℕ → ℕ → Brought → Query → Shown → Outcome Said → Brought
@@ -151,6 +152,7 @@ Judges p s cs b (query.Message even cross odd) t = MessageJudged p s cs b t
 Judges p s cs b query.Verdict t = VerdictJudged p s cs b t
 Judges p s cs b query.Proof t = VerdictJudged p s cs b t
 Judges p s cs b (query.CheckOpening x) t = Unit {0}
+Judges p s cs b (query.CheckBatch m z x) t = Unit {0}
 
 -- A LIST, with what its answered calls brought
 pub record Account : Type 0 where

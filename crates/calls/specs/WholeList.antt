@@ -33,7 +33,7 @@ module _ (p : ℕ) (T : Trip) where
     checkAt b =
         record {
           query = query.CheckOpening b;
-          shown = record { file = []; values = opening p (T .start .rounds) (at cs) (vectorF p T) (vectorG p T) b };
+          shown = record { file = []; values = opening p (T .start .rounds) (at cs) (vectorF p T) (vectorG p T) b; logs = [] };
         }
 
     module _ (bs : List ℕ) where
@@ -48,4 +48,4 @@ module _ (p : ℕ) (T : Trip) where
 
       -- L items, the proof file, the checks
       abbrev pub wholeByFile : List Posed
-      wholeByFile = itemsOf (T .items) ++ (record { query = query.Proof; shown = record { file = proofOfTrip p T cs; values = [] } } ∷ allChecks)
+      wholeByFile = itemsOf (T .items) ++ (record { query = query.Proof; shown = record { file = proofOfTrip p T cs; values = []; logs = [] } } ∷ allChecks)

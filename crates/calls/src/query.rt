@@ -11,4 +11,6 @@ pub enum Query {
     Proof,
     // At a point, of the lent values.
     CheckOpening(u32),
+    // Of a number of logs, with z and the point, of the lent values and log values.
+    CheckBatch(u32, u32, u32),
 }

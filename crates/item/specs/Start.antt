@@ -4,7 +4,7 @@ use mathlib.Core.Bool.{Bool, true, false, cond, _&&_}
 use mathlib.Core.List.{List}
 use lib.Dec.{eqb, leb}
 use lib.ListN.{length, replicate}
-use Rattle.refusal.specs.Limit.{maxItems, maxRounds}
+use Rattle.refusal.specs.Limit.{maxItems, maxRounds, maxLogs}
 use Rattle.field.specs.Modulus.{modulus}
 use Rattle.vector.specs.Rounds.{roundsOf}
 use Rattle.vector.specs.Slice.{allNonzero, fifteen}
@@ -26,6 +26,10 @@ roundsFit n = leb n maxRounds
 -- "a list of challenges, twists .. not as long as n asks", or one "outside 1..P-1"
 abbrev pub listFits : ℕ → ℕ → List ℕ → Bool
 listFits p n xs = eqb (length xs) n && allNonzero p n xs
+
+-- document 02, (a): "no logs or more than eight"
+abbrev pub logsFit : ℕ → Bool
+logsFit m = leb 1 m && leb m maxLogs
 
 -- a plain run, which reads no twists
 abbrev pub plainStart : ℕ → Start

@@ -3,14 +3,15 @@ use mathlib.Core.Path.{_≡_, ap, _∙_}
 use mathlib.Core.Bool.{Bool, true, false, cond}
 use mathlib.Core.List.{List}
 use Prim.Native.Nat.{ℕ}
+use lib.Dec.{ltb}
 use Rattle.refusal.specs.Number as number
 use Rattle.refusal.specs.Outcome.{Outcome, answered, refused, require}
 use Rattle.field.specs.Number.{isNonzero}
 use Rattle.vector.specs.Rounds.{roundsOf}
-use Rattle.item.specs.Start.{countFits, roundsFit, listFits, plainStart, twistedStart, ruleStart, ruleOrNone, noStart}
+use Rattle.item.specs.Start.{countFits, roundsFit, listFits, plainStart, twistedStart, untwistedStart, ruleStart, ruleOrNone, noStart}
 use Rattle.prover.specs.declared.Run.{Run}
 use Rattle.prover.specs.Records.{Out}
-use Rattle.prover.specs.Start.{freshRun, started, startPlain, startTwisted, startRule}
+use Rattle.prover.specs.Start.{freshRun, openingsRun, started, startPlain, startTwisted, startRule, startOpenings}
 
 module _ (items : ℕ) where
   abbrev pub plainRun : Run
@@ -70,3 +71,26 @@ module _ (p rounds v : ℕ) where
 
     pub rule-fits : ruleOrNone p rounds v ≡ ruleStart p rounds v
     rule-fits = ap (λ t. cond t (ruleStart p rounds v) noStart) a
+
+module _ (p items : ℕ) (challenges : List ℕ) where
+  abbrev pub batchRun : Run
+  batchRun = openingsRun (untwistedStart items) challenges
+
+  pub openings-count : countFits items ≡ false → startOpenings p items challenges ≡ refused number.count
+  unfolding startOpenings
+  openings-count a = rw a
+
+  module _ (a : countFits items ≡ true) where
+    pub openings-none : ltb 0 (roundsOf items) ≡ false → startOpenings p items challenges ≡ refused number.order
+    unfolding startOpenings
+    openings-none b = rw (a, b)
+
+    pub openings-argument : ltb 0 (roundsOf items) ≡ true → listFits p (roundsOf items) challenges ≡ false
+        → startOpenings p items challenges ≡ refused number.argument
+    unfolding startOpenings
+    openings-argument b e = rw (a, b, e)
+
+    pub openings-answered : ltb 0 (roundsOf items) ≡ true → listFits p (roundsOf items) challenges ≡ true
+        → startOpenings p items challenges ≡ answered (started batchRun)
+    unfolding startOpenings
+    openings-answered b e = rw (a, b, e)

@@ -1,6 +1,7 @@
 -- The starts of a run.
 use Prim.Native.Nat.{ℕ}
 use mathlib.Core.List.{List, []}
+use lib.Dec.{ltb}
 use lib.IntN.{pos}
 use lib.ListN.{replicate}
 use Rattle.refusal.specs.Number as number
@@ -10,7 +11,7 @@ use Rattle.kernel.specs.Kernel.{emptyKernel}
 use Rattle.vector.specs.Rounds.{roundsOf}
 use Rattle.vector.specs.Slice.{fifteen}
 use Rattle.item.specs.declared.Start.{Start}
-use Rattle.item.specs.Start.{countFits, roundsFit, listFits, plainStart, twistedStart, ruleStart, noStart}
+use Rattle.item.specs.Start.{countFits, roundsFit, listFits, plainStart, twistedStart, untwistedStart, ruleStart, noStart}
 use Rattle.phase.specs.declared.Mode.the-variants.{Small}
 use Rattle.phase.specs.declared.Next.the-variants.{Total, Openings}
 use Rattle.phase.specs.declared.Kind.the-variants.{Shut}
@@ -75,3 +76,10 @@ unfoldable pub startRule : ℕ → ℕ → ℕ → Outcome Out
 startRule p rounds v =
     require (roundsFit rounds) number.count
     (require (isNonzero p v) number.argument (answered (started (freshRun (ruleStart p rounds v)))))
+
+-- a batch's run: with n = 0 there are no openings (10)
+unfoldable pub startOpenings : ℕ → ℕ → List ℕ → Outcome Out
+startOpenings p items challenges =
+    require (countFits items) number.count
+    (require (ltb 0 (roundsOf items)) number.order
+    (require (listFits p (roundsOf items) challenges) number.argument (answered (started (openingsRun (untwistedStart items) challenges)))))

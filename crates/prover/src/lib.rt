@@ -11,7 +11,7 @@ mod items;
 mod open;
 mod opening;
 mod stage;
-mod start;
+pub mod start;
 mod written;
 
 use item::Start;

@@ -2,13 +2,15 @@
 ghost use mathlib.Core.Path.{_≡_};
 ghost use mathlib.Core.List.{[]};
 ghost use Rattle.field.specs.Modulus.{modulus};
-ghost use Rattle.prover.specs.Records.{out, refusedStep};
-ghost use Rattle.prover.specs.Start.{freshRun, zeroRun, zeroPass, started, startLeaves, startPlain, startTwisted, startRule};
+ghost use Rattle.item.specs.Start.{untwistedStart};
+ghost use Rattle.prover.specs.Records.{out, refusedStep, refusedAtStep};
+ghost use Rattle.prover.specs.Start.{freshRun, openingsRun, zeroRun, zeroPass, started, startLeaves, startPlain, startTwisted, startRule, startOpenings};
 use super::Answer;
 use super::Run;
 use super::Step;
 use super::answers::answered;
 use super::answers::refuse;
+use super::answers::refuse_at;
 use field::Checked;
 use field::Field;
 use item::Start;
@@ -18,6 +20,7 @@ use phase::Kind;
 use phase::Mode;
 use phase::Next;
 use refusal::Check;
+use refusal::pass_if;
 
 // A run that has given and taken nothing.
 fn fresh(start: Start) -> Run
@@ -42,11 +45,38 @@ fn answer(start: Start) -> Step
     answered(fresh(start), empty_pass(Kind::Shut), Answer::Started)
 }
 
+// The run of a batch, whose openings are next.
+fn opens(items: u32, challenges: &[u32]) -> Step
+    ensures { λ r. ⌜ out r [] [] ≡ started (openingsRun (untwistedStart items) (now (challenges .entry))) ⌝ }
+{
+    let start = starts::untwisted(items);
+    let rounds = start.rounds;
+    let kept = vector::slice::take15(challenges, rounds as usize);
+    let run = Run {
+        start,
+        mode: Mode::Small,
+        next: Next::Openings,
+        round: rounds,
+        challenges: kept,
+        messages: [0u32; 45],
+        total: 0,
+        fend: 0,
+        gend: 0,
+    };
+    answered(run, empty_pass(Kind::Shut), Answer::Started)
+}
+
 // A refused start hands back zeros.
-fn no_run(number: u8) -> Step
+pub fn no_run(number: u8) -> Step
     ensures { λ r. ⌜ r ≡ refusedStep zeroRun zeroPass number ⌝ }
 {
     refuse(fresh(starts::none()), empty_pass(Kind::Shut), number)
+}
+
+pub fn no_run_at(number: u8, index: u32) -> Step
+    ensures { λ r. ⌜ r ≡ refusedAtStep zeroRun zeroPass number index ⌝ }
+{
+    refuse_at(fresh(starts::none()), empty_pass(Kind::Shut), number, index)
 }
 
 impl Run {
@@ -84,5 +114,22 @@ impl Run {
             return no_run(refusal::ARGUMENT);
         };
         answer(starts::rule(p, rounds, x.to_u32()))
+    }
+
+    // The run of a batch: its challenges are handed in, and its openings are next.
+    pub fn start_openings(items: u32, challenges: &[u32]) -> Step
+        ensures { λ r. ⌜ out r [] [] ≡ startLeaves (startOpenings modulus items (now (challenges .entry))) ⌝ }
+    {
+        let Check::Passed = starts::count_fits(items) else {
+            return no_run(refusal::COUNT);
+        };
+        let rounds = vector::sizes::rounds_of(items);
+        let Check::Passed = pass_if(0 < rounds) else {
+            return no_run(refusal::ORDER);
+        };
+        let Check::Passed = starts::list_fits(field::modulus(), rounds, challenges) else {
+            return no_run(refusal::ARGUMENT);
+        };
+        opens(items, challenges)
     }
 }

@@ -22,5 +22,9 @@ maxWorth = 47185920
 abbrev pub maxTotal : ℕ
 maxTotal = 1073741823
 
+-- document 02, (a): "up to eight logs"
+abbrev pub maxLogs : ℕ
+maxLogs = 8
+
 abbrev pub limits : List ℕ
-limits = maxItems ∷ maxRounds ∷ maxWeight ∷ maxTotal ∷ []
+limits = maxItems ∷ maxRounds ∷ maxWeight ∷ maxTotal ∷ maxLogs ∷ []

@@ -1,4 +1,4 @@
--- Document 01, "Refused, by place": the sixteen numbers, by name.
+-- Document 01, "Refused, by place": its sixteen numbers, by name, and those of document 02.
 use Prim.Native.Nat.{ℕ}
 use mathlib.Core.List.{List, [], _∷_}
 
@@ -66,7 +66,12 @@ value = 15
 abbrev pub vector : ℕ
 vector = 16
 
+-- document 02, (a): "no logs or more than eight .. or unequal n"
+abbrev pub logs : ℕ
+logs = 17
+
 -- every number, in the table's order
 abbrev pub numbers : List ℕ
 numbers =
-    header ∷ version ∷ count ∷ size ∷ weight ∷ argument ∷ total ∷ items ∷ buffer ∷ order ∷ number ∷ turn ∷ place ∷ sorted ∷ value ∷ vector ∷ []
+    header ∷ version ∷ count ∷ size ∷ weight ∷ argument ∷ total ∷ items ∷ buffer ∷ order ∷ number ∷ turn ∷ place ∷ sorted ∷ value ∷ vector
+    ∷ logs ∷ []

@@ -1,4 +1,4 @@
-// Document 01's refusal numbers and limits, each under one name. specs/ has the same names; `numbers` and `limits` tie the two.
+// The refusal numbers and limits of documents 01 and 02, each under one name. specs/ has the same names; `numbers` and `limits` tie the two.
 ghost use mathlib.Core.Path.{_≡_};
 ghost use Rattle.refusal.specs.Number as number;
 ghost use Rattle.refusal.specs.Limit as limit;
@@ -36,17 +36,21 @@ pub const VALUE: u8 = 15;
 
 pub const VECTOR: u8 = 16;
 
+pub const LOGS: u8 = 17;
+
 pub const MAX_ITEMS: u32 = 32768;
 
 pub const MAX_ROUNDS: u32 = 15;
 
 pub const MAX_WEIGHT: u32 = 1440;
 
+pub const MAX_LOGS: u32 = 8;
+
 // The least total is its negative.
 pub const MAX_TOTAL: u32 = 1073741823;
 
 // Every refusal number, in the table's order.
-pub fn numbers() -> [u8; 16]
+pub fn numbers() -> [u8; 17]
     ensures { λ r. ⌜ r ≡ number.numbers ⌝ }
 {
     [
@@ -66,13 +70,14 @@ pub fn numbers() -> [u8; 16]
         SORTED,
         VALUE,
         VECTOR,
+        LOGS,
     ]
 }
 
-pub fn limits() -> [u32; 4]
+pub fn limits() -> [u32; 5]
     ensures { λ r. ⌜ r ≡ limit.limits ⌝ }
 {
-    [MAX_ITEMS, MAX_ROUNDS, MAX_WEIGHT, MAX_TOTAL]
+    [MAX_ITEMS, MAX_ROUNDS, MAX_WEIGHT, MAX_TOTAL, MAX_LOGS]
 }
 
 // The answer of one check, taken by `let else`.

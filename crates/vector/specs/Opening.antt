@@ -31,9 +31,13 @@ unfoldable pub tripleValues : (ℕ → Triple) → ℕ → ℕ → List ℕ
 tripleValues t k zero = []
 tripleValues t k (suc m) = t k .atPoint ∷ t k .atMinus ∷ t k .atSquare ∷ tripleValues t (suc k) m
 
+-- of one vector, "for j = 1 to n"
+abbrev pub openingOf : ℕ → ℕ → (ℕ → ℕ) → Vector → ℕ → List ℕ
+openingOf p n c v b = tripleValues (triple p n c v b) 0 n
+
 -- "for j = 1 to n and each vector": f, then g
 abbrev pub opening : ℕ → ℕ → (ℕ → ℕ) → Vector → Vector → ℕ → List ℕ
-opening p n c f g b = tripleValues (triple p n c f b) 0 n ++ tripleValues (triple p n c g b) 0 n
+opening p n c f g b = openingOf p n c f b ++ openingOf p n c g b
 
 -- "the third equals half the sum of the first two plus c_{j-1} times half their difference divided by b"
 abbrev pub openingRight : ℕ → ℕ → ℕ → Triple → ℕ

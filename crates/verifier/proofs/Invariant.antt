@@ -147,6 +147,10 @@ pub opening-safe : (v : Verifier) → hasRounds v ≡ true → v .start .rounds 
 unfolding hasRounds
 opening-safe v h = formed-says v (both (wellFormed v) (ltb 0 (v .start .rounds)) h .0) .few
 
+pub opening-some : (v : Verifier) → hasRounds v ≡ true → 1 ≤ v .start .rounds
+unfolding hasRounds
+opening-some v h = ltb-true 0 (v .start .rounds) (both (wellFormed v) (ltb 0 (v .start .rounds)) h .1)
+
 -- the test of an open pass, as the code makes it
 pub turn-plain : (closed failed : Bool) (round rounds taken items : ℕ) → closed ≡ false → failed ≡ false → round ≡ 0
     → leb taken items

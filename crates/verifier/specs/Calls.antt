@@ -1,6 +1,6 @@
 -- Each call: its checks in document 01's order (turn, then numbers), then what it does.
 use Prim.Native.Nat.{ℕ, _*_}
-use mathlib.Core.Bool.{Bool, true, false, cond, not}
+use mathlib.Core.Bool.{Bool, true, false, cond, not, _&&_}
 use mathlib.Core.List.{List}
 use lib.Dec.{eqb, ltb}
 use lib.IntN.{ℤ}
@@ -13,6 +13,7 @@ use Rattle.field.specs.Total.{inLimits}
 use Rattle.vector.specs.Slice.{allReduced}
 use Rattle.item.specs.declared.Given.{Given}
 use Rattle.item.specs.declared.Item.{Item}
+use Rattle.item.specs.Start.{logsFit}
 use Rattle.item.specs.Item.{partsOf}
 use Rattle.verifier.specs.declared.Verifier.{Verifier}
 use Rattle.verifier.specs.Records.{Replied, Finding, OpeningFinding}
@@ -20,6 +21,7 @@ use Rattle.verifier.specs.WellFormed.{wellFormed}
 use Rattle.verifier.specs.Sums.{takes}
 use Rattle.verifier.specs.Claims.{messageOf3, closes, hears, finds}
 use Rattle.verifier.specs.Openings.{openingFinds}
+use Rattle.verifier.specs.Batch.{batchFinds}
 
 -- a record that a call returned, with its pass open
 unfoldable pub passOpen : Verifier → Bool
@@ -81,3 +83,18 @@ checkOpening p v b values =
     (require (isNonzero p b) number.argument
     (require (eqb (length values) (6 * v .start .rounds)) number.argument
     (require (allReduced p (length values) values) number.number (answered (openingFinds p v b values)))))
+
+-- document 02, (a): "told how many logs and given one such value for each (else 6)"; the combined vector's values are three for each j
+abbrev pub batchLengths : Verifier → ℕ → List ℕ → List ℕ → Bool
+batchLengths v m values logs = eqb (length values) (3 * v .start .rounds) && eqb (length logs) m
+
+-- 17 for the number of logs, "before 10 for n = 0 and any number handed in"
+unfoldable pub checkBatch : ℕ → Verifier → ℕ → ℕ → ℕ → List ℕ → List ℕ → Outcome Finding
+checkBatch p v m z b values logs =
+    require (logsFit m) number.logs
+    (require (hasRounds v) number.order
+    (require (isNonzero p z) number.argument
+    (require (isNonzero p b) number.argument
+    (require (batchLengths v m values logs) number.argument
+    (require (allReduced p (length values) values) number.number
+    (require (allReduced p (length logs) logs) number.number (answered (batchFinds p v z b values logs))))))))
