@@ -7,7 +7,7 @@ use crate::random::Random;
 use crate::replay::{encode, Record, Tool};
 use crate::report::Report;
 use crate::text::{hex, listed};
-use crate::{edges, rules, trip};
+use crate::{batch, edges, rules, trip};
 use std::fs::{self, File};
 use std::path::{Path, PathBuf};
 use std::process::{Command, Stdio};
@@ -30,7 +30,12 @@ pub fn compare(programs: &Path, seed: u64, count: u64) -> Result<String, String>
 
 fn compare_all(programs: &Path, scratch: &Path, seed: u64, count: u64) -> Result<String, String> {
     let mut report = Report::default();
-    for (name, expected) in [("edges", edges::output()), ("rules", rules::example())] {
+    let examples = [
+        ("edges", edges::output()),
+        ("rules", rules::example()),
+        ("compartments", batch::example()),
+    ];
+    for (name, expected) in examples {
         let program = programs.join(name);
         if program.exists() {
             let got = stdout_of(&mut Command::new(program), Stdio::null())?;

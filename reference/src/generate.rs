@@ -1,6 +1,7 @@
 //! Random trips and lists of calls. A list is driven by the reference's own answers, so that proper
 //! calls follow whatever random ones came before, and deep states are reached in unruly lists too.
 
+mod batch_list;
 pub mod blocks;
 mod file_list;
 mod noise;
@@ -61,6 +62,7 @@ impl Batch {
                 runs.begin_list();
                 noise::only(runs, 60);
             }
+            7..=8 => batch_list::batches(runs),
             _ => {
                 let plan = Plan::random(&mut runs.random);
                 run_and_verify(runs, plan);

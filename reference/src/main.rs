@@ -1,5 +1,6 @@
 //! The second program: document 01 by its definitions, apart from the proved one.
 
+mod batch;
 mod block_checks;
 mod compare;
 mod edges;
@@ -35,11 +36,12 @@ const USAGE: &str = "usage:
   reference replay_files     the call-list tool for files and rules, likewise
   reference edges            the edges of document 01
   reference rules            two small rule checks, one with a failing row, and refusals
+  reference compartments     a batch of three logs, checked true and false, and refusals
   reference make FOLDER      writes trip.rvl and trip.rvc from two lines on standard input:
                                READING:WEIGHT items, as in -180:10 -175:20 40:5
                                the challenges and then the point, as in 2 3 2
   reference compare PROGRAMS [SEED] [COUNT]
-                             compares the folder's trip, replay, replay_files, edges and rules with
+                             compares the folder's trip, replay, replay_files and examples with
                              this program on COUNT trips and five times as many lists (default 1
                              and 500)
   reference selftest         checks this program against document 01's example and itself
@@ -68,6 +70,7 @@ fn answer(words: &[&str]) -> Result<String, String> {
         ["replay_files"] => Ok(replay::output(Program::Files, &input()?)),
         ["edges"] => Ok(edges::output()),
         ["rules"] => Ok(rules::example()),
+        ["compartments"] => Ok(batch::example()),
         ["make", folder] => {
             let text = String::from_utf8(input()?).map_err(|error| error.to_string())?;
             make::make(Path::new(folder), &text).map(|()| String::new())

@@ -5,6 +5,7 @@
 
 mod file_calls;
 
+use crate::batch;
 use crate::prover::{Answer, Buffers, Call, Stack};
 use crate::refusal::Refusal;
 use crate::state::Run;
@@ -44,6 +45,8 @@ pub struct Tool {
     pub g: Vec<u64>,
     pub lent: (usize, usize),
     pub scratch: Vec<u64>,
+    /// How many of its first numbers are opening values.
+    pub opened: usize,
     pub proof: [u8; PROOF],
     pub proof_length: usize,
     pub file: Vec<u8>,
@@ -88,6 +91,7 @@ impl Tool {
             g: vec![0; PLACES],
             lent: (0, 0),
             scratch: Vec::new(),
+            opened: 0,
             proof: [0; PROOF],
             proof_length: 0,
             file: Vec::new(),
@@ -101,12 +105,13 @@ impl Tool {
     pub fn step(&mut self, [op, a, b, c]: Record) -> String {
         let (wide_a, wide_b) = (a as u64, b as u64);
         let lines = match (self.program, op) {
-            (_, 1..=5) | (Program::Runs, 6..=8) => self.own(op, a as usize, b as usize, c),
-            (Program::Runs, 10..=12) => self.start_prover(op, wide_a, wide_b),
+            (_, 1..=5) | (Program::Runs, 6..=8 | 41) => self.own(op, a as usize, b as usize, c),
+            (Program::Runs, 10..=12 | 62) => self.start_prover(op, wide_a, wide_b),
             (Program::Runs, 13..=24 | 26..=27) => self.prover(op, a, b),
             (Program::Runs, 30..=32) => self.start_verifier(op, wide_a, wide_b),
-            (Program::Runs, 33..=40 | 43..=44) => self.verifier(op, a, b, c),
+            (Program::Runs, 33..=40 | 42..=44) => self.verifier(op, a, b, c),
             (Program::Runs, 60..=61) => self.write_slot(op, a as usize, b),
+            (Program::Runs, 63..=64) => self.of_logs(op, a, wide_b, c as usize),
             (Program::Files, 50..=51) => self.write_file(op, a),
             (Program::Files, 52..=59) => self.read_file(op, a, wide_b),
             _ => BAD.to_string(),
@@ -128,6 +133,7 @@ impl Tool {
             5 if a <= PLACES => return self.dump(a),
             6 if a < PROOF && b <= 255 => self.proof[a] = b as u8,
             7 if a <= PROOF => self.proof_length = a,
+            41 if a <= SCRATCH => self.opened = a,
             8 => {
                 let bytes = &self.proof[..self.proof_length];
                 return format!("proof {} {}", self.proof_length, hex(bytes));
@@ -148,6 +154,16 @@ impl Tool {
         String::new()
     }
 
+    fn of_logs(&self, op: u32, a: u32, b: u64, index: usize) -> String {
+        if op == 63 {
+            return format!("number {}", batch::combined_item(a as u64, &self.slots, b, index));
+        }
+        match self.slots.get(a as usize) {
+            Some(log) => answered(batch::log_value(log, b).map(|value| format!("value {value}"))),
+            None => BAD.to_string(),
+        }
+    }
+
     fn dump(&self, places: usize) -> String {
         let stack_line = |name: &str, stack: &Stack| {
             let entries = stack.iter().map(|(level, value)| format!(" {level}:{value}"));
@@ -165,7 +181,8 @@ impl Tool {
         let run = match op {
             10 => Run::start_plain(a),
             11 => Run::start_twisted(a, &self.scratch),
-            _ => Run::start_rule(a, b),
+            12 => Run::start_rule(a, b),
+            _ => batch::start(a, &self.slots, b, &self.scratch),
         };
         answered(run.map(|run| {
             self.run = Some(run);
@@ -260,6 +277,12 @@ impl Tool {
             })),
             38 => answered(verifier.verdict()),
             39 => answered(verifier.proof(&self.proof[..self.proof_length])),
+            42 => {
+                let (values, logs) = self.scratch.split_at(self.opened.min(self.scratch.len()));
+                let batch =
+                    verifier.check_batch(numbers[0], [numbers[1], numbers[2]], values, logs);
+                answered(batch)
+            }
             43 => answered(verifier.items(block.unwrap()).map(|_| "taken")),
             44 => {
                 let (first, second) = slices.unwrap();

@@ -3,8 +3,8 @@
 use crate::generate::blocks::{Counts, ALWAYS_REFUSED, WHERE};
 use crate::generate::script::Script;
 
-/// Blocks stand apart from the other calls of a prover and a verifier.
-const GROUPS: [&str; 8] = [
+/// Blocks and batches stand apart from the other calls of a prover and a verifier.
+const GROUPS: [&str; 11] = [
     "trip",
     "prover",
     "verifier",
@@ -13,9 +13,12 @@ const GROUPS: [&str; 8] = [
     "field_items",
     "verifier's items",
     "its field_items",
+    "start_batch",
+    "log_value",
+    "check_batch",
 ];
 
-/// The refusals that document 01 allows in each group.
+/// The refusals that documents 01 and 02 allow in each group.
 const WANTED: [&[usize]; GROUPS.len()] = [
     &[1, 2, 3, 4, 5, 6, 7],
     &[3, 5, 6, 7, 8, 9, 10, 16],
@@ -25,16 +28,23 @@ const WANTED: [&[usize]; GROUPS.len()] = [
     &[8, 9, 10, 16],
     &[4, 5, 8, 10],
     &[8, 10, 16],
+    &[1, 2, 3, 4, 5, 6, 10, 17],
+    &[1, 2, 3, 4, 5, 6],
+    &[6, 10, 11, 17],
 ];
+
+/// How a batch that was checked can end.
+const FOUND: [&str; 3] = ["yes", "no at 0", "no at a j"];
 
 #[derive(Default)]
 pub struct Report {
     /// By group, then by refusal number.
-    refused: [[u64; 17]; GROUPS.len()],
+    refused: [[u64; 18]; GROUPS.len()],
     answered: [u64; GROUPS.len()],
     blocks: Counts,
     yes: u64,
     no: u64,
+    batches: [u64; FOUND.len()],
     trips: u64,
     lists: u64,
     pub programs: u64,
@@ -57,6 +67,9 @@ impl Report {
                 27 => 5,
                 43 => 6,
                 44 => 7,
+                62 => 8,
+                64 => 9,
+                42 => 10,
                 _ => continue,
             };
             self.count(group, answer);
@@ -65,9 +78,23 @@ impl Report {
                 self.no += answer.starts_with("no ") as u64;
             }
         }
+        self.count_batches(script);
         let counted = self.blocks.iter_mut().flatten().flatten();
         for (sum, count) in counted.zip(script.blocks.iter().flatten().flatten()) {
             *sum += count;
+        }
+    }
+
+    fn count_batches(&mut self, script: &Script) {
+        for (record, answer) in script.records.iter().zip(&script.answers) {
+            match (record[0], answer.trim_end()) {
+                (42, "yes") => self.batches[0] += 1,
+                (42, "no 0") => self.batches[1] += 1,
+                (42, answer) if answer.starts_with("no ") && answer != "no verifier" => {
+                    self.batches[2] += 1;
+                }
+                _ => {}
+            }
         }
     }
 
@@ -83,7 +110,7 @@ impl Report {
     }
 
     pub fn finish(&self) -> Result<String, String> {
-        let missing = self.missing_refusals() + &self.missing_blocks();
+        let missing = self.missing_refusals() + &self.missing_blocks() + &self.missing_batches();
         match missing.is_empty() {
             true => Ok(self.table()),
             false => Err(missing + &self.table()),
@@ -115,14 +142,27 @@ impl Report {
         missing
     }
 
+    fn missing_batches(&self) -> String {
+        let missing = FOUND.iter().zip(self.batches).filter(|(_, count)| *count == 0);
+        missing.map(|(found, _)| format!("no batch was checked with {found}\n")).collect()
+    }
+
     fn table(&self) -> String {
-        let mut text = self.columns(0..4) + &self.columns(4..8) + &self.places();
+        let mut text =
+            self.columns(0..4) + &self.columns(4..8) + &self.columns(8..11) + &self.places();
         let calls =
             self.refused[1..].iter().flatten().chain(&self.answered[1..]).copied().sum::<u64>();
         text += &format!(
-            "{} trips in three modes, {} lists, {calls} calls, {} verdicts yes, {} no, \
-             {} example programs: all alike\n",
-            self.trips, self.lists, self.yes, self.no, self.programs
+            "{} trips in three modes, {} lists, {calls} calls, {} verdicts yes, {} no, {} batches yes, \
+             {} no at 0, {} no at a j, {} example programs: all alike\n",
+            self.trips,
+            self.lists,
+            self.yes,
+            self.no,
+            self.batches[0],
+            self.batches[1],
+            self.batches[2],
+            self.programs
         );
         text
     }
@@ -134,7 +174,7 @@ impl Report {
             format!("{name:>8}{}\n", cells.collect::<String>())
         };
         let mut text = row("refused", &|group| GROUPS[group].to_string());
-        for number in 1..=16 {
+        for number in 1..=17 {
             if WANTED[groups.clone()].iter().any(|wanted| wanted.contains(&number)) {
                 text += &row(&number.to_string(), &|group| self.refused[group][number].to_string());
             }

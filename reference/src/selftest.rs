@@ -6,7 +6,7 @@ use crate::files::write_log;
 use crate::random::Random;
 use crate::replay::{Program, Tool};
 use crate::text::listed;
-use crate::{block_checks, random_runs, rules, trip};
+use crate::{batch, block_checks, random_runs, rules, trip};
 
 const PAPER_TRIP: &str = "total -5100
 round 0 2147482047 2147478297 2147480147
@@ -42,6 +42,14 @@ const PAPER_EDGES: &str = "* claim 0 2147478547
 - total-claimed -1073741823 taken
 - total-claimed -1073741824 refused 7";
 
+/// -180 + 3 · 5 + 9 · 150 and so on; -370, 11 and 1090 at 2, and -370 + 3 · 11 + 9 · 1090.
+const PAPER_BATCH: &str = "combined 1185 1286 1435 2147483644
+values 2147483277 11 1090
+small 9473 4377 9473 6615 899 8044
+true values: yes
+another value of the second log: no 0
+another value at j 2: no 2";
+
 pub fn run() -> Result<String, String> {
     let numbers: Vec<u8> =
         CHALLENGES.iter().chain(&[POINT]).flat_map(|&c| (c as u32).to_le_bytes()).collect();
@@ -58,6 +66,12 @@ pub fn run() -> Result<String, String> {
         }
     }
     alike("one rule set holds, one fails", "yes no 0", &rule_verdicts())?;
+    for line in PAPER_BATCH.lines() {
+        match batch::example().lines().any(|given| given == line) {
+            true => {}
+            false => return Err(format!("compartments wanting: {line}")),
+        }
+    }
     for change in 0..=4 {
         alike(&format!("change before {change}"), PAPER_TRIP, &replayed(change))?;
     }
@@ -82,7 +96,7 @@ fn alike(name: &str, wanted: &str, got: &str) -> Result<(), String> {
 /// The ops that a program has, as REPLAY.md divides them.
 fn known_by_paper(program: Program) -> String {
     let ops = match program {
-        Program::Runs => vec![1..=8, 10..=24, 26..=27, 30..=40, 43..=44, 60..=61],
+        Program::Runs => vec![1..=8, 10..=24, 26..=27, 30..=44, 60..=64],
         Program::Files => vec![1..=5, 50..=59],
     };
     ops.into_iter().flatten().map(|op: u32| format!("{op} ")).collect()

@@ -72,6 +72,12 @@ impl Run {
         Ok(Run::fresh(false, 1 << rounds, rule_twists(rounds as usize, v)))
     }
 
+    /// Of a batch: its challenges are known, and its openings are next.
+    pub fn at_openings(items: usize, challenges: &[u64]) -> Run {
+        let fresh = Run::fresh(false, items, vec![1; rounds_of(items)]);
+        Run { next: Next::Openings, challenges: challenges.to_vec(), ..fresh }
+    }
+
     fn fresh(plain: bool, items: usize, twists: Vec<u64>) -> Run {
         Run {
             plain,

@@ -6,7 +6,7 @@ use Rattle.refusal.specs.Outcome.{Outcome}
 use Rattle.item.specs.declared.Given.{Given}
 use Rattle.verifier.specs.declared.Verifier.{Verifier}
 use Rattle.verifier.specs.Records.{Handed, leaves, Finding, OpeningFinding}
-use Rattle.verifier.specs.Calls.{give, close, closeClaim, message, verdict, checkOpening}
+use Rattle.verifier.specs.Calls.{give, close, closeClaim, message, verdict, checkOpening, checkBatch}
 use Rattle.verifier.specs.ProofFile.{proof, leavesJudged}
 use Rattle.calls.specs.declared.query.Query.{Query}
 use Rattle.calls.specs.declared.query.Query.the-variants as query
@@ -44,3 +44,8 @@ module _ (p : ℕ) (v : Verifier) (l : Shown) {q : Query} {r : Spoken} where
       → r ≡ saying opens v o → r ≡ ask p v q l
   unfolding ask
   opening-arm b e a h = h ∙ ap (saying opens v) a ∙ ap (λ q. ask p v q l) (sym e)
+
+  pub batch-arm : (m z b : ℕ) {o : Outcome Finding} → q ≡ query.CheckBatch m z b → o ≡ checkBatch p v m z b (l .values) (l .logs)
+      → r ≡ saying finds v o → r ≡ ask p v q l
+  unfolding ask
+  batch-arm m z b e a h = h ∙ ap (saying finds v) a ∙ ap (λ q. ask p v q l) (sym e)

@@ -1,4 +1,4 @@
--- Ops 13 to 24 and 33 to 40 of the replay tool: the call of the run, or of the verifier, that a record names.
+-- Ops 13 to 24, 33 to 40 and 42 of the replay tool: the call of the run, or of the verifier, that a record names.
 use Prim.Native.Nat.{ℕ, _+_, _*_}
 use mathlib.Core.Bool.{cond}
 use lib.Dec.{eqb, leb}
@@ -57,7 +57,7 @@ callNamed r =
     -- 24: "write_proof into the first a bytes of the proof file"
     (cond (eqb (r .op) 24) (fileNamed (r .a)) named.Nothing)))))))))))
 
--- ops 33 to 40
+-- ops 33 to 40, and 42
 abbrev pub queryPosed : Record → Posed
 queryPosed r =
     -- 33: "verifier item as 15"
@@ -75,4 +75,6 @@ queryPosed r =
     -- 39: "proof: the first (proof length) bytes"
     (cond (eqb (r .op) 39) (posed.Query query.Proof)
     -- 40: "check_opening at point a of the scratch list"
-    (cond (eqb (r .op) 40) (posed.Query (query.CheckOpening (r .a))) posed.Nothing)))))))
+    (cond (eqb (r .op) 40) (posed.Query (query.CheckOpening (r .a)))
+    -- 42: "check_batch: number of logs a, z = b, point c"
+    (cond (eqb (r .op) 42) (posed.Query (query.CheckBatch (r .a) (r .b) (r .c))) posed.Nothing))))))))

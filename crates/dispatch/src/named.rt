@@ -63,7 +63,7 @@ fn file_named(size: u32) -> Named
     Named::Call(Call::WriteProof)
 }
 
-// Ops 33 to 40.
+// Ops 33 to 40, and 42.
 pub fn query_of(r: Record) -> Posed
     ensures { λ n. ⌜ n ≡ queryPosed r ⌝ }
 {
@@ -77,6 +77,7 @@ pub fn query_of(r: Record) -> Posed
         38 => Posed::Query(Query::Verdict),
         39 => Posed::Query(Query::Proof),
         40 => Posed::Query(Query::CheckOpening(r.a)),
+        42 => Posed::Query(Query::CheckBatch(r.a, r.b, r.c)),
         _ => Posed::Nothing,
     }
 }

@@ -91,9 +91,10 @@ fn give(verifier: Verifier, given: Given) -> Step
     }
 }
 
-// What each call is lent beside its numbers: the file and the opening values, which may be empty where it has no use for them.
-pub fn ask(verifier: Verifier, query: Query, file: &[u8], values: &[u32]) -> Heard
-    ensures { λ r. ⌜ heardIn r ≡ ask (modulusOf (verifier .start)) verifier query (record { file = now (file .entry); values = now (values .entry) }) ⌝ }
+// What each call is lent beside its numbers: the file, the opening values and the logs' values, which may be empty where it has no use
+// for them.
+pub fn ask(verifier: Verifier, query: Query, file: &[u8], values: &[u32], logs: &[u32]) -> Heard
+    ensures { λ r. ⌜ heardIn r ≡ ask (modulusOf (verifier .start)) verifier query (record { file = now (file .entry); values = now (values .entry); logs = now (logs .entry) }) ⌝ }
 {
     match query {
         Query::Give(given) => stepped(give(verifier, given)),
@@ -107,5 +108,11 @@ pub fn ask(verifier: Verifier, query: Query, file: &[u8], values: &[u32]) -> Hea
             judged(given.verifier, verdict)
         }
         Query::CheckOpening(point) => opened(verifier, verifier.check_opening(point, values)),
+        Query::CheckBatch(count, z, point) => {
+            judged(
+                verifier,
+                verifier.check_batch(count, z, point, values, logs),
+            )
+        }
     }
 }

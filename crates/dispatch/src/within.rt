@@ -42,8 +42,9 @@ pub fn ask_within(
     size: usize,
     file: &[u8],
     values: &[u32],
+    logs: &[u32],
 ) -> Heard
-    ensures { λ r. ⌜ heardIn r ≡ ask (modulusOf (verifier .start)) verifier query (record { file = take size (now (file .entry)); values = now (values .entry) }) ⌝ }
+    ensures { λ r. ⌜ heardIn r ≡ ask (modulusOf (verifier .start)) verifier query (record { file = take size (now (file .entry)); values = now (values .entry); logs = now (logs .entry) }) ⌝ }
 {
-    super::query::ask(verifier, query, first_bytes(size, file), values)
+    super::query::ask(verifier, query, first_bytes(size, file), values, logs)
 }

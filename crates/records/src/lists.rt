@@ -3,18 +3,19 @@ ghost use mathlib.Core.Path.{_≡_};
 ghost use Prim.Native.Nat.{_+_};
 ghost use lib.Dec.{leb};
 ghost use lib.ListN.{length, take, drop};
-ghost use Rattle.records.specs.Lists.{noLists, numbersIn, saying, pushes, lends, placeSays, placed, keeps, bufferAfter};
+ghost use Rattle.records.specs.Lists.{noLists, numbersIn, saying, pushes, lends, splits, placeSays, placed, keeps, bufferAfter};
 use super::Record;
 use super::Said;
 use super::parts::first;
 use super::parts::rest;
 
-// How many first places of each buffer are lent; the scratch list, and how many numbers it has.
+// How many first places of each buffer are lent; the scratch list, how many numbers it has, and how many first ones are opening values.
 pub struct Lists {
     pub flent: usize,
     pub glent: usize,
     pub scratch: [u32; 128],
     pub held: usize,
+    pub opened: usize,
 }
 
 pub struct Kept {
@@ -30,6 +31,7 @@ pub fn none() -> Lists
         glent: 0,
         scratch: [0; 128],
         held: 0,
+        opened: 0,
     }
 }
 
@@ -54,7 +56,7 @@ pub fn part(held: usize, scratch: &[u32], from: u32, count: u32) -> &[u32]
     first(count as usize, rest(from as usize, numbers(held, scratch)))
 }
 
-// Ops 1 to 4.
+// Ops 1 to 4, and 41.
 pub fn keep(l: Lists, r: Record, f: &mut [u32; 4096], g: &mut [u32; 4096]) -> Kept
     ensures { λ k. ⌜ (k ≡ keeps l r) × (now (f .exit) ≡ bufferAfter 0 r (now (f .entry))) × (now (g .exit) ≡ bufferAfter 1 r (now (g .entry))) ⌝ }
 {
@@ -64,6 +66,7 @@ pub fn keep(l: Lists, r: Record, f: &mut [u32; 4096], g: &mut [u32; 4096]) -> Ke
         2 => push(l, r.a),
         3 => lend(l, r.a, r.b),
         4 => says(l, place(r, f, g)),
+        41 => split(l, r.a),
         _ => says(l, Said::Bad),
     }
 }
@@ -106,6 +109,22 @@ fn lend(l: Lists, a: u32, b: u32) -> Kept
         Lists {
             flent: a as usize,
             glent: b as usize,
+            ..l
+        },
+        Said::Nothing,
+    )
+}
+
+// The first a numbers of the scratch list are opening values.
+fn split(l: Lists, a: u32) -> Kept
+    ensures { λ k. ⌜ k ≡ splits l a ⌝ }
+{
+    if a > 128 {
+        return says(l, Said::Bad);
+    }
+    says(
+        Lists {
+            opened: a as usize,
             ..l
         },
         Said::Nothing,

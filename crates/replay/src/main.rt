@@ -1,6 +1,7 @@
 // Runs a list of calls of prover and verifier, and prints what each answers. A record of standard input is one call. The buffers are
 // lent to the calls as a host would lend them.
 mod answers;
+mod batches;
 mod blocks;
 mod dump;
 mod ops;

@@ -5,6 +5,8 @@ use super::print;
 pub enum Kind {
     Lists,
     Slots,
+    // Of the logs in the slots.
+    Batch,
     Dump,
     File,
     // Of a run: a start, a call, a block of items.
@@ -20,16 +22,17 @@ pub enum Kind {
 
 pub(crate) fn kind_of(op: u32) -> Kind {
     match op {
-        1..=4 => Kind::Lists,
+        1..=4 | 41 => Kind::Lists,
         5 => Kind::Dump,
         6..=8 => Kind::File,
-        10..=12 => Kind::Start,
+        10..=12 | 62 => Kind::Start,
         13..=24 => Kind::Call,
         26..=27 => Kind::Block,
         30..=32 => Kind::Begin,
-        33..=40 => Kind::Query,
+        33..=40 | 42 => Kind::Query,
         43..=44 => Kind::Items,
         60..=61 => Kind::Slots,
+        63..=64 => Kind::Batch,
         _ => {
             print::bad();
             Kind::Unknown

@@ -1,5 +1,6 @@
 // The prover's calls, each made as data.
 use super::answers;
+use super::batches;
 use super::blocks;
 use super::dump;
 use super::ops::Kind;
@@ -18,8 +19,9 @@ use records::Record;
 use records::lists::Lists;
 use records::lists::numbers;
 use records::proof::Proof;
+use records::slots::Slots;
 
-// Ops 5 to 8, 10 to 24, 26 and 27.
+// Ops 5 to 8, 10 to 24, 26, 27 and 62.
 pub(crate) fn call(
     p: Prover,
     h: Held,
@@ -31,7 +33,7 @@ pub(crate) fn call(
     match kind {
         Kind::Dump => return dump::call(p, r.a, f, g),
         Kind::File => return filed(p, r),
-        Kind::Start => return start(p, h.lists, r),
+        Kind::Start => return start(p, h.lists, h.slots, r),
         Kind::Call => return called(p, h.lists, r, f, g),
         Kind::Block => return blocks::to_run(p, h.lists, h.slots, r, f, g),
         _ => {}
@@ -44,17 +46,19 @@ fn filed(mut p: Prover, r: Record) -> Prover {
     p
 }
 
-fn start(p: Prover, l: Lists, r: Record) -> Prover {
+fn start(p: Prover, l: Lists, s: Slots, r: Record) -> Prover {
     let scratch = l.scratch;
-    started(p, start_of(r, numbers(l.held, &scratch)))
+    started(p, start_of(r, s, numbers(l.held, &scratch)))
 }
 
-fn start_of(r: Record, twists: &[u32]) -> Step {
+// With the scratch list: twists, or a batch's challenges.
+fn start_of(r: Record, s: Slots, values: &[u32]) -> Step {
     let op = r.op;
     match op {
         10 => Run::start_plain(r.a),
-        11 => Run::start_twisted(r.a, twists),
-        _ => Run::start_rule(r.a, r.b),
+        11 => Run::start_twisted(r.a, values),
+        12 => Run::start_rule(r.a, r.b),
+        _ => batches::start(s, r, values),
     }
 }
 

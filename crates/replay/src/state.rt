@@ -1,4 +1,5 @@
 // What the tool holds beside the buffers: the lists and the slots; at most one run with its pass, and the proof file; at most one verifier.
+use super::batches;
 use super::ops::Kind;
 use super::print;
 use pass::Pass;
@@ -59,7 +60,7 @@ pub(crate) fn no_judge() -> Judge {
     }
 }
 
-// Ops 1 to 4, 60 and 61.
+// Ops 1 to 4, 41, 60, 61, 63 and 64.
 pub(crate) fn call(
     h: Held,
     kind: Kind,
@@ -70,6 +71,7 @@ pub(crate) fn call(
     match kind {
         Kind::Lists => return keep(h, r, f, g),
         Kind::Slots => return fill(h, r),
+        Kind::Batch => batches::tell(h.slots, r),
         _ => {}
     }
     h

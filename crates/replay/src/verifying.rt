@@ -21,7 +21,7 @@ use verifier::Answer;
 use verifier::Step;
 use verifier::Verifier;
 
-// Ops 30 to 40, 43 and 44.
+// Ops 30 to 40, and 42 to 44.
 pub(crate) fn call(j: Judge, h: Held, p: Proof, kind: Kind, r: Record) -> Judge {
     match kind {
         Kind::Begin => return start(j, h.lists, r),
@@ -86,15 +86,32 @@ fn called(j: Judge, l: Lists, p: Proof, r: Record) -> Judge {
         return j;
     };
     if j.on {
-        return asked(j, query, l, p);
+        return asked(j, query, r.op, l, p);
     }
     print::line(b"no verifier");
     j
 }
 
 // With the scratch list and the proof file.
-fn asked(j: Judge, query: Query, l: Lists, p: Proof) -> Judge {
+fn asked(j: Judge, query: Query, op: u32, l: Lists, p: Proof) -> Judge {
     let scratch = l.scratch;
     let bytes = p.bytes;
-    said(ask_within(j.verifier, query, p.size, &bytes, numbers(l.held, &scratch)))
+    let all = numbers(l.held, &scratch);
+    let n = opening_values(op, l);
+    said(ask_within(
+        j.verifier,
+        query,
+        p.size,
+        &bytes,
+        first(n, all),
+        rest(n, all),
+    ))
+}
+
+// The scratch list of a batch is split by op 41; all of it is values elsewhere.
+fn opening_values(op: u32, l: Lists) -> usize {
+    if op == 42 {
+        return l.opened;
+    }
+    l.held
 }

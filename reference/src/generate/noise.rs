@@ -76,7 +76,7 @@ fn proof_room(script: &mut Script) -> u64 {
 }
 
 pub fn verifier_call(script: &mut Script) {
-    let op = script.random.pick(&[33, 34, 35, 36, 37, 38, 39, 40, 43, 44]);
+    let op = script.random.pick(&[33, 34, 35, 36, 37, 38, 39, 40, 42, 43, 44]);
     let any = [script.random.any(), script.random.any(), script.random.any()];
     let [a, b, c] = match op {
         33 => {
@@ -90,6 +90,12 @@ pub fn verifier_call(script: &mut Script) {
         40 => {
             opening_list(script);
             any
+        }
+        42 => {
+            opening_list(script);
+            let opened = script.random.below(20);
+            script.call(41, opened, 0);
+            [script.random.below(10), any[1], any[2]]
         }
         43 => [slot(script), any[1], any[2]],
         44 => {
@@ -164,14 +170,14 @@ pub fn refused_start(script: &mut Script) {
 }
 
 /// What `replay` alone does, and what `replay_files` alone does.
-pub const RUN_OPS: [u32; 35] = [
+pub const RUN_OPS: [u32; 40] = [
     6, 7, 8, 10, 11, 12, 13, 14, 15, 16, 17, 18, 19, 20, 21, 22, 23, 24, 26, 27, 30, 31, 32, 33,
-    34, 35, 36, 37, 38, 39, 40, 43, 44, 60, 61,
+    34, 35, 36, 37, 38, 39, 40, 41, 42, 43, 44, 60, 61, 62, 63, 64,
 ];
 const FILE_OPS: [u32; 10] = [50, 51, 52, 53, 54, 55, 56, 57, 58, 59];
 
 /// What neither does.
-const UNKNOWN: [u32; 16] = [0, 9, 25, 28, 29, 41, 42, 45, 46, 49, 62, 63, 64, 70, 81, u32::MAX];
+const UNKNOWN: [u32; 11] = [0, 9, 25, 28, 29, 45, 46, 49, 70, 81, u32::MAX];
 
 /// What the tool itself turns away, and how much it holds.
 pub fn run_limits(script: &mut Script) {
@@ -221,7 +227,7 @@ fn own_call(script: &mut Script) {
     let any = random.any();
     let unknown = random.pick(&[&FILE_OPS[..], &UNKNOWN].concat());
     let slot = random.below(9);
-    match random.below(11) {
+    match random.below(14) {
         0 => script.call(1, any, any),
         1 => script.call(2, any, any),
         2 => script.call(3, edge, 0),
@@ -232,6 +238,9 @@ fn own_call(script: &mut Script) {
         7 => script.call(8, any, any),
         8 => script.call(60, slot, byte % 256),
         9 => script.call(61, slot, byte),
+        10 => script.call(41, place, 0),
+        11 => script.call3(63, slot, any, place),
+        12 => script.call(64, slot, any),
         _ => script.call3(unknown, any, any, any),
     };
 }

@@ -16,6 +16,11 @@ pub type Openings = Vec<(u64, Vec<u64>)>;
 
 pub fn drive(script: &mut Script, plan: &mut Plan) -> Openings {
     start(script, plan);
+    go_on(script, plan)
+}
+
+/// From the run that there is.
+pub fn go_on(script: &mut Script, plan: &mut Plan) -> Openings {
     let steps = 2 * (plan.challenges.len() + 8) * (plan.items.len() + 8);
     let mut openings = Openings::new();
     for _ in 0..steps {
@@ -232,6 +237,6 @@ fn reduce_places(script: &mut Script, size: usize) {
     }
 }
 
-fn numbers(answer: &str) -> Vec<u64> {
+pub fn numbers(answer: &str) -> Vec<u64> {
     answer.split(' ').skip(1).map(|word| word.parse().unwrap()).collect()
 }

@@ -46,7 +46,11 @@ returns-8 : tie.Need-returns-8
 returns-8 c = rw (c .match .keys8)
 
 returns-9 : tie.Need-returns-9
-returns-9 c = let none = c .match .rest in rw (
+returns-9 c = rw (c .match .keys9)
+
+returns-10 : tie.Need-returns-10
+returns-10 c = let none = c .match .rest in rw (
+  ne-eqb _ _ (none .0 .0 .0 .0 .0 .0 .0 .0 .1),
   ne-eqb _ _ (none .0 .0 .0 .0 .0 .0 .0 .1),
   ne-eqb _ _ (none .0 .0 .0 .0 .0 .0 .1),
   ne-eqb _ _ (none .0 .0 .0 .0 .0 .1),
@@ -72,4 +76,5 @@ query-of-spec =
     returns-6
     returns-7
     returns-8
-    returns-9)
+    returns-9
+    returns-10)

@@ -3,7 +3,7 @@ use mir.Val.{toZ, ofZ}
 use mir.Syntax.{w64}
 use mathlib.Core.Path.{_≡_}
 use Rattle.item.specs.Start.{modulusOf}
-use Rattle.dispatch.proofs.QueryArms.{item-arm, close-arm, close-claim-arm, message-arm, verdict-arm, proof-arm, opening-arm}
+use Rattle.dispatch.proofs.QueryArms.{item-arm, close-arm, close-claim-arm, message-arm, verdict-arm, proof-arm, opening-arm, batch-arm}
 use borrow.Author.Needs.{needs}
 use Rattle.dispatch.proofs.query.ask.Statement.{statement}
 use Rattle.dispatch.proofs.query.ask.Tie as tie
@@ -71,43 +71,57 @@ check-opening-requires c κs = search needs
 opened-requires : tie.Need-opened-requires
 opened-requires c κs = search needs
 
+enum-known-query-6 : tie.Need-enum-known-query-6
+enum-known-query-6 c = search needs
+
+check-batch-requires : tie.Need-check-batch-requires
+check-batch-requires c κs = search needs
+
+judged-requires-3 : tie.Need-judged-requires-3
+judged-requires-3 c κs = search needs
+
 returns : tie.Need-returns
 returns c =
-    let s = c .before .before .before .before .before .before .before .args in
-    item-arm (modulusOf (s .verifier .start)) (s .verifier) (record { file = s .file .now; values = s .values .now }) _ (c .before .before .before .query .given .1) (c .before .give .ensures) (c .stepped .ensures)
+    let s = c .before .before .before .before .before .before .before .before .args in
+    item-arm (modulusOf (s .verifier .start)) (s .verifier) (record { file = s .file .now; values = s .values .now; logs = s .logs .now }) _ (c .before .before .before .query .given .1) (c .before .give .ensures) (c .stepped .ensures)
 
 returns-2 : tie.Need-returns-2
 returns-2 c =
-    let s = c .before .before .before .before .before .before .before .args in
+    let s = c .before .before .before .before .before .before .before .before .args in
     let z : ℤ = c .before .before .before .query2 .given .0 .0 in
     let t : toZ w64 (ofZ w64 z) ≡ z = search needs in
-    close-arm (modulusOf (s .verifier .start)) (s .verifier) (record { file = s .file .now; values = s .values .now }) z (c .before .before .before .query2 .given .1)
+    close-arm (modulusOf (s .verifier .start)) (s .verifier) (record { file = s .file .now; values = s .values .now; logs = s .logs .now }) z (c .before .before .before .query2 .given .1)
     (simp t at (c .before .close .ensures)) (c .stepped2 .ensures)
 
 returns-3 : tie.Need-returns-3
 returns-3 c =
-    let s = c .before .before .before .before .before .before .before .args in
-    close-claim-arm (modulusOf (s .verifier .start)) (s .verifier) (record { file = s .file .now; values = s .values .now }) _ (c .before .before .before .query3 .given .1) (c .before .close-claim .ensures) (c .stepped3 .ensures)
+    let s = c .before .before .before .before .before .before .before .before .args in
+    close-claim-arm (modulusOf (s .verifier .start)) (s .verifier) (record { file = s .file .now; values = s .values .now; logs = s .logs .now }) _ (c .before .before .before .query3 .given .1) (c .before .close-claim .ensures) (c .stepped3 .ensures)
 
 returns-4 : tie.Need-returns-4
 returns-4 c =
-    let s = c .before .before .before .before .before .before .before .args in
-    message-arm (modulusOf (s .verifier .start)) (s .verifier) (record { file = s .file .now; values = s .values .now }) _ _ _ (c .before .before .before .query4 .given .1) (c .before .message .ensures) (c .stepped4 .ensures)
+    let s = c .before .before .before .before .before .before .before .before .args in
+    message-arm (modulusOf (s .verifier .start)) (s .verifier) (record { file = s .file .now; values = s .values .now; logs = s .logs .now }) _ _ _ (c .before .before .before .query4 .given .1) (c .before .message .ensures) (c .stepped4 .ensures)
 
 returns-5 : tie.Need-returns-5
 returns-5 c =
-    let s = c .before .before .before .before .before .before .args in
-    verdict-arm (modulusOf (s .verifier .start)) (s .verifier) (record { file = s .file .now; values = s .values .now }) (c .before .before .enum-told .given .1) (c .before .verdict .ensures) (c .judged .ensures)
+    let s = c .before .before .before .before .before .before .before .args in
+    verdict-arm (modulusOf (s .verifier .start)) (s .verifier) (record { file = s .file .now; values = s .values .now; logs = s .logs .now }) (c .before .before .enum-told .given .1) (c .before .verdict .ensures) (c .judged .ensures)
 
 returns-6 : tie.Need-returns-6
 returns-6 c =
-    let s = c .before .before .before .before .before .before .args in
-    proof-arm (modulusOf (s .verifier .start)) (s .verifier) (record { file = s .file .now; values = s .values .now }) (c .before .before .enum-told2 .given .1) (c .before .proof .ensures) (c .judged2 .ensures)
+    let s = c .before .before .before .before .before .before .before .args in
+    proof-arm (modulusOf (s .verifier .start)) (s .verifier) (record { file = s .file .now; values = s .values .now; logs = s .logs .now }) (c .before .before .enum-told2 .given .1) (c .before .proof .ensures) (c .judged2 .ensures)
 
 returns-7 : tie.Need-returns-7
 returns-7 c =
-    let s = c .before .before .before .before .before .before .before .args in
-    opening-arm (modulusOf (s .verifier .start)) (s .verifier) (record { file = s .file .now; values = s .values .now }) _ (c .before .before .before .query5 .given .1) (c .before .check-opening .ensures) (c .opened .ensures)
+    let s = c .before .before .before .before .before .before .before .before .args in
+    opening-arm (modulusOf (s .verifier .start)) (s .verifier) (record { file = s .file .now; values = s .values .now; logs = s .logs .now }) _ (c .before .before .before .query5 .given .1) (c .before .check-opening .ensures) (c .opened .ensures)
+
+returns-8 : tie.Need-returns-8
+returns-8 c =
+    let s = c .before .before .before .before .before .before .before .before .args in
+    batch-arm (modulusOf (s .verifier .start)) (s .verifier) (record { file = s .file .now; values = s .values .now; logs = s .logs .now }) _ _ _ (c .before .before .before .query6 .given .1) (c .before .check-batch .ensures) (c .judged3 .ensures)
 
 pub ask-spec : {M : Type 1} → statement M
 ask-spec =
@@ -134,10 +148,14 @@ ask-spec =
     enum-known-query-5
     check-opening-requires
     opened-requires
+    enum-known-query-6
+    check-batch-requires
+    judged-requires-3
     returns
     returns-2
     returns-3
     returns-4
     returns-5
     returns-6
-    returns-7)
+    returns-7
+    returns-8)

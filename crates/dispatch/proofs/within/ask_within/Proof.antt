@@ -13,9 +13,9 @@ ask-requires c κs = search needs
 
 returns : tie.Need-returns
 returns c =
-    let s = c .before .before .before .before .args in
+    let s = c .before .before .before .before .before .args in
     c .ask .ensures
-    ∙ ap (λ x. ask (modulusOf (s .verifier .start)) (s .verifier) (s .query) (record { file = x; values = s .values .now })) (c .before .first-bytes .ensures)
+    ∙ ap (λ x. ask (modulusOf (s .verifier .start)) (s .verifier) (s .query) (record { file = x; values = s .values .now; logs = s .logs .now })) (c .before .first-bytes .ensures)
 
 pub ask-within-spec : {M : Type 1} → statement M
 ask-within-spec = tie.close (tie.spec first-bytes-requires ask-requires returns)

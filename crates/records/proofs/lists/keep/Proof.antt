@@ -19,6 +19,9 @@ place-requires c κs = search needs
 says-requires-2 : tie.Need-says-requires-2
 says-requires-2 c κs = search needs
 
+split-requires : tie.Need-split-requires
+split-requires c κs = search needs
+
 says-requires-3 : tie.Need-says-requires-3
 says-requires-3 c κs = search needs
 
@@ -37,10 +40,13 @@ returns-4 c =
     rw (c .before .before .before .before .match .keys4) (rw (← e .0) (c .says2 .ensures), e .1, e .2)
 
 returns-5 : tie.Need-returns-5
-returns-5 c =
+returns-5 c = rw (c .before .match .keys5) (c .split .ensures, refl, refl)
+
+returns-6 : tie.Need-returns-6
+returns-6 c =
     let none = c .before .match .rest in
-    let no4 = ne-eqb _ _ (none .1) in
-    (rw (ne-eqb _ _ (none .0 .0 .0 .1), ne-eqb _ _ (none .0 .0 .1), ne-eqb _ _ (none .0 .1), no4) (c .says3 .ensures), rw no4, rw no4)
+    let no4 = ne-eqb _ _ (none .0 .1) in
+    (rw (ne-eqb _ _ (none .0 .0 .0 .0 .1), ne-eqb _ _ (none .0 .0 .0 .1), ne-eqb _ _ (none .0 .0 .1), no4, ne-eqb _ _ (none .1)) (c .says3 .ensures), rw no4, rw no4)
 
 pub keep-spec : {M : Type 1} → statement M
 keep-spec =
@@ -51,9 +57,11 @@ keep-spec =
     lend-requires
     place-requires
     says-requires-2
+    split-requires
     says-requires-3
     returns
     returns-2
     returns-3
     returns-4
-    returns-5)
+    returns-5
+    returns-6)
