@@ -2,7 +2,7 @@
 -- point from 1 to p - 1.
 use mathlib.Core.Path.{_≡_, refl, sym, ap, subst, _∙_}
 use mathlib.Core.Bool.{Bool, true, false, cond, true≢false, _&&_}
-use mathlib.Core.List.{List, [], _∷_}
+use mathlib.Core.List.{List, [], _∷_, _++_}
 use mathlib.Core.Option.{none}
 use Prim.Native.Nat.{ℕ, _<_}
 use lib.Dec.{ltb}
@@ -18,7 +18,8 @@ use Rattle.phase.specs.Cases.{isChange, isFull, waits}
 use Rattle.item.specs.declared.Start.{Start}
 use Rattle.calls.specs.declared.Call.{Call}
 use Rattle.calls.specs.declared.Call.the-variants as call
-use Rattle.calls.specs.Lists.{along, always}
+use Rattle.calls.specs.Lists.{after, along, always}
+use Rattle.calls.specs.Statement.{Sized}
 use Rattle.calls.specs.Step.{Lent, Result, isAnswered}
 use Rattle.calls.specs.State.{State, Turn, closed, goesOn, follow}
 use Rattle.calls.specs.Table.{table}
@@ -35,6 +36,7 @@ use Rattle.calls.proofs.Refusals.{Faithful, faithful-on, decide-step}
 use Rattle.calls.proofs.Begins.{opens-faithful, begun-faithful}
 use Rattle.calls.proofs.Alike.{answered-none}
 use Rattle.calls.proofs.LiveWorld.{buffers-same}
+use Rattle.calls.proofs.Longer.{along-first, always-so, always-last}
 use Rattle.calls.proofs.Pointed.{gave-pointed}
 
 -- what is next, and the challenges
@@ -81,24 +83,38 @@ module _ (p : ℕ) (cs : List ℕ) where
       by true e = goes-late a c l (o .lent) (free e) h
       by false e = h
 
-  late-takes : (large : maxWeight < p) (w : World) {past : Notes} → Faithful p large w past → Late cs (w .state .turn) → (ms : List Made) → AllSized p w ms → AllTake p cs w ms
+  late-always : (large : maxWeight < p) (w : World) {past : Notes} → Faithful p large w past → Late cs (w .state .turn) → (ms : List Made) → AllSized p w ms
+      → always (onward p) (λ w. Late cs (w .state .turn)) w ms
   unfolding along always
-  late-takes large w i h [] z = λ j less. ap (λ ds. at ds j) (h .challenges)
-  late-takes large w i h (m ∷ ms) z =
+  late-always large w i h [] z = h
+  late-always large w i h (m ∷ ms) z =
       let a : State = w .state in
       let o : Result = came p w m in
       let free : isAnswered (o .answer) ≡ true → table p a (m .call) (m .lent) ≡ none =
       λ y. answered-none (w .run) (w .pass) (m .lent) (table p a (m .call) (m .lent)) o (decide-step p large a (w .run) (w .pass) i (m .call) (z .0) (m .lent)) y in (
-        (λ j less. ap (λ ds. at ds j) (h .challenges)),
-        late-takes large (onward p w m) (faithful-on p large w i m (z .0)) (follow-late a (m .call) (m .lent) o free h) ms (z .1),
+        h,
+        late-always large (onward p w m) (faithful-on p large w i m (z .0)) (follow-late a (m .call) (m .lent) o free h) ms (z .1),
       )
 
 module _ (p : ℕ) (large : maxWeight < p) where
+  late-batch : (s : Start) (cs : List ℕ) → Opens s cs → (f g : List ℕ) (ms : List Made) → AllSized p (openingsWorld s cs f g) ms
+      → always (onward p) (λ w. Late cs (w .state .turn)) (openingsWorld s cs f g) ms
+  late-batch s cs o f g ms z =
+      late-always p cs large (openingsWorld s cs f g) (opens-faithful p large s cs o f g) (record { openings = refl; challenges = refl }) ms z
+
   -- a batch's list takes the challenges that it began with
   pub batch-takes : (s : Start) (cs : List ℕ) → Opens s cs → (f g : List ℕ) (ms : List Made) → AllSized p (openingsWorld s cs f g) ms
       → AllTake p cs (openingsWorld s cs f g) ms
   batch-takes s cs o f g ms z =
-      late-takes p cs large (openingsWorld s cs f g) (opens-faithful p large s cs o f g) (record { openings = refl; challenges = refl }) ms z
+      always-so (onward p) (λ w. Late cs (w .state .turn)) _ (λ w h j less. ap (λ ds. at ds j) (h .challenges)) (openingsWorld s cs f g) ms
+      (late-batch s cs o f g ms z)
+
+  -- and has them before its last call
+  pub batch-challenges : (s : Start) (cs : List ℕ) → Opens s cs → (f g : List ℕ) (ms : List Made) (m : Made)
+      → AllSized p (openingsWorld s cs f g) (ms ++ m ∷ []) → after (onward p) (openingsWorld s cs f g) ms .state .turn .challenges ≡ cs
+  batch-challenges s cs o f g ms m z =
+      always-last (onward p) (λ w. Late cs (w .state .turn)) (openingsWorld s cs f g) ms
+      (late-batch s cs o f g ms (along-first (onward p) (λ w m. Sized (m .call)) (openingsWorld s cs f g) ms m z)) .challenges
 
   pub begun-pointed : (s : Start) (b : Begin) → CanBegin s b → (f g : List ℕ) (ms : List Made) → AllSized p (begun s b f g) ms → (x : ℕ) (y : Answer)
       → Gave p (begun s b f g) ms (openingAt x) y → (isNonzero p x && ltb 0 (s .rounds)) ≡ true

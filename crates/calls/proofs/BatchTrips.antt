@@ -33,7 +33,7 @@ module _ (p z m : ℕ) (logs : List (List ℕ)) (some : 1 ≤ mostItems logs m) 
   few : roundsOf items ≤ 15
   few = rounds-at-most items most
 
-  item-at : (i : ℕ) → i < items → tripItem T i ≡ Numbers (combined p z m logs i) 0
+  pub item-at : (i : ℕ) → i < items → tripItem T i ≡ Numbers (combined p z m logs i) 0
   item-at i less = pairs-at (combined p z m logs) (λ i. 0) 0 items i less ∙ ap (λ k. Numbers (combined p z m logs k) 0) (zero-add i)
 
   combined-reduced : (i : ℕ) → residue p (combined p z m logs i) ≡ combined p z m logs i

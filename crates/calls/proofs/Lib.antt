@@ -72,5 +72,6 @@ pub mod InstanceSingle
 pub mod RuleTrips
 pub mod BatchTrips
 pub mod BatchOpenings
+pub mod Batches
 pub mod ExampleKept
 pub mod Examples

@@ -10,6 +10,12 @@ module _ {W M : Type 0} (next : W → M → W) (P : W → M → Type 0) where
   last-along w [] m h = h .0
   last-along w (x ∷ ms) m h = last-along (next w x) ms m (h .1)
 
+  -- and along the list before it
+  pub along-first : (w : W) (ms : List M) (m : M) → along next P w (ms ++ m ∷ []) → along next P w ms
+  unfolding along
+  along-first w [] m h = tt
+  along-first w (x ∷ ms) m h = (h .0, along-first (next w x) ms m (h .1))
+
   pub along-more : (w : W) (ms : List M) (m : M) → along next P w ms → P (after next w ms) m → along next P w (ms ++ m ∷ [])
   unfolding along after
   along-more w [] m h e = (e, tt)
@@ -37,3 +43,10 @@ module _ {W M : Type 0} (next : W → M → W) (P : W → Type 0) where
   unfolding always after
   always-more w [] m h e = (h, e)
   always-more w (x ∷ ms) m h e = (h .0, always-more (next w x) ms m (h .1) e)
+
+-- what follows from it holds throughout, too
+pub always-so : {W M : Type 0} (next : W → M → W) (P Q : W → Type 0) → ((w : W) → P w → Q w) → (w : W) (ms : List M) → always next P w ms
+    → always next Q w ms
+unfolding always
+always-so next P Q f w [] h = f w h
+always-so next P Q f w (x ∷ ms) h = (f w (h .0), always-so next P Q f (next w x) ms (h .1))

@@ -12,17 +12,18 @@ use Rattle.wire.specs.Number.{num, bytes, numAt, signed, bits}
 use Rattle.wire.specs.Header.{marked}
 use Rattle.wire.specs.Proof.{allBelow, readProof, readProofOf, numbers, proofHeader, proofFile}
 use Rattle.vector.specs.Rounds.{powers, firstFrom}
-use Rattle.vector.specs.Vector.{weight}
+use Rattle.vector.specs.Vector.{sum, weight}
 use Rattle.vector.specs.Opening.{opens}
 use Rattle.vector.specs.Slice.{overwrite, fifteen, every}
 use Rattle.verifier.specs.WellFormed.{turnOf, wellFormed}
 use Rattle.verifier.specs.Starts.{freshVerifier}
 use Rattle.verifier.specs.Reply as reply
-use Rattle.verifier.specs.Records.{yes, holds}
+use Rattle.verifier.specs.Records.{yes, no, holds}
 use Rattle.verifier.specs.Sums.{entering, oneMore}
 use Rattle.verifier.specs.Claims.{closedWith, passedWith, failedNow, hears, finds}
+use Rattle.verifier.specs.Batch.{batchFinds}
 use Rattle.verifier.specs.Openings.{firstFault, openingFinds}
-use Rattle.verifier.specs.Calls.{passOpen, give, close, messageTurn, allReduced3, message, verdictTurn, verdict, hasRounds, checkOpening}
+use Rattle.verifier.specs.Calls.{passOpen, give, close, messageTurn, allReduced3, message, verdictTurn, verdict, hasRounds, checkOpening, checkBatch}
 use Rattle.verifier.specs.ProofFile.{hearsNext, hearsFirst, endsAgree, compares, afterFile, proof}
 use Rattle.item.specs.declared.Start.{Start}
 use Rattle.item.specs.declared.Given.the-variants.{Reading}
@@ -109,3 +110,38 @@ pub trip-file-told :
     ∷ []
 unfolding each ask give passOpen wellFormed turnOf partsOf oneMore entering freshVerifier fifteen overwrite powers firstFrom weight image residue addMod negMod mulMod closedWith inLimits hears passedWith failedNow verdict verdictTurn finds proof readProofOf readProof marked allBelow numAt num bytes signed bits proofHeader numbers hearsNext hearsFirst endsAgree compares afterFile
 trip-file-told = refl
+
+-- document 02, (a): two logs, z = 3 and the point 2; the combined vector is -165, -154, 40, 0, and the logs' values are -370 and 19
+abbrev batch : ℕ → List ℕ → List ℕ → Posed
+batch m values logs = record { query = query.CheckBatch m 3 2; shown = record { file = []; values = values; logs = logs } }
+
+abbrev opened : ℕ → ℕ → List ℕ
+opened first fourth = first ∷ 303 ∷ 2147483334 ∷ fourth ∷ 2147483094 ∷ 2147483294 ∷ []
+
+-- yes; no at 0 for another log value, or another value at the point; no at j 1 where the sum holds, and at j 2; then the refusals
+pub batch-told :
+    toldAll (freshHearing start (2 ∷ 3 ∷ []))
+    (batch 2 (opened 2147483334 2147483254) (2147483277 ∷ 19 ∷ [])
+    ∷ batch 2 (opened 2147483334 2147483254) (2147483277 ∷ 20 ∷ [])
+    ∷ batch 2 (opened 2147483335 2147483254) (2147483277 ∷ 19 ∷ [])
+    ∷ batch 2 (opened 2147483335 2147483254) (2147483278 ∷ 19 ∷ [])
+    ∷ batch 2 (opened 2147483334 2147483255) (2147483277 ∷ 19 ∷ [])
+    ∷ batch 0 [] []
+    ∷ batch 9 [] []
+    ∷ batch 2 [] (2147483277 ∷ 19 ∷ [])
+    ∷ batch 2 (opened 2147483334 2147483254) (2147483277 ∷ [])
+    ∷ batch 2 (opened 2147483334 2147483254) (2147483277 ∷ P ∷ [])
+    ∷ [])
+    ≡ answered (said.finds yes)
+    ∷ answered (said.finds (no 0))
+    ∷ answered (said.finds (no 0))
+    ∷ answered (said.finds (no 1))
+    ∷ answered (said.finds (no 2))
+    ∷ refused 17
+    ∷ refused 17
+    ∷ refused 6
+    ∷ refused 6
+    ∷ refused 11
+    ∷ []
+unfolding each ask wellFormed turnOf freshVerifier fifteen overwrite powers firstFrom residue addMod negMod mulMod hasRounds every checkBatch batchFinds firstFault opens divMod inverseMod inverseIn halfMod halfOne subMod sum
+batch-told = refl

@@ -1,10 +1,11 @@
--- THE STARTS: each is refused exactly by 3 and 6, in this order, and otherwise gives its fresh run, which is well formed.
+-- THE STARTS: each is refused exactly by 3 and 6, in this order, with 10 between for a batch, and otherwise gives its run, which is well
+-- formed.
 use mathlib.Core.Path.{_≡_, refl, sym, ap, subst, _∙_}
 use mathlib.Core.Bool.{true}
 use mathlib.Core.List.{List}
 use Prim.Native.Nat.{ℕ, _^_, _≤_, _<_}
 use native.Mathlib.Omega.{arith}
-use lib.Dec.{eqb, leb}
+use lib.Dec.{eqb, leb, ltb}
 use lib.ListN.{length}
 use lib.Pow.{pow-pos, pow-mono}
 use borrow.Author.Tests.{le-leb, le-ltb, eq-eqb, eqb-true}
@@ -24,9 +25,9 @@ use Rattle.pass.specs.Formed.{passFormed, turnFormed}
 use Rattle.prover.specs.WellFormed.{wellFormed}
 use Rattle.item.specs.declared.Start.{Start}
 use Rattle.item.specs.Start.{countFits, listFits, plainStart, twistedStart, ruleStart}
-use Rattle.prover.specs.Start.{freshRun, zeroPass, started, startPlain, startTwisted, startRule}
-use Rattle.prover.proofs.Decides.{Decides, decide-both, not-so, at-most, Nonzero, nonzero}
-use Rattle.prover.proofs.StartFacts.{plainRun, twistedRun, ruleRun, plain-answered, twisted-answered, rule-answered}
+use Rattle.prover.specs.Start.{freshRun, zeroPass, started, startPlain, startTwisted, startRule, startOpenings}
+use Rattle.prover.proofs.Decides.{Decides, decide-both, not-so, at-most, below, Nonzero, nonzero}
+use Rattle.prover.proofs.StartFacts.{plainRun, twistedRun, ruleRun, batchRun, plain-answered, twisted-answered, rule-answered}
 
 -- L from 1 to 32,768
 abbrev pub InCount : ℕ → Type 0
@@ -83,6 +84,30 @@ rule-says p rounds v =
     require-says Says (isNonzero p v) _ _ (λ bad. by-argument (d .so good) (not-so e bad)) λ fit.
     (d .so good, e .so fit, refl)
 
+-- a batch's run: n is not 0, after 3 and before 6
+pub data OpeningsRefused (Count Some Argument : Type 0) : ℕ → Type 0 where
+  no-count : (Count → ⊥) → OpeningsRefused Count Some Argument number.count
+  no-rounds : Count → (Some → ⊥) → OpeningsRefused Count Some Argument number.order
+  no-list : Count → Some → (Argument → ⊥) → OpeningsRefused Count Some Argument number.argument
+
+abbrev pub OpeningsSays : ℕ → ℕ → List ℕ → Outcome Out → Type 0
+OpeningsSays p items cs (answered o) =
+    InCount items × (0 < roundsOf items) × Twists p (roundsOf items) cs × (o ≡ started (batchRun p items cs))
+OpeningsSays p items cs (refused k) = OpeningsRefused (InCount items) (0 < roundsOf items) (Twists p (roundsOf items) cs) k
+OpeningsSays p items cs (refusedAt k i) = ⊥
+
+pub openings-says : (p items : ℕ) (cs : List ℕ) → OpeningsSays p items cs (startOpenings p items cs)
+unfolding startOpenings
+openings-says p items cs =
+    let d = count-fits items in
+    let s = below 0 (roundsOf items) in
+    let e = twists-fit p (roundsOf items) cs in
+    let Says = OpeningsSays p items cs in
+    require-says Says (countFits items) _ _ (λ bad. no-count (not-so d bad)) λ good.
+    require-says Says (ltb 0 (roundsOf items)) _ _ (λ bad. no-rounds (d .so good) (not-so s bad)) λ some.
+    require-says Says (listFits p (roundsOf items) cs) _ _ (λ bad. no-list (d .so good) (s .so some) (not-so e bad)) λ fit.
+    (d .so good, s .so some, e .so fit, refl)
+
 -- a proper start is answered
 pub plain-starts : (items : ℕ) → InCount items → startPlain items ≡ answered (started (plainRun items))
 plain-starts items h = plain-answered items (count-fits items .back h)
@@ -105,6 +130,18 @@ fresh-formed p start h e =
       eq-eqb (start .rounds) (roundsOf (start .items)) e,
       le-leb 0 (limit p) (omega arith),
       le-ltb (start .items) 0 (omega arith),
+    )
+
+-- and so is a run that begins at its openings
+pub opens-formed : (p items : ℕ) (cs : List ℕ) → InCount items → wellFormed p (batchRun p items cs) zeroPass ≡ true
+unfolding wellFormed turnFormed passFormed inLimits
+opens-formed p items cs h =
+    simp (
+      le-ltb items 1 (h .0),
+      le-ltb maxItems items (h .1),
+      eq-eqb (roundsOf items) (roundsOf items) refl,
+      le-leb 0 (limit p) (omega arith),
+      le-ltb items 0 (omega arith),
     )
 
 -- what a start says of an answer, of the one that it gives
@@ -134,3 +171,8 @@ rule-formed p rounds v o e =
     let most : 2 ^ rounds ≤ 2 ^ 15 = pow-mono (h .0) in
     as-started p o (ruleRun p rounds v) (h .1)
     (fresh-formed p (ruleStart p rounds v) (pow-pos rounds, most) (sym (rounds-power rounds (h .0))))
+
+pub openings-formed : (p items : ℕ) (cs : List ℕ) (o : Out) → startOpenings p items cs ≡ answered o → wellFormed p (o .run) (o .pass) ≡ true
+openings-formed p items cs o e =
+    let h = subst (OpeningsSays p items cs) e (openings-says p items cs) in
+    as-started p o (batchRun p items cs) (h .3) (opens-formed p items cs (h .0))

@@ -10,7 +10,7 @@ use Rattle.vector.specs.Rounds.{powers, firstFrom}
 use Rattle.vector.specs.Slice.{overwrite, every, fifteen}
 use Rattle.algebra.specs.Mod.{residue, mulMod, powMod}
 use Rattle.item.specs.declared.Start.{Start}
-use Rattle.prover.specs.Start.{freshRun, started, startPlain, startTwisted, startRule}
+use Rattle.prover.specs.Start.{freshRun, openingsRun, started, startPlain, startTwisted, startRule, startOpenings}
 
 abbrev start : ℕ → ℕ → Bool → List ℕ → Start
 start items rounds plain twists = record { items = items; rounds = rounds; plain = plain; twists = twists }
@@ -50,3 +50,17 @@ two-twists = refl
 rule-twists : startRule 101 3 3 ≡ answered (started (freshRun (start 8 3 false (3 ∷ 9 ∷ 81 ∷ 0 ∷ 0 ∷ 0 ∷ 0 ∷ 0 ∷ 0 ∷ 0 ∷ 0 ∷ 0 ∷ 0 ∷ 0 ∷ 0 ∷ []))))
 unfolding startRule overwrite powMod mulMod residue
 rule-twists = refl
+
+-- a batch of one item has no openings, whatever the challenges
+no-openings : startOpenings 7 1 (7 ∷ []) ≡ refused number.order
+unfolding startOpenings powers firstFrom
+no-openings = refl
+
+batch-challenge : startOpenings 7 3 (5 ∷ 7 ∷ []) ≡ refused number.argument
+unfolding startOpenings powers firstFrom every
+batch-challenge = refl
+
+-- its challenges are known, and its twists are 1
+batch-starts : startOpenings 7 3 (5 ∷ 6 ∷ []) ≡ answered (started (openingsRun (start 3 2 false (replicate 15 1)) (5 ∷ 6 ∷ [])))
+unfolding startOpenings powers firstFrom every
+batch-starts = refl
