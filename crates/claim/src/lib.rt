@@ -1,6 +1,6 @@
-// The equations of a verifier: a message against its claim, and the verdict.
+// The equations of a verifier: a message against its claim, the verdict, and the sum of a batch.
 ghost use mathlib.Core.Path.{_≡_};
-ghost use Rattle.claim.specs.Claim.{messageOf3, nextOf, heardOf, ownEnds, foundOf};
+ghost use Rattle.claim.specs.Claim.{messageOf3, nextOf, heardOf, ownEnds, foundOf, sumHolds};
 
 pub enum Heard {
     // The message passed, and this is the next claim.
@@ -53,4 +53,12 @@ pub fn find(p: u32, rounds: u32, failed: bool, round: u32, claim: u32, f: u32, g
         return Finding::Yes;
     }
     Finding::No(rounds)
+}
+
+// A batch's value at the point is the sum of z^i times log i's value.
+pub fn sum_holds(p: u32, z: u32, value: u32, logs: &[u32]) -> bool
+    ensures { λ r. ⌜ r ≡ sumHolds p z value (now (logs .entry)) ⌝ }
+{
+    let sum = vector::slice::evaluate(p, logs, logs.len(), z);
+    sum == value
 }
