@@ -73,8 +73,8 @@ module _ (p rounds v : ℕ) where
     rule-fits = ap (λ t. cond t (ruleStart p rounds v) noStart) a
 
 module _ (p items : ℕ) (challenges : List ℕ) where
-  abbrev pub batchRun : Run
-  batchRun = openingsRun (untwistedStart items) challenges
+  abbrev pub opensRun : Run
+  opensRun = openingsRun (untwistedStart items) challenges
 
   pub openings-count : countFits items ≡ false → startOpenings p items challenges ≡ refused number.count
   unfolding startOpenings
@@ -91,6 +91,6 @@ module _ (p items : ℕ) (challenges : List ℕ) where
     openings-argument b e = rw (a, b, e)
 
     pub openings-answered : ltb 0 (roundsOf items) ≡ true → listFits p (roundsOf items) challenges ≡ true
-        → startOpenings p items challenges ≡ answered (started batchRun)
+        → startOpenings p items challenges ≡ answered (started opensRun)
     unfolding startOpenings
     openings-answered b e = rw (a, b, e)

@@ -27,7 +27,7 @@ use Rattle.item.specs.declared.Start.{Start}
 use Rattle.item.specs.Start.{countFits, listFits, plainStart, twistedStart, ruleStart}
 use Rattle.prover.specs.Start.{freshRun, zeroPass, started, startPlain, startTwisted, startRule, startOpenings}
 use Rattle.prover.proofs.Decides.{Decides, decide-both, not-so, at-most, below, Nonzero, nonzero}
-use Rattle.prover.proofs.StartFacts.{plainRun, twistedRun, ruleRun, batchRun, plain-answered, twisted-answered, rule-answered}
+use Rattle.prover.proofs.StartFacts.{plainRun, twistedRun, ruleRun, opensRun, plain-answered, twisted-answered, rule-answered}
 
 -- L from 1 to 32,768
 abbrev pub InCount : ℕ → Type 0
@@ -92,7 +92,7 @@ pub data OpeningsRefused (Count Some Argument : Type 0) : ℕ → Type 0 where
 
 abbrev pub OpeningsSays : ℕ → ℕ → List ℕ → Outcome Out → Type 0
 OpeningsSays p items cs (answered o) =
-    InCount items × (0 < roundsOf items) × Twists p (roundsOf items) cs × (o ≡ started (batchRun p items cs))
+    InCount items × (0 < roundsOf items) × Twists p (roundsOf items) cs × (o ≡ started (opensRun p items cs))
 OpeningsSays p items cs (refused k) = OpeningsRefused (InCount items) (0 < roundsOf items) (Twists p (roundsOf items) cs) k
 OpeningsSays p items cs (refusedAt k i) = ⊥
 
@@ -133,7 +133,7 @@ fresh-formed p start h e =
     )
 
 -- and so is a run that begins at its openings
-pub opens-formed : (p items : ℕ) (cs : List ℕ) → InCount items → wellFormed p (batchRun p items cs) zeroPass ≡ true
+pub opens-formed : (p items : ℕ) (cs : List ℕ) → InCount items → wellFormed p (opensRun p items cs) zeroPass ≡ true
 unfolding wellFormed turnFormed passFormed inLimits
 opens-formed p items cs h =
     simp (
@@ -175,4 +175,4 @@ rule-formed p rounds v o e =
 pub openings-formed : (p items : ℕ) (cs : List ℕ) (o : Out) → startOpenings p items cs ≡ answered o → wellFormed p (o .run) (o .pass) ≡ true
 openings-formed p items cs o e =
     let h = subst (OpeningsSays p items cs) e (openings-says p items cs) in
-    as-started p o (batchRun p items cs) (h .3) (opens-formed p items cs (h .0))
+    as-started p o (opensRun p items cs) (h .3) (opens-formed p items cs (h .0))
