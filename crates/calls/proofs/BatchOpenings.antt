@@ -1,5 +1,5 @@
 -- A BATCH'S OPENINGS ARE CHECKED: the table has nothing against the check of what its run opened and of the logs' values, and it is yes.
-use mathlib.Core.Path.{_≡_, refl, sym, ap, ap₂, subst, _∙_}
+use mathlib.Core.Path.{_≡_, refl, sym, ap, subst, _∙_}
 use mathlib.Core.Bool.{Bool, true, _&&_}
 use mathlib.Core.List.{List, _++_}
 use mathlib.Core.Logic.{⊎-elim}
@@ -28,11 +28,11 @@ use Rattle.verifier.specs.Records.{yes}
 use Rattle.verifier.specs.Batch.{batchFinds}
 use Rattle.runs.specs.Trip.{Trip, vectorF, vectorG}
 use Rattle.runs.proofs.CloseLaws.{residue-below}
-use Rattle.batch.specs.Batch.{logAt, combined, mostItems, sameRounds, logValue}
+use Rattle.batch.specs.Batch.{logAt, mostItems, sameRounds}
 use Rattle.batch.proofs.Together.{IsGood, AllGood, most-fits, own-value, own-sum}
 use Rattle.calls.specs.declared.query.Query.the-variants as query
 use Rattle.calls.specs.Lists.{after}
-use Rattle.calls.specs.Table.{Refusal, row}
+use Rattle.calls.specs.Table.{Refusal}
 use Rattle.calls.specs.World.{Made, World}
 use Rattle.calls.specs.QueryStep.{Shown, Spoken, finds, ask}
 use Rattle.calls.specs.QueryState.{VerifierState, verifierTable, Posed, freshHearing, hearsOn}

@@ -10,11 +10,11 @@ use borrow.Author.Tests.{ltb-false}
 use lib.Dec.{ltb}
 use lib.ListN.{length, getD}
 use Rattle.algebra.specs.Prime.{Prime}
-use Rattle.refusal.specs.Limit.{maxItems, maxWeight}
+use Rattle.refusal.specs.Limit.{maxWeight}
 use Rattle.refusal.specs.Number as number
 use Rattle.refusal.specs.Outcome.{answered, require}
 use Rattle.field.specs.Number.{isNonzero}
-use Rattle.vector.specs.Vector.{at, padded}
+use Rattle.vector.specs.Vector.{padded}
 use Rattle.vector.specs.Rounds.{roundsOf}
 use Rattle.vector.specs.Opening.{evaluate, openingOf}
 use Rattle.vector.proofs.Horner.{evaluate-same}
@@ -22,7 +22,7 @@ use Rattle.item.specs.declared.Given.the-variants.{Reading, Numbers}
 use Rattle.item.specs.Item.{contributes, readingNumber}
 use Rattle.wire.specs.Log.{logCount, readingOf, weightOf, readLog}
 use Rattle.wire.proofs.LogSays.{GoodLog, items-found}
-use Rattle.runs.specs.Trip.{Trip, tripItem, vectorF}
+use Rattle.runs.specs.Trip.{Trip, vectorF}
 use Rattle.runs.proofs.CloseLaws.{residue-below}
 use Rattle.r1cs.proofs.RuleTotals.{padded-same}
 use Rattle.batch.specs.Batch.{numberOf, readingsOf, combined, mostItems, logValue}
@@ -33,14 +33,14 @@ use Rattle.calls.specs.Step.{isAnswered}
 use Rattle.calls.specs.World.{Made, World, came, onward}
 use Rattle.calls.specs.Meaning.{question}
 use Rattle.calls.specs.Given.{replyOf}
-use Rattle.calls.specs.Proper.{Valid, ItemFits}
+use Rattle.calls.specs.Proper.{Valid}
 use Rattle.calls.specs.Starts.{Opens, batchRows}
 use Rattle.calls.specs.Begins.{openings, openingsWorld}
 use Rattle.calls.specs.BatchTrip.{batchTrip, itemsFrom, logTrip}
-use Rattle.calls.specs.Demand3.{AllSized, AllKept, Demand3}
+use Rattle.calls.specs.Demand3.{AllSized, AllKept}
 use Rattle.calls.proofs.BatchTrips.{batch-whole, batch-vector-f, item-at}
 use Rattle.calls.proofs.BatchTakes.{batch-challenges}
-use Rattle.calls.proofs.BatchOpenings.{BatchFree, batch-free}
+use Rattle.calls.proofs.BatchOpenings.{batch-free}
 use Rattle.calls.proofs.Demand3.{demand3}
 
 -- A TRIP THAT A RUN TAKES WHOLE: so `properBatch` speaks of every batch whose start is answered

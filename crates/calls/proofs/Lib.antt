@@ -31,6 +31,7 @@ pub mod JoinedLists
 pub mod HeardBlocks
 pub mod QueryKept
 pub mod BatchHeard
+pub mod BatchJudged
 pub mod QueryVerdicts
 pub mod StartKept
 pub mod HeardMeaning

@@ -38,6 +38,7 @@ use Rattle.calls.specs.QueryState.{VerifierState, hearing, goesOnHeard, 
 use Rattle.calls.specs.Table.{decided}
 use Rattle.calls.specs.Starts.{Startable}
 use Rattle.calls.specs.Verdict.{Brought, messageBrought, fileBrought, broughtWith, endF, endG, claimIn, AllPass, EndsOwn, FailsFirst, MessageJudged, Judges}
+use Rattle.calls.proofs.BatchJudged.{batch-judged}
 use Rattle.calls.proofs.QueryStands.{Carries, Stands, spoken, message-turn, verdict-turn}
 use Rattle.calls.proofs.QueryGuards.{proof-decided}
 use Rattle.calls.proofs.QueryTurns.{item-rows, close-rows, claim-rows, file-rows, message-rows, verdict-row}
@@ -240,7 +241,7 @@ module _ (p : ℕ) (s : Start) (cs : List ℕ) (large : maxWeight < p) (fits : S
       }
 
   pub answers-judged : (c : Query) (l : Shown) → verifierTable p a c l ≡ none
-      → Judges p s cs (broughtWith p n b c l) c (answers p v c l .told)
+      → Judges p s cs (broughtWith p n b c l) c l (answers p v c l .told)
       × Bears p s cs (broughtWith p n b c l) (goesOnHeard a c (saysSo p v c l)) (goesTo p v c l)
   unfolding hears
   answers-judged (query.Give x) l e =
@@ -265,4 +266,5 @@ module _ (p : ℕ) (s : Start) (cs : List ℕ) (large : maxWeight < p) (fits : S
       let found = file-found l e in
       (judged p s cs (fileBrought p n b (l .file)) (finds p (w l e)) found, bears-with query.Proof l e (settled (file-turn l e) found))
   answers-judged (query.CheckOpening x) l e = (tt, h)
-  answers-judged (query.CheckBatch m z x) l e = (tt, h)
+  answers-judged (query.CheckBatch m z x) l e =
+      (batch-judged p s cs (few p s cs large fits listed) listed (length (a .items)) v had z x l, h)

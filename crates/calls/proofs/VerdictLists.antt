@@ -36,11 +36,11 @@ module _ (p : ℕ) (s : Start) (cs : List ℕ) (large : maxWeight < p) (fits : S
 
     -- an answered call is one that the table has nothing against; a refused one changes nothing
     next : (t : Option Refusal) → verifierTable p a c l ≡ t → said ≡ settledHeard v t (answers p v c l)
-        → (isAnswered (said .told) ≡ true → Judges p s cs (broughtWith p n b c l) c (said .told))
+        → (isAnswered (said .told) ≡ true → Judges p s cs (broughtWith p n b c l) c l (said .told))
         × Bears p s cs (broughtAs p n b c l (said .told)) (followHeard a c (said .told)) (said .verifier)
     next none e same =
         let right = answers-judged p s cs large fits listed b a v h c l e in (
-          λ told. subst (λ (o : Spoken). Judges p s cs (broughtWith p n b c l) c (o .told)) (sym same) (right .0),
+          λ told. subst (λ (o : Spoken). Judges p s cs (broughtWith p n b c l) c l (o .told)) (sym same) (right .0),
           subst (λ (o : Spoken). Bears p s cs (broughtAs p n b c l (o .told)) (followHeard a c (o .told)) (o .verifier)) (sym same) (right .1),
         )
     next (some (k, none)) e same = (
@@ -52,7 +52,7 @@ module _ (p : ℕ) (s : Start) (cs : List ℕ) (large : maxWeight < p) (fits : S
       subst (λ (o : Spoken). Bears p s cs (broughtAs p n b c l (o .told)) (followHeard a c (o .told)) (o .verifier)) (sym same) h,
     )
 
-    pub goes : (isAnswered (said .told) ≡ true → Judges p s cs (broughtWith p n b c l) c (said .told))
+    pub goes : (isAnswered (said .told) ≡ true → Judges p s cs (broughtWith p n b c l) c l (said .told))
         × Bears p s cs (broughtAs p n b c l (said .told)) (followHeard a c (said .told)) (said .verifier)
     goes = next (verifierTable p a c l) refl (asks p a v (h .stands) c l)
 

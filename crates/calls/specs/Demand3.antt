@@ -79,11 +79,11 @@ module _ (p : ℕ) where
   abbrev pub AllAgreed : Hearing → List Posed → Type 0
   AllAgreed = along (hearsOn p) (λ h q. heard p h q .told ≡ answered (agreed (q .query)))
 
-  -- every answered call answers to the equations of what was brought up to and with it
+  -- every answered call answers to the equations of what was brought up to and with it, and of what it is lent
   abbrev pub AllJudged : Start → List ℕ → Account → List Posed → Type 0
   AllJudged s cs =
       along (accountOn p (s .rounds))
-      (λ w q. isAnswered (heard p (w .now) q .told) ≡ true → Judges p s cs (broughtWith p (s .rounds) (w .brought) (q .query) (q .shown)) (q .query) (heard p (w .now) q .told))
+      (λ w q. isAnswered (heard p (w .now) q .told) ≡ true → Judges p s cs (broughtWith p (s .rounds) (w .brought) (q .query) (q .shown)) (q .query) (q .shown) (heard p (w .now) q .told))
 
 pub record Demand3 (p : ℕ) : Type 0 where
   -- each start is refused exactly by its rows, and otherwise gives the records that the lists below begin with
@@ -153,7 +153,7 @@ pub record Demand3 (p : ℕ) : Type 0 where
       × AllAgreed p h (byFile p T w ms file)
       × AllBringRun p T w longer h (byFile p T w ms file))))
   -- A VERIFIER'S VERDICTS, whatever its list: yes for exactly the messages that meet its equations, else no with the first round that
-  -- failed, or n
+  -- failed, or n; and yes for exactly the batches whose sum and equations hold, else no at 0, or at the first j that fails
   pub verdicts : (s : Start) → Startable s → (cs : List ℕ) → length cs ≡ s .rounds → (qs : List Posed) → AllJudged p s cs (freshAccount s cs) qs
   -- WITH BLOCKS OF ITEMS AMONG THE CALLS: each is refused exactly when its rows say, or stands for its single items, all of them answered; and the
   -- list ends as the one in which each answered block stands as its single items, of which all the above is said

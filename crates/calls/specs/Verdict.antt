@@ -1,7 +1,7 @@
 -- The verdict of any list of a verifier's calls, refused ones among them: yes for exactly the messages that meet its equations.
 use Prim.Native.Nat.{ℕ, zero, suc, _+_, _*_, _<_}
 use mathlib.Core.Path.{_≡_}
-use mathlib.Core.Bool.{cond}
+use mathlib.Core.Bool.{true, cond}
 use mathlib.Core.List.{List, [], _∷_, _++_}
 use mathlib.Core.Logic.{_↔_, _⊎_}
 use mathlib.Core.Option.{Option, none, some}
@@ -13,6 +13,8 @@ use Rattle.wire.specs.Proof.{proofTotal, proofNumber}
 use Rattle.vector.specs.Vector.{at}
 use Rattle.vector.specs.Fold.{endValue}
 use Rattle.vector.specs.Message.{Message, passes}
+use Rattle.vector.specs.Opening.{evaluate, opens}
+use Rattle.verifier.specs.Openings.{tripleAt}
 use Rattle.verifier.specs.Reply as reply
 use Rattle.verifier.specs.Records as finding
 use Rattle.verifier.specs.Claims.{messageOf3}
@@ -143,16 +145,33 @@ module _ (p : ℕ) (s : Start) (cs : List ℕ) (b : Brought) where
     pub no : (k : ℕ) → (t ≡ answered (replies (reply.no k))) ↔ FailsFirst k
     pub either : (t ≡ answered (replies reply.passed)) ⊎ ((k : ℕ) × (t ≡ answered (replies (reply.no k))))
 
--- what is said of an answered call by what was brought up to and with it
-abbrev pub Judges : ℕ → Start → List ℕ → Brought → Query → Outcome Said → Type 0
-Judges p s cs b (query.Give x) t = t ≡ answered (replies reply.taken)
-Judges p s cs b (query.Close z) t = t ≡ answered (replies reply.closed)
-Judges p s cs b (query.CloseClaim c) t = t ≡ answered (replies reply.closed)
-Judges p s cs b (query.Message even cross odd) t = MessageJudged p s cs b t
-Judges p s cs b query.Verdict t = VerdictJudged p s cs b t
-Judges p s cs b query.Proof t = VerdictJudged p s cs b t
-Judges p s cs b (query.CheckOpening x) t = Unit {0}
-Judges p s cs b (query.CheckBatch m z x) t = Unit {0}
+-- THE CHECK OF A BATCH (document 02, (a)), by the challenges and what it is lent
+module _ (p : ℕ) (s : Start) (cs : List ℕ) (z b : ℕ) (l : Shown) where
+  -- "the combined value at the point is the same sum of them"
+  abbrev pub SumHolds : Type 0
+  SumHolds = evaluate p (length (l .logs)) (at (l .logs)) z ≡ at (l .values) 0
+
+  -- "the opening equation", at j = k + 1
+  abbrev pub EquationHolds : ℕ → Type 0
+  EquationHolds k = opens p (at cs k) b (tripleAt (l .values) (3 * k)) ≡ true
+
+  pub record BatchJudged (t : Outcome Said) : Type 0 where
+    pub yes : (t ≡ answered (finds finding.yes)) ↔ (SumHolds × ((k : ℕ) → k < s .rounds → EquationHolds k))
+    -- "else no at j 0"
+    pub zero : (t ≡ answered (finds (finding.no 0))) ↔ (SumHolds → ⊥)
+    pub no : (k : ℕ) → (t ≡ answered (finds (finding.no (suc k)))) ↔ (SumHolds × (k < s .rounds) × ((i : ℕ) → i < k → EquationHolds i) × (EquationHolds k → ⊥))
+    pub either : (t ≡ answered (finds finding.yes)) ⊎ ((j : ℕ) × (t ≡ answered (finds (finding.no j))))
+
+-- what is said of an answered call by what was brought up to and with it, and what it is lent
+abbrev pub Judges : ℕ → Start → List ℕ → Brought → Query → Shown → Outcome Said → Type 0
+Judges p s cs b (query.Give x) l t = t ≡ answered (replies reply.taken)
+Judges p s cs b (query.Close z) l t = t ≡ answered (replies reply.closed)
+Judges p s cs b (query.CloseClaim c) l t = t ≡ answered (replies reply.closed)
+Judges p s cs b (query.Message even cross odd) l t = MessageJudged p s cs b t
+Judges p s cs b query.Verdict l t = VerdictJudged p s cs b t
+Judges p s cs b query.Proof l t = VerdictJudged p s cs b t
+Judges p s cs b (query.CheckOpening x) l t = Unit {0}
+Judges p s cs b (query.CheckBatch m z x) l t = BatchJudged p s cs z x l t
 
 -- A LIST, with what its answered calls brought
 pub record Account : Type 0 where
