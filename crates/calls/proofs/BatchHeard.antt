@@ -14,13 +14,12 @@ use Rattle.refusal.proofs.Outcome.{both}
 use Rattle.vector.specs.Vector.{Vector, at}
 use Rattle.vector.specs.Slice.{isNonzero}
 use Rattle.vector.specs.Opening.{evaluate, openingOf}
-use Rattle.vector.proofs.Overwrite.{fifteen-at}
 use Rattle.verifier.specs.declared.Verifier.{Verifier}
 use Rattle.verifier.specs.Records.{yes}
 use Rattle.verifier.specs.Batch.{batchFinds}
 use Rattle.verifier.proofs.BatchChecks.{true-batch-holds}
 use Rattle.item.specs.declared.Start.{Start}
-use Rattle.calls.proofs.QueryStands.{Carries}
+use Rattle.calls.proofs.QueryStands.{Carries, carried-challenge}
 
 -- a point from 1 to p - 1 is not zero modulo p
 pub nonzero : (p b : ℕ) → isNonzero p b ≡ true → residue p b ≡ 0 → ⊥
@@ -39,5 +38,5 @@ module _ (p : ℕ) (prime : Prime p) (odd : p % 2 ≡ 1) (s : Start) (few : s .r
       let r : v .start .rounds ≡ s .rounds = ap (λ s. s .rounds) (c .start) in
       ap (λ n. batchFinds p v z b (openingOf p n (at cs) f b) logs) (sym r)
       ∙ true-batch-holds prime odd z b (nonzero p b ok) v (at cs)
-      (λ j h. ap (λ xs. at xs j) (c .challenges) ∙ fifteen-at (s .rounds) cs few (omega (arith, listed)) j (omega (arith, r)))
+      (λ j h. carried-challenge c few listed j (omega (arith, r)))
       (subst (λ n. 0 < n) (sym r) some) f logs (sums ∙ ap (λ n. evaluate p (2 ^ n) f b) (sym r))

@@ -2,16 +2,14 @@
 use mathlib.Core.Path.{_≡_, refl, sym, ap, subst, _∙_}
 use mathlib.Core.Bool.{Bool, true, false, true≢false}
 use mathlib.Core.List.{List}
-use mathlib.Core.Logic.{_↔_, _⊎_, inl, inr, ⊎-elim}
+use mathlib.Core.Logic.{inl, inr, ⊎-elim}
 use Prim.Native.Nat.{ℕ, zero, suc, _+_, _*_, _≤_, _<_}
 use native.Mathlib.Omega.{arith}
-use lib.Dec.{eqb}
 use lib.ListN.{length}
-use borrow.Author.Tests.{eq-eqb, eqb-true, eqb-false, ne-eqb}
+use borrow.Author.Tests.{eqb-true, eqb-false}
 use Rattle.refusal.specs.Outcome.{Outcome, answered, refused, refusedAt}
 use Rattle.vector.specs.Vector.{at}
-use Rattle.vector.specs.Opening.{evaluate, opens}
-use Rattle.vector.proofs.Overwrite.{fifteen-at}
+use Rattle.vector.specs.Opening.{opens}
 use Rattle.claim.specs.Claim.{sumHolds}
 use Rattle.verifier.specs.declared.Verifier.{Verifier}
 use Rattle.verifier.specs.Records.{Finding, yes, no}
@@ -23,7 +21,7 @@ use Rattle.calls.specs.QueryStep.{Shown, Said, replies, finds}
 use Rattle.calls.specs.QueryStep as said
 use Rattle.calls.specs.Verdict.{SumHolds, EquationHolds, BatchJudged}
 use Rattle.calls.proofs.Fits.{lt-or-le}
-use Rattle.calls.proofs.QueryStands.{Carries}
+use Rattle.calls.proofs.QueryStands.{Carries, carried-challenge}
 
 -- which finding is told: 0 for yes, j + 1 for no at j
 foundBy : Finding → ℕ
@@ -114,8 +112,7 @@ module _ (p : ℕ) (s : Start) (cs : List ℕ) (few : s .rounds ≤ 15) (listed 
   same j less =
       let e : 0 + 3 * j ≡ 3 * j = omega arith in
       ap (λ i. opens p (at (v .challenges) j) b (tripleAt (l .values) i)) e
-      ∙ ap (λ x. opens p x b (tripleAt (l .values) (3 * j)))
-      (ap (λ xs. at xs j) (c .challenges) ∙ fifteen-at (s .rounds) cs few (omega (arith, listed)) j less)
+      ∙ ap (λ x. opens p x b (tripleAt (l .values) (3 * j))) (carried-challenge c few listed j less)
 
   pub batch-judged : BatchJudged p s cs z b l (answered (finds (batchFinds p v z b (l .values) (l .logs))))
   batch-judged =

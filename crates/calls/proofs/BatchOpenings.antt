@@ -1,47 +1,40 @@
 -- A BATCH'S OPENINGS ARE CHECKED: the table has nothing against the check of what its run opened and of the logs' values, and it is yes.
-use mathlib.Core.Path.{_≡_, refl, sym, ap, subst, _∙_}
+use mathlib.Core.Path.{_≡_, sym, ap, subst, _∙_}
 use mathlib.Core.Bool.{Bool, true, _&&_}
 use mathlib.Core.List.{List, _++_}
-use mathlib.Core.Logic.{⊎-elim}
-use mathlib.Core.Option.{Option, none}
-use Prim.Native.Nat.{ℕ, zero, suc, _+_, _*_, _%_, _^_, _≤_, _<_}
-use native.Mathlib.Nat.{eq-or-lt-of-le}
+use mathlib.Core.Option.{none}
+use Prim.Native.Nat.{ℕ, _+_, _*_, _%_, _^_, _≤_, _<_}
 use native.Mathlib.Omega.{arith}
-use lib.Dec.{eqb, leb, ltb}
+use lib.Dec.{leb, ltb}
 use lib.ListN.{length, take}
 use lib.Seq.{take-take, take-append-seam}
-use borrow.Author.Tests.{eq-eqb, leb-true, lt-ltb, ltb-true}
+use borrow.Author.Tests.{eq-eqb, lt-ltb}
 use Rattle.algebra.specs.Prime.{Prime}
 use Rattle.refusal.specs.Limit.{maxWeight}
-use Rattle.refusal.specs.Outcome.{Outcome, answered, refused, refusedAt}
+use Rattle.refusal.specs.Outcome.{answered}
 use Rattle.vector.specs.Vector.{Vector, at}
-use Rattle.vector.specs.Rounds.{roundsOf}
-use Rattle.vector.specs.Slice.{isNonzero, allNonzero, allReduced}
+use Rattle.vector.specs.Slice.{isNonzero, allReduced}
 use Rattle.vector.specs.Opening.{triple, evaluate, openingOf, opening}
 use Rattle.vector.proofs.Every.{reduced-all}
 use Rattle.vector.proofs.Rounds.{rounds-at-most}
-use Rattle.wire.specs.Log.{readLog}
 use Rattle.item.specs.declared.Start.{Start}
-use Rattle.item.specs.Start.{untwistedStart}
 use Rattle.verifier.specs.declared.Verifier.{Verifier}
 use Rattle.verifier.specs.Records.{yes}
 use Rattle.verifier.specs.Batch.{batchFinds}
 use Rattle.runs.specs.Trip.{Trip, vectorF, vectorG}
 use Rattle.runs.proofs.CloseLaws.{residue-below}
-use Rattle.batch.specs.Batch.{logAt, mostItems, sameRounds}
-use Rattle.batch.proofs.Together.{IsGood, AllGood, most-fits, own-value, own-sum}
+use Rattle.batch.specs.Batch.{mostItems}
+use Rattle.batch.proofs.Together.{own-value, own-sum}
 use Rattle.calls.specs.declared.query.Query.the-variants as query
 use Rattle.calls.specs.Lists.{after}
-use Rattle.calls.specs.Table.{Refusal}
 use Rattle.calls.specs.World.{Made, World}
 use Rattle.calls.specs.QueryStep.{Shown, Spoken, finds, ask}
 use Rattle.calls.specs.QueryState.{VerifierState, verifierTable, Posed, freshHearing, hearsOn}
 use Rattle.calls.specs.Given.{BatchChecked}
-use Rattle.calls.specs.Starts.{Startable, Opens, Whole, fileRow, logRows, batchRows}
+use Rattle.calls.specs.Starts.{Startable, Whole, batchRows}
 use Rattle.calls.specs.Begins.{openings, openingsWorld}
 use Rattle.calls.specs.BatchTrip.{batchTrip}
 use Rattle.calls.specs.Demand3.{AllSized, AllKept}
-use Rattle.calls.proofs.Steps.{some-none, row-passed}
 use Rattle.calls.proofs.Turns.{both}
 use Rattle.calls.proofs.Begins.{opens-going}
 use Rattle.calls.proofs.BatchTakes.{batch-takes, begun-pointed}
@@ -53,58 +46,7 @@ use Rattle.calls.proofs.Hits.{hit-replies, hit-somewhere}
 use Rattle.pass.proofs.OpeningValues.{triples-length}
 use Rattle.calls.proofs.Links.{opening-of}
 use Rattle.calls.proofs.OpeningChecks.{values-below, stands-still}
-use Rattle.calls.proofs.StartRows.{length-of}
-
--- WHAT A START THAT THE TABLE LETS THROUGH SAYS
-files-passed : (logs : List (List ℕ)) (t : Option Refusal) (m k : ℕ) → logRows logs k m t ≡ none
-    → ((j : ℕ) → k ≤ j → j < k + m → IsGood logs j) × (t ≡ none)
-unfolding logRows
-files-passed logs t zero k e = ((λ j a b. absurd (omega arith)), e)
-files-passed logs t (suc m) k e = by (readLog (logAt logs k)) refl (λ further. files-passed logs t m (suc k) further) e
-  where
-    by : (o : Outcome ℕ) → readLog (logAt logs k) ≡ o
-        → (logRows logs (suc k) m t ≡ none → ((j : ℕ) → suc k ≤ j → j < suc k + m → IsGood logs j) × (t ≡ none))
-        → fileRow o (logRows logs (suc k) m t) ≡ none → ((j : ℕ) → k ≤ j → j < k + suc m → IsGood logs j) × (t ≡ none)
-    by (answered n) good later e =
-        let rest = later e in (
-          (λ j a b.
-              ⊎-elim {C = IsGood logs j} (λ (q : k ≡ j). subst (IsGood logs) q (n, good)) (λ (l : k < j). rest .0 j (omega arith) (omega arith)) (eq-or-lt-of-le a)),
-          rest .1,
-        )
-    by (refused n) good later e = absurd (some-none e)
-    by (refusedAt n i) good later e = absurd (some-none e)
-
-pub record BatchFree (p m : ℕ) (logs : List (List ℕ)) (z : ℕ) (cs : List ℕ) : Type 0 where
-  pub counted : (leb 1 m && leb m 8) ≡ true
-  pub good : AllGood logs m
-  pub same : sameRounds logs m ≡ true
-  pub base : isNonzero p z ≡ true
-  pub opens : Opens (untwistedStart (mostItems logs m)) cs
-
-pub batch-free : (p m : ℕ) (logs : List (List ℕ)) (z : ℕ) (cs : List ℕ) → batchRows p m logs z cs ≡ none → BatchFree p m logs z cs
-batch-free p m logs z cs e =
-    let n : ℕ = roundsOf (mostItems logs m) in
-    let a = row-passed (leb 1 m && leb m 8) 17 _ e in
-    let b = files-passed logs _ m 0 (a .1) in
-    let c = row-passed (sameRounds logs m) 17 _ (b .1) in
-    let d = row-passed (ltb 0 n) 10 _ (c .1) in
-    let x = row-passed (isNonzero p z) 6 _ (d .1) in
-    let y = row-passed (eqb (length cs) n && allNonzero p n cs) 6 none (x .1) in
-    let good : AllGood logs m = λ k less. b .0 k (omega arith) (omega arith) in
-    let most = most-fits logs m (leb-true 1 m (both (leb 1 m) (leb m 8) (a .0) .0)) good in
-    record {
-      counted = a .0;
-      good = good;
-      same = c .0;
-      base = x .0;
-      opens =
-          record {
-            start = record { least = most .0; most = most .1; rounds = refl };
-            numbers = refl;
-            rounds = ltb-true 0 n (d .0);
-            listed = length-of p n cs (y .0);
-          };
-    }
+use Rattle.calls.proofs.StartRows.{batch-free}
 
 -- the table has nothing against the check
 check-free : (p : ℕ) (b : VerifierState) (m z x : ℕ) (l : Shown) → (leb 1 m && leb m 8) ≡ true → ltb 0 (b .start .rounds) ≡ true → isNonzero p z ≡ true

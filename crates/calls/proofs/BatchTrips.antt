@@ -2,13 +2,13 @@
 use mathlib.Core.Path.{_≡_, refl, ap, _∙_}
 use mathlib.Core.List.{List}
 use Prim.Native.Nat.{ℕ, _<_, _≤_}
-use native.Mathlib.Nat.{zero-add}
 use Rattle.refusal.specs.Limit.{maxItems}
 use Rattle.algebra.specs.Mod.{residue}
 use Rattle.algebra.proofs.Congruence.{residue-twice}
 use Rattle.vector.specs.Vector.{padded}
 use Rattle.vector.specs.Rounds.{roundsOf}
 use Rattle.vector.proofs.Rounds.{rounds-at-most}
+use Rattle.item.specs.declared.Given.{Given}
 use Rattle.item.specs.declared.Given.the-variants.{Numbers}
 use Rattle.item.specs.Item.{contributes, entersAs}
 use Rattle.item.proofs.Untwisted.{enters-same}
@@ -17,7 +17,7 @@ use Rattle.r1cs.proofs.RuleTotals.{padded-same}
 use Rattle.batch.specs.Batch.{combined, mostItems}
 use Rattle.calls.specs.Starts.{Whole}
 use Rattle.calls.specs.BatchTrip.{batchTrip}
-use Rattle.calls.proofs.RuleTrips.{pairs-length, pairs-at}
+use Rattle.calls.proofs.RuleTrips.{items-length, items-at}
 
 module _ (p z m : ℕ) (logs : List (List ℕ)) (some : 1 ≤ mostItems logs m) (most : mostItems logs m ≤ maxItems) where
   abbrev items : ℕ
@@ -26,15 +26,18 @@ module _ (p z m : ℕ) (logs : List (List ℕ)) (some : 1 ≤ mostItems logs m) 
   abbrev T : Trip
   T = batchTrip p z m logs
 
+  abbrev item : ℕ → Given
+  item i = Numbers (combined p z m logs i) 0
+
   -- a trip that lists of calls speak of
   pub batch-whole : Whole T
-  batch-whole = record { start = record { least = some; most = most; rounds = refl }; items = pairs-length (combined p z m logs) (λ i. 0) 0 items }
+  batch-whole = record { start = record { least = some; most = most; rounds = refl }; items = items-length item 0 items }
 
   few : roundsOf items ≤ 15
   few = rounds-at-most items most
 
   pub item-at : (i : ℕ) → i < items → tripItem T i ≡ Numbers (combined p z m logs i) 0
-  item-at i less = pairs-at (combined p z m logs) (λ i. 0) 0 items i less ∙ ap (λ k. Numbers (combined p z m logs k) 0) (zero-add i)
+  item-at = items-at item items
 
   combined-reduced : (i : ℕ) → residue p (combined p z m logs i) ≡ combined p z m logs i
   unfolding combined

@@ -1,14 +1,10 @@
 -- BATCHES: their trip is one that a run takes whole, their openings are the same in every mode, and a batch of one opens as its log does.
 use mathlib.Core.Path.{_≡_, refl, sym, ap, ap₂, _∙_}
-use mathlib.Core.Bool.{Bool, true, false, cond, true≢false}
+use mathlib.Core.Bool.{Bool, true, false, true≢false}
 use mathlib.Core.List.{List, [], _∷_, _++_}
 use mathlib.Core.Option.{none}
-use Prim.Native.Nat.{ℕ, zero, suc, _+_, _%_, _^_, _≤_, _<_, max}
-use native.Mathlib.Nat.{add-zero, zero-add, suc-add, add-suc}
+use Prim.Native.Nat.{ℕ, _+_, _%_, _^_, _≤_, _<_, max}
 use native.Mathlib.Omega.{arith}
-use borrow.Author.Tests.{ltb-false}
-use lib.Dec.{ltb}
-use lib.ListN.{length, getD}
 use Rattle.algebra.specs.Prime.{Prime}
 use Rattle.refusal.specs.Limit.{maxWeight}
 use Rattle.refusal.specs.Number as number
@@ -18,7 +14,7 @@ use Rattle.vector.specs.Vector.{padded}
 use Rattle.vector.specs.Rounds.{roundsOf}
 use Rattle.vector.specs.Opening.{evaluate, openingOf}
 use Rattle.vector.proofs.Horner.{evaluate-same}
-use Rattle.item.specs.declared.Given.the-variants.{Reading, Numbers}
+use Rattle.item.specs.declared.Given.the-variants.{Reading}
 use Rattle.item.specs.Item.{contributes, readingNumber}
 use Rattle.wire.specs.Log.{logCount, readingOf, weightOf, readLog}
 use Rattle.wire.proofs.LogSays.{GoodLog, items-found}
@@ -26,8 +22,7 @@ use Rattle.runs.specs.Trip.{Trip, vectorF}
 use Rattle.runs.proofs.CloseLaws.{residue-below}
 use Rattle.r1cs.proofs.RuleTotals.{padded-same}
 use Rattle.batch.specs.Batch.{numberOf, readingsOf, combined, mostItems, logValue}
-use Rattle.batch.proofs.Laws.{reading-beyond, combined-one, log-read}
-use Rattle.batch.proofs.Together.{good-log}
+use Rattle.batch.proofs.Laws.{log-good, reading-beyond, padded-self, combined-one, log-read}
 use Rattle.calls.specs.Lists.{after}
 use Rattle.calls.specs.Step.{isAnswered}
 use Rattle.calls.specs.World.{Made, World, came, onward}
@@ -36,11 +31,12 @@ use Rattle.calls.specs.Given.{replyOf}
 use Rattle.calls.specs.Proper.{Valid}
 use Rattle.calls.specs.Starts.{Opens, batchRows}
 use Rattle.calls.specs.Begins.{openings, openingsWorld}
-use Rattle.calls.specs.BatchTrip.{batchTrip, itemsFrom, logTrip}
+use Rattle.calls.specs.BatchTrip.{batchTrip, logTrip}
 use Rattle.calls.specs.Demand3.{AllSized, AllKept}
+use Rattle.calls.proofs.RuleTrips.{items-at}
 use Rattle.calls.proofs.BatchTrips.{batch-whole, batch-vector-f, item-at}
 use Rattle.calls.proofs.BatchTakes.{batch-challenges}
-use Rattle.calls.proofs.BatchOpenings.{batch-free}
+use Rattle.calls.proofs.StartRows.{batch-free}
 use Rattle.calls.proofs.Demand3.{demand3}
 
 -- A TRIP THAT A RUN TAKES WHOLE: so `properBatch` speaks of every batch whose start is answered
@@ -79,26 +75,13 @@ module _ (p : ℕ) (large : maxWeight < p) (m : ℕ) (logs : List (List ℕ)) (z
       demand3 p large prime odd word .alike T (batch-valid .whole) (openings cs) (openings cs) opens opens th th′ f g f′ g′ ms ns a b z z′ kept kept′
       (batch-challenges p large (T .start) cs opens f g ms a z ∙ sym (batch-challenges p large (T .start) cs opens f′ g′ ns b z′))
 
--- the items of a log
-items-length : (log : List ℕ) (i m : ℕ) → length (itemsFrom log i m) ≡ m
-unfolding itemsFrom
-items-length log i zero = refl
-items-length log i (suc m) = ap suc (items-length log (suc i) m)
-
-items-at : (log : List ℕ) (i m j : ℕ) → j < m → getD (itemsFrom log i m) j (Numbers 0 0) ≡ Reading (readingOf log (i + j)) (weightOf log (i + j))
-unfolding itemsFrom
-items-at log i zero j h = absurd (omega arith)
-items-at log i (suc m) zero h = ap (λ k. Reading (readingOf log k) (weightOf log k)) (sym (add-zero i))
-items-at log i (suc m) (suc j) h =
-    items-at log (suc i) m j (omega arith) ∙ ap (λ k. Reading (readingOf log k) (weightOf log k)) (suc-add i j ∙ sym (add-suc i j))
-
 -- A BATCH OF ONE, of a good log: its vector is f of the log's own plain run, and so are its values
 module _ (p z : ℕ) (log : List ℕ) (rest : List (List ℕ)) (items : ℕ) (good : readLog log ≡ answered items) where
   abbrev logs : List (List ℕ)
   logs = log ∷ rest
 
   counted : GoodLog log items
-  counted = good-log logs 0 (items, good)
+  counted = log-good log items good
 
   one-most : mostItems logs 1 ≡ logCount log
   unfolding mostItems
@@ -107,20 +90,12 @@ module _ (p z : ℕ) (log : List ℕ) (rest : List (List ℕ)) (items : ℕ) (go
   reading-at : (i : ℕ) → i < logCount log → readingsOf p log i ≡ readingNumber p (readingOf log i)
   reading-at i less = ap (numberOf p) (items-found log items counted i (omega (arith, counted .counted)))
 
-  -- beyond its end a log has no readings
-  padded-reading : (i : ℕ) → readingsOf p log i ≡ padded (logCount log) (readingsOf p log) i
-  padded-reading i = by (ltb i (logCount log)) refl
-    where
-      by : (t : Bool) → ltb i (logCount log) ≡ t → readingsOf p log i ≡ cond t (readingsOf p log i) 0
-      by true e = refl
-      by false e = let l = ltb-false i (logCount log) e in reading-beyond p log i (omega (arith, counted .frame .size))
-
   one-vector : vectorF p (logTrip log) ≡ padded (logCount log) (readingsOf p log)
   one-vector =
       padded-same (logCount log) _ (readingsOf p log)
       (λ i less.
       ap (λ x. contributes p (logTrip log .start) x .f)
-      (items-at log 0 (logCount log) i less ∙ ap (λ k. Reading (readingOf log k) (weightOf log k)) (zero-add i))
+      (items-at (λ i. Reading (readingOf log i) (weightOf log i)) (logCount log) i less)
       ∙ sym (reading-at i less))
 
   one-combined : padded (mostItems logs 1) (combined p z 1 logs) ≡ padded (logCount log) (readingsOf p log)
@@ -150,5 +125,6 @@ module _ (p z : ℕ) (log : List ℕ) (rest : List (List ℕ)) (items : ℕ) (go
       log-read p log b items good
       ∙ ap (λ t. require t number.argument (answered (evaluate p (2 ^ roundsOf items) (readingsOf p log) b))) ok
       ∙ ap (λ n. answered (evaluate p (2 ^ roundsOf n) (readingsOf p log) b)) (sym (counted .counted))
-      ∙ ap answered (evaluate-same p _ (readingsOf p log) (padded (logCount log) (readingsOf p log)) b (λ i less. padded-reading i))
+      ∙ ap answered (evaluate-same p _ (readingsOf p log) (padded (logCount log) (readingsOf p log)) b
+      (λ i less. padded-self (logCount log) (readingsOf p log) (λ i l. reading-beyond p log i (omega (arith, counted .frame .size))) i))
       ∙ ap (λ v. answered (evaluate p (2 ^ roundsOf (logCount log)) v b)) (sym one-vector)

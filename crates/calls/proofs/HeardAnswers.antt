@@ -19,7 +19,6 @@ use Rattle.vector.specs.Slice.{isNonzero}
 use Rattle.vector.specs.Message.{Message}
 use Rattle.vector.specs.Opening.{openingOf, opening}
 use Rattle.vector.proofs.Rounds.{rounds-at-most, rounds-enough}
-use Rattle.vector.proofs.Overwrite.{fifteen-at}
 use Rattle.verifier.specs.declared.Verifier.{Verifier}
 use Rattle.verifier.specs.Records.{Replied, yes, holds}
 use Rattle.verifier.specs.Claims.{messageOf3, closedWith, passedWith, failedNow, hears, finds}
@@ -37,7 +36,7 @@ use Rattle.calls.specs.QueryState.{VerifierState, atRound, hearing, goes
 use Rattle.calls.specs.Meaning.{messageAt, proofOfTrip}
 use Rattle.calls.proofs.BatchHeard.{nonzero, batch-holds}
 use Rattle.calls.proofs.HeardMeaning.{BringsTrip, SaysTrip}
-use Rattle.calls.proofs.QueryStands.{Carries, verdict-turn}
+use Rattle.calls.proofs.QueryStands.{Carries, carried-challenge, verdict-turn}
 use Rattle.calls.proofs.QueryTurns.{item-rows, close-rows, claim-rows, file-rows, message-rows, verdict-row, opening-point, batch-rows}
 use Rattle.calls.proofs.QuerySteps.{heardAs, goesTo, saysSo}
 use Rattle.calls.proofs.QueryKeeps.{stands-after}
@@ -68,7 +67,7 @@ module _ (p : ℕ) (large : maxWeight < p) (prime : Prime p) (odd : p % 2 ≡ 1)
   opening-holds k v c b ok =
       ap (λ k. openingFinds p v b (opening p k (at cs) (vectorF p T) (vectorG p T) b)) (sym (ap (λ s. s .rounds) (c .start)))
       ∙ true-opening-holds prime odd b (nonzero p b ok) v (at cs)
-      (λ k h. ap (λ xs. at xs k) (c .challenges) ∙ fifteen-at n cs few (omega (arith, listed)) k (omega (arith, ap (λ s. s .rounds) (c .start))))
+      (λ k h. carried-challenge c few listed k (omega (arith, ap (λ s. s .rounds) (c .start))))
       (vectorF p T) (vectorG p T)
 
   module _ (a : VerifierState) (v : Verifier) (f : Follows p T cs a v) where

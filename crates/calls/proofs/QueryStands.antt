@@ -2,12 +2,14 @@
 use mathlib.Core.Path.{_≡_, refl, sym, ap, _∙_}
 use mathlib.Core.Bool.{Bool, true, false, cond, not, _&&_, _||_, and-false, true≢false}
 use mathlib.Core.List.{List}
-use Prim.Native.Nat.{ℕ, _≤_}
+use Prim.Native.Nat.{ℕ, _≤_, _<_}
 use native.Mathlib.Omega.{arith}
 use lib.Dec.{eqb, ltb}
 use lib.ListN.{length}
 use borrow.Author.Tests.{eqb-true, le-leb, le-ltb}
+use Rattle.vector.specs.Vector.{at}
 use Rattle.vector.specs.Slice.{fifteen}
+use Rattle.vector.proofs.Overwrite.{fifteen-at}
 use Rattle.verifier.specs.declared.Verifier.{Verifier}
 use Rattle.verifier.specs.Records.{no}
 use Rattle.verifier.specs.WellFormed.{wellFormed}
@@ -28,6 +30,11 @@ pub record Carries (s : Start) (cs : List ℕ) (k : ℕ) (v : Verifier) : Type 0
   pub start : v .start ≡ s
   pub challenges : v .challenges ≡ fifteen (s .rounds) cs
   pub taken : v .taken ≡ k
+
+-- its challenge j
+pub carried-challenge : {s : Start} {cs : List ℕ} {k : ℕ} {v : Verifier} → Carries s cs k v → s .rounds ≤ 15 → length cs ≡ s .rounds
+    → (j : ℕ) → j < s .rounds → at (v .challenges) j ≡ at cs j
+carried-challenge {s} {cs} c few listed j less = ap (λ xs. at xs j) (c .challenges) ∙ fifteen-at (s .rounds) cs few (omega (arith, listed)) j less
 
 pub record Stands (p : ℕ) (a : VerifierState) (v : Verifier) : Type 0 where
   pub carries : Carries (a .start) (a .challenges) (length (a .items)) v

@@ -12,6 +12,7 @@ use Rattle.vector.specs.Message.{message}
 use Rattle.vector.proofs.Rounds.{rounds-power}
 use Rattle.vector.proofs.TwistPowers.{twists-weight}
 use Rattle.prover.specs.Reply as reply
+use Rattle.item.specs.declared.Given.{Given}
 use Rattle.item.specs.declared.Given.the-variants.{Numbers}
 use Rattle.item.specs.Item.{contributes}
 use Rattle.runs.specs.Trip.{Trip, tripItem, vectorF, vectorG}
@@ -19,18 +20,21 @@ use Rattle.r1cs.specs.Check.{ruleFirst, ruleSecond, ruleTotal, ruleMessage}
 use Rattle.r1cs.proofs.RuleTotals.{padded-same, rule-first}
 use Rattle.calls.specs.Meaning.{meant, says, total, messageAt}
 use Rattle.calls.specs.Starts.{Whole}
-use Rattle.calls.specs.RuleTrip.{pairsFrom, ruleTrip}
+use Rattle.calls.specs.RuleTrip.{itemsFrom, ruleTrip}
 
-pub pairs-length : (a b : Vector) (i m : ℕ) → length (pairsFrom a b i m) ≡ m
-unfolding pairsFrom
-pairs-length a b i zero = refl
-pairs-length a b i (suc m) = ap suc (pairs-length a b (suc i) m)
+pub items-length : (x : ℕ → Given) (i m : ℕ) → length (itemsFrom x i m) ≡ m
+unfolding itemsFrom
+items-length x i zero = refl
+items-length x i (suc m) = ap suc (items-length x (suc i) m)
 
-pub pairs-at : (a b : Vector) (i m j : ℕ) → j < m → getD (pairsFrom a b i m) j (Numbers 0 0) ≡ Numbers (a (i + j)) (b (i + j))
-unfolding pairsFrom
-pairs-at a b i zero j h = absurd (omega arith)
-pairs-at a b i (suc m) zero h = ap (λ k. Numbers (a k) (b k)) (sym (add-zero i))
-pairs-at a b i (suc m) (suc j) h = pairs-at a b (suc i) m j (omega arith) ∙ ap (λ k. Numbers (a k) (b k)) (suc-add i j ∙ sym (add-suc i j))
+items-after : (x : ℕ → Given) (i m j : ℕ) → j < m → getD (itemsFrom x i m) j (Numbers 0 0) ≡ x (i + j)
+unfolding itemsFrom
+items-after x i zero j h = absurd (omega arith)
+items-after x i (suc m) zero h = ap x (sym (add-zero i))
+items-after x i (suc m) (suc j) h = items-after x (suc i) m j (omega arith) ∙ ap x (suc-add i j ∙ sym (add-suc i j))
+
+pub items-at : (x : ℕ → Given) (m j : ℕ) → j < m → getD (itemsFrom x 0 m) j (Numbers 0 0) ≡ x j
+items-at x m j h = items-after x 0 m j h ∙ ap x (zero-add j)
 
 module _ (p v n : ℕ) (few : n ≤ 15) (a b : Vector) where
   abbrev T : Trip
@@ -40,10 +44,10 @@ module _ (p v n : ℕ) (few : n ≤ 15) (a b : Vector) where
   pub rule-whole : Whole T
   rule-whole =
       let most : 2 ^ n ≤ 2 ^ 15 = pow-mono few in
-      record { start = record { least = pow-pos n; most = most; rounds = sym (rounds-power n few) }; items = pairs-length a b 0 (2 ^ n) }
+      record { start = record { least = pow-pos n; most = most; rounds = sym (rounds-power n few) }; items = items-length (λ i. Numbers (a i) (b i)) 0 (2 ^ n) }
 
   item-at : (i : ℕ) → i < 2 ^ n → tripItem T i ≡ Numbers (a i) (b i)
-  item-at i less = pairs-at a b 0 (2 ^ n) i less ∙ ap (λ k. Numbers (a k) (b k)) (zero-add i)
+  item-at = items-at (λ i. Numbers (a i) (b i)) (2 ^ n)
 
   pub rule-vector-f : vectorF p T ≡ ruleFirst p v n a
   rule-vector-f =

@@ -16,16 +16,14 @@ use Rattle.wire.specs.Log.{readLog}
 use Rattle.vector.specs.Rounds.{roundsOf}
 use Rattle.vector.specs.Slice.{isNonzero, allNonzero}
 use Rattle.vector.proofs.Rounds.{rounds-power}
-use Rattle.prover.specs.Records.{Out}
 use Rattle.prover.specs.Start as prover
-use Rattle.verifier.specs.Records.{Replied}
 use Rattle.verifier.specs.Starts as verifier
 use Rattle.item.specs.declared.Start.{Start}
 use Rattle.item.specs.Start.{plainStart, twistedStart, untwistedStart, ruleStart}
 use Rattle.batch.specs.Batch.{logAt, mostItems, sameRounds, requireLog, readLogs, begins, startBatch}
-use Rattle.batch.proofs.Together.{IsGood, most-counted}
+use Rattle.batch.proofs.Together.{IsGood, AllGood, most-counted}
 use Rattle.calls.specs.Table.{Refusal, row}
-use Rattle.calls.specs.Starts.{Startable, countRow, listRow, ruleRows, openingsRows, fileRow, logRows, batchRows, Decided, StartsRun, StartsVerifier, StartsOpenings, Starts}
+use Rattle.calls.specs.Starts.{Startable, Opens, countRow, listRow, ruleRows, openingsRows, fileRow, logRows, batchRows, Decided, StartsRun, StartsVerifier, StartsOpenings, Starts}
 use Rattle.calls.proofs.Steps.{some-none}
 use Rattle.calls.proofs.Turns.{both}
 
@@ -33,17 +31,6 @@ start-row : {A : Type 0} (x : A) (Holds : Type 0) (b : Bool) (k : ℕ) (rest : O
     → Decided (row b k t) x Holds (require b k rest)
 start-row x Holds true k rest t f = f refl
 start-row x Holds false k rest t f = (refl, λ e. absurd (some-none e))
-
-run-row : (b : Bool) (k : ℕ) (rest : Outcome Out) (t : Option Refusal) (s : Start) → (b ≡ true → StartsRun t s rest) → StartsRun (row b k t) s (require b k rest)
-run-row b k rest t s = start-row _ _ b k rest t
-
-verifier-row : (b : Bool) (k : ℕ) (rest : Outcome Replied) (t : Option Refusal) (s : Start) (cs : List ℕ) → (b ≡ true → StartsVerifier t s cs rest)
-    → StartsVerifier (row b k t) s cs (require b k rest)
-verifier-row b k rest t s cs = start-row _ _ b k rest t
-
-openings-row : (b : Bool) (k : ℕ) (rest : Outcome Out) (t : Option Refusal) (s : Start) (cs : List ℕ) → (b ≡ true → StartsOpenings t s cs rest)
-    → StartsOpenings (row b k t) s cs (require b k rest)
-openings-row b k rest t s cs = start-row _ _ b k rest t
 
 -- the files in order, then what follows where each is good
 files-row : {A : Type 0} (y : A) (Holds : Type 0) (logs : List (List ℕ)) (x : ℕ × Bool) (f : ℕ × Bool → Outcome A) (t : Option Refusal) (m k : ℕ)
@@ -66,6 +53,14 @@ files-row {A} y Holds logs x f t (suc m) k h = by (readLog (logAt logs k)) refl 
     by (refused n) e rest = (refl, λ free. absurd (some-none free))
     by (refusedAt n i) e rest = (refl, λ free. absurd (some-none free))
 
+-- WHAT A START OF A BATCH THAT THE TABLE LETS THROUGH SAYS
+pub record BatchFree (p m : ℕ) (logs : List (List ℕ)) (z : ℕ) (cs : List ℕ) : Type 0 where
+  pub counted : (leb 1 m && leb m 8) ≡ true
+  pub good : AllGood logs m
+  pub same : sameRounds logs m ≡ true
+  pub base : isNonzero p z ≡ true
+  pub opens : Opens (untwistedStart (mostItems logs m)) cs
+
 -- L in its limits, and n of it
 of-count : (items : ℕ) (s : Start) → (leb 1 items && leb items 32768) ≡ true → s .items ≡ items → s .rounds ≡ roundsOf items → Startable s
 of-count items s e ei er =
@@ -78,30 +73,30 @@ of-rule p n v e =
     let most : 2 ^ n ≤ 2 ^ 15 = pow-mono few in
     record { least = pow-pos n; most = most; rounds = sym (rounds-power n few) }
 
-pub length-of : (p n : ℕ) (xs : List ℕ) → (eqb (length xs) n && allNonzero p n xs) ≡ true → length xs ≡ n
+length-of : (p n : ℕ) (xs : List ℕ) → (eqb (length xs) n && allNonzero p n xs) ≡ true → length xs ≡ n
 length-of p n xs e = eqb-true (length xs) n (both (eqb (length xs) n) (allNonzero p n xs) e .0)
 
 module _ (p : ℕ) where
   plain-rows : (items : ℕ) → StartsRun (countRow items none) (plainStart items) (prover.startPlain items)
   unfolding prover.startPlain
-  plain-rows items = run-row _ 3 _ none (plainStart items) (λ e. (refl, λ free. of-count items (plainStart items) e refl refl))
+  plain-rows items = start-row _ _ _ 3 _ none (λ e. (refl, λ free. of-count items (plainStart items) e refl refl))
 
   twisted-rows : (items : ℕ) (twists : List ℕ) → StartsRun (countRow items (listRow p (roundsOf items) twists none)) (twistedStart items twists) (prover.startTwisted p items twists)
   unfolding prover.startTwisted
   twisted-rows items twists =
-      run-row _ 3 _ _ (twistedStart items twists) (λ e.
-      run-row (eqb (length twists) (roundsOf items) && allNonzero p (roundsOf items) twists) 6 _ none (twistedStart items twists) (λ f. (refl, λ free. of-count items (twistedStart items twists) e refl refl)))
+      start-row _ _ _ 3 _ _ (λ e.
+      start-row _ _ (eqb (length twists) (roundsOf items) && allNonzero p (roundsOf items) twists) 6 _ none (λ f. (refl, λ free. of-count items (twistedStart items twists) e refl refl)))
 
   rule-rows : (n v : ℕ) → StartsRun (ruleRows p n v none) (ruleStart p n v) (prover.startRule p n v)
   unfolding prover.startRule
-  rule-rows n v = run-row _ 3 _ _ (ruleStart p n v) (λ e. run-row (isNonzero p v) 6 _ none (ruleStart p n v) (λ f. (refl, λ free. of-rule p n v e)))
+  rule-rows n v = start-row _ _ _ 3 _ _ (λ e. start-row _ _ (isNonzero p v) 6 _ none (λ f. (refl, λ free. of-rule p n v e)))
 
   -- a batch's run, where its L is in its limits
   opened-rows : (items : ℕ) (cs : List ℕ) → (leb 1 items && leb items 32768) ≡ true → ltb 0 (roundsOf items) ≡ true
       → StartsOpenings (listRow p (roundsOf items) cs none) (untwistedStart items) cs
       (require (eqb (length cs) (roundsOf items) && allNonzero p (roundsOf items) cs) 6 (answered (prover.started (prover.openingsRun (untwistedStart items) cs))))
   opened-rows items cs e some =
-      openings-row (eqb (length cs) (roundsOf items) && allNonzero p (roundsOf items) cs) 6 _ none (untwistedStart items) cs
+      start-row _ _ (eqb (length cs) (roundsOf items) && allNonzero p (roundsOf items) cs) 6 _ none
       (λ f. (
         refl,
         λ free. record {
@@ -115,8 +110,8 @@ module _ (p : ℕ) where
   openings-rows : (items : ℕ) (cs : List ℕ) → StartsOpenings (openingsRows p items cs) (untwistedStart items) cs (prover.startOpenings p items cs)
   unfolding prover.startOpenings
   openings-rows items cs =
-      openings-row (leb 1 items && leb items 32768) 3 _ _ (untwistedStart items) cs (λ e.
-      openings-row (ltb 0 (roundsOf items)) 10 _ _ (untwistedStart items) cs (λ some. opened-rows items cs e some))
+      start-row _ _ (leb 1 items && leb items 32768) 3 _ _ (λ e.
+      start-row _ _ (ltb 0 (roundsOf items)) 10 _ _ (λ some. opened-rows items cs e some))
 
   -- of good logs 3 never comes
   batch-opened : (items : ℕ) (cs : List ℕ) → (leb 1 items && leb items 32768) ≡ true → ltb 0 (roundsOf items) ≡ true
@@ -124,42 +119,50 @@ module _ (p : ℕ) where
   unfolding prover.startOpenings
   batch-opened items cs e some = rw (e, some) (opened-rows items cs e some)
 
-  batch-rows : (m : ℕ) (logs : List (List ℕ)) (z : ℕ) (cs : List ℕ)
-      → StartsOpenings (batchRows p m logs z cs) (untwistedStart (mostItems logs m)) cs (startBatch p m logs z cs)
-  unfolding startBatch readLogs
-  batch-rows m logs z cs =
-      let items : ℕ = mostItems logs m in
-      let s : Start = untwistedStart items in
-      openings-row (leb 1 m && leb m 8) 17 _ _ s cs (λ counted.
-      files-row _ _ logs (items, sameRounds logs m) (λ all. begins p (all .0) (all .1) z cs) _ m 0 (λ good.
-      openings-row (sameRounds logs m) 17 _ _ s cs (λ same.
-      openings-row (ltb 0 (roundsOf items)) 10 _ _ s cs (λ some.
-      openings-row (isNonzero p z) 6 _ _ s cs (λ base.
-      batch-opened items cs
-      (most-counted logs m (leb-true 1 m (both (leb 1 m) (leb m 8) counted .0)) (λ k less. good k (omega arith) (omega arith))) some)))))
+  module _ (m : ℕ) (logs : List (List ℕ)) (z : ℕ) (cs : List ℕ) where
+    abbrev most : ℕ
+    most = mostItems logs m
+
+    batch-decided : Decided (batchRows p m logs z cs) (prover.started (prover.openingsRun (untwistedStart most) cs)) (BatchFree p m logs z cs) (startBatch p m logs z cs)
+    unfolding startBatch readLogs
+    batch-decided =
+        start-row _ _ (leb 1 m && leb m 8) 17 _ _ (λ counted.
+        files-row _ _ logs (most, sameRounds logs m) (λ all. begins p (all .0) (all .1) z cs) _ m 0 (λ good.
+        start-row _ _ (sameRounds logs m) 17 _ _ (λ same.
+        start-row _ _ (ltb 0 (roundsOf most)) 10 _ _ (λ some.
+        start-row _ _ (isNonzero p z) 6 _ _ (λ base.
+        let all : AllGood logs m = λ k less. good k (omega arith) (omega arith) in
+        let o = batch-opened most cs (most-counted logs m (leb-true 1 m (both (leb 1 m) (leb m 8) counted .0)) all) some in
+        (o .0, λ free. record { counted = counted; good = all; same = same; base = base; opens = o .1 free }))))))
+
+    pub batch-free : batchRows p m logs z cs ≡ none → BatchFree p m logs z cs
+    batch-free = batch-decided .1
+
+    batch-rows : StartsOpenings (batchRows p m logs z cs) (untwistedStart most) cs (startBatch p m logs z cs)
+    batch-rows = (batch-decided .0, λ free. batch-free free .opens)
 
   verifier-plain : (items : ℕ) (cs : List ℕ) → StartsVerifier (countRow items (listRow p (roundsOf items) cs none)) (plainStart items) cs (verifier.startPlain p items cs)
   unfolding verifier.startPlain
   verifier-plain items cs =
-      verifier-row _ 3 _ _ (plainStart items) cs (λ e.
-      verifier-row (eqb (length cs) (roundsOf items) && allNonzero p (roundsOf items) cs) 6 _ none (plainStart items) cs (λ f.
+      start-row _ _ _ 3 _ _ (λ e.
+      start-row _ _ (eqb (length cs) (roundsOf items) && allNonzero p (roundsOf items) cs) 6 _ none (λ f.
       (refl, λ free. (of-count items (plainStart items) e refl refl, length-of p (roundsOf items) cs f))))
 
   verifier-twisted : (items : ℕ) (twists cs : List ℕ)
       → StartsVerifier (countRow items (listRow p (roundsOf items) twists (listRow p (roundsOf items) cs none))) (twistedStart items twists) cs (verifier.startTwisted p items twists cs)
   unfolding verifier.startTwisted
   verifier-twisted items twists cs =
-      verifier-row _ 3 _ _ (twistedStart items twists) cs (λ e.
-      verifier-row (eqb (length twists) (roundsOf items) && allNonzero p (roundsOf items) twists) 6 _ _ (twistedStart items twists) cs (λ t.
-      verifier-row (eqb (length cs) (roundsOf items) && allNonzero p (roundsOf items) cs) 6 _ none (twistedStart items twists) cs (λ f.
+      start-row _ _ _ 3 _ _ (λ e.
+      start-row _ _ (eqb (length twists) (roundsOf items) && allNonzero p (roundsOf items) twists) 6 _ _ (λ t.
+      start-row _ _ (eqb (length cs) (roundsOf items) && allNonzero p (roundsOf items) cs) 6 _ none (λ f.
       (refl, λ free. (of-count items (twistedStart items twists) e refl refl, length-of p (roundsOf items) cs f)))))
 
   verifier-rule : (n v : ℕ) (cs : List ℕ) → StartsVerifier (ruleRows p n v (listRow p n cs none)) (ruleStart p n v) cs (verifier.startRule p n v cs)
   unfolding verifier.startRule
   verifier-rule n v cs =
-      verifier-row (leb n 15) 3 _ _ (ruleStart p n v) cs (λ e.
-      verifier-row (isNonzero p v) 6 _ (listRow p n cs none) (ruleStart p n v) cs (λ o.
-      verifier-row (eqb (length cs) n && allNonzero p n cs) 6 _ none (ruleStart p n v) cs (λ f. (refl, λ free. (of-rule p n v e, length-of p n cs f)))))
+      start-row _ _ (leb n 15) 3 _ _ (λ e.
+      start-row _ _ (isNonzero p v) 6 _ (listRow p n cs none) (λ o.
+      start-row _ _ (eqb (length cs) n && allNonzero p n cs) 6 _ none (λ f. (refl, λ free. (of-rule p n v e, length-of p n cs f)))))
 
   pub all-starts : Starts p
   all-starts =

@@ -7,10 +7,10 @@ use Rattle.item.specs.declared.Given.the-variants.{Numbers}
 use Rattle.item.specs.Start.{ruleStart}
 use Rattle.runs.specs.Trip.{Trip}
 
--- m pairs of items, from item i on
-unfoldable pub pairsFrom : Vector → Vector → ℕ → ℕ → List Given
-pairsFrom a b i zero = []
-pairsFrom a b i (suc m) = Numbers (a i) (b i) ∷ pairsFrom a b (suc i) m
+-- m items, from item i on
+unfoldable pub itemsFrom : (ℕ → Given) → ℕ → ℕ → List Given
+itemsFrom x i zero = []
+itemsFrom x i (suc m) = x i ∷ itemsFrom x (suc i) m
 
 abbrev pub ruleTrip : ℕ → ℕ → ℕ → Vector → Vector → Trip
-ruleTrip p n v a b = record { start = ruleStart p n v; items = pairsFrom a b 0 (2 ^ n) }
+ruleTrip p n v a b = record { start = ruleStart p n v; items = itemsFrom (λ i. Numbers (a i) (b i)) 0 (2 ^ n) }

@@ -113,19 +113,21 @@ pub(crate) fn item(i: u32) -> u32 {
     )
 }
 
-// The run of so many of the three logs.
-pub(crate) fn begin(count: u32, z: u32) -> Step {
+// The run of so many logs of three that are handed in.
+pub(crate) fn begin_with<'a>(
+    count: u32,
+    first: &'a [u8],
+    second: &'a [u8],
+    third: &'a [u8],
+    z: u32,
+) -> Step {
     let challenges = [FIRST, SECOND];
-    let frozen = FROZEN;
-    let chilled = CHILLED;
-    let dry = DRY;
-    let a = &frozen[..];
-    let none = &a[..0];
+    let none = &first[..0];
     start_batch(
         count,
-        a,
-        &chilled[..],
-        &dry[..],
+        first,
+        second,
+        third,
         none,
         none,
         none,
@@ -136,22 +138,12 @@ pub(crate) fn begin(count: u32, z: u32) -> Step {
     )
 }
 
-// The run of two logs that are handed in.
-pub(crate) fn begin_two<'a>(first: &'a [u8], second: &'a [u8], z: u32) -> Step {
-    let challenges = [FIRST, SECOND];
-    start_batch(
-        2,
-        first,
-        second,
-        first,
-        first,
-        first,
-        first,
-        first,
-        first,
-        z,
-        &challenges,
-    )
+// The run of so many of the three logs.
+pub(crate) fn begin(count: u32, z: u32) -> Step {
+    let frozen = FROZEN;
+    let chilled = CHILLED;
+    let dry = DRY;
+    begin_with(count, &frozen[..], &chilled[..], &dry[..], z)
 }
 
 // A log's value at the point; 0 where it is refused.

@@ -67,14 +67,13 @@ fn checks(values: [u32; 6], own: [u32; 3]) {
 fn refusals() {
     let frozen = logs::FROZEN;
     let single = logs::SINGLE;
+    let a = &frozen[..];
+    let b = &single[..];
     output::start(b"no logs:", logs::begin(0, logs::Z));
     output::start(b"nine logs:", logs::begin(9, logs::Z));
     output::start(b"a fourth log that is empty:", logs::begin(4, logs::Z));
-    output::start(
-        b"n 2 and n 0:",
-        logs::begin_two(&frozen[..], &single[..], 0),
-    );
-    output::start(b"n 0 twice:", logs::begin_two(&single[..], &single[..], 0));
+    output::start(b"n 2 and n 0:", logs::begin_with(2, a, b, b, 0));
+    output::start(b"n 0 twice:", logs::begin_with(2, b, b, b, 0));
     output::start(b"z 0:", logs::begin(logs::LOGS, 0));
 }
 
