@@ -1,6 +1,7 @@
 //! Blocks for the self-check: by hand, and in generated lists against their items one by one.
 
 use crate::field::P;
+use crate::files::{item_size, items_as_given};
 use crate::generate::Batch;
 use crate::replay::{self, encode, Program, Record, Tool};
 
@@ -20,14 +21,14 @@ const FOUR: u32 = 6;
 const TOO_HEAVY: u32 = 7;
 
 /// Calls with what they must print; a line's end stands as a bar.
-type Steps<'a> = &'a [(Record, &'a str)];
+pub type Steps<'a> = &'a [(Record, &'a str)];
 
 /// In one block the total, the ends and an opening; in two the rounds.
 const PLAIN: Steps = &[
     ([26, WHOLE, 0, 0], "no run"),
     ([26, 8, 0, 0], "tool bad"),
     ([27, 1, 0, 0], "tool bad"),
-    ([10, 3, 0, 0], "started"),
+    ([10, 3, 1, 0], "started"),
     ([26, WHOLE, 0, 0], "refused 10"),
     ([26, EMPTY, 0, 0], "refused 10"),
     ([13, 0, 0, 0], "opened"),
@@ -54,7 +55,7 @@ const PLAIN: Steps = &[
         "f-stack 2 1:40 0:2147483472|g-stack 2 1:5 0:20|f-buffer 0|g-buffer 0",
     ),
     ([26, FIRST_TWO, 0, 0], "refused 8"),
-    ([15, 65_356, 10, 0], "taken"),
+    ([15, -180i32 as u32, 10, 0], "taken"),
     ([17, 0, 0, 0], "message 2147457147 2147482997 200"),
     ([19, 3, 0, 0], "challenged"),
     ([13, 0, 0, 0], "opened"),
@@ -71,7 +72,7 @@ const PLAIN: Steps = &[
 
 /// A change before round 1: fold 1 is -180 + 2 · -175 = -530 and 40; 10 + 2 · 20 = 50 and 5.
 const CHANGE: Steps = &[
-    ([10, 3, 0, 0], "started"),
+    ([10, 3, 1, 0], "started"),
     ([13, 0, 0, 0], "opened"),
     ([26, WHOLE, 0, 0], "taken"),
     ([17, 0, 0, 0], "total -5100"),
@@ -102,7 +103,7 @@ const VERIFIER: Steps = &[
     ([44, 0, 1, 0], "tool bad"),
     ([2, 2, 0, 0], ""),
     ([2, 3, 0, 0], ""),
-    ([30, 3, 0, 0], "started"),
+    ([30, 3, 1, 0], "started"),
     ([43, FOUR, 0, 0], "refused 8"),
     ([43, TORN, 0, 0], "refused 4"),
     ([43, TOO_HEAVY, 0, 0], "refused 5 0"),
@@ -178,14 +179,14 @@ fn prepared() -> Tool {
     tool
 }
 
-fn fill_slot(tool: &mut Tool, slot: u32, bytes: &[u8]) {
+pub fn fill_slot(tool: &mut Tool, slot: u32, bytes: &[u8]) {
     tool.step([60, slot, 0, 0]);
     for &byte in bytes {
         tool.step([61, slot, byte as u32, 0]);
     }
 }
 
-fn answers(name: &str, tool: &mut Tool, steps: Steps) -> Result<(), String> {
+pub fn answers(name: &str, tool: &mut Tool, steps: Steps) -> Result<(), String> {
     for (k, &(record, wanted)) in steps.iter().enumerate() {
         let printed = tool.step(record).trim_end().replace('\n', "|");
         if printed != wanted {
@@ -200,7 +201,7 @@ fn index_within_the_log() -> Result<(), String> {
     let tool = &mut prepared();
     fill_slot(tool, TOO_HEAVY, &[0, 0, 0xA1, 5, 0, 0, 0xA1, 5]);
     let steps: Steps = &[
-        ([10, 5, 0, 0], "started"),
+        ([10, 5, 1, 0], "started"),
         ([13, 0, 0, 0], "opened"),
         ([26, TOO_HEAVY, 0, 0], "refused 5 3"),
         ([26, LAST, 0, 0], "taken"),
@@ -208,7 +209,7 @@ fn index_within_the_log() -> Result<(), String> {
         ([2, 1, 0, 0], ""),
         ([2, 1, 0, 0], ""),
         ([2, 1, 0, 0], ""),
-        ([30, 5, 0, 0], "started"),
+        ([30, 5, 1, 0], "started"),
         ([43, TOO_HEAVY, 0, 0], "refused 5 0"),
         ([43, LAST_TWO, 0, 0], "taken"),
         ([43, TOO_HEAVY, 0, 0], "refused 5 2"),
@@ -284,10 +285,13 @@ fn one_by_one(tool: &Tool, [op, a, b, _]: Record) -> Option<Vec<Record>> {
     let single = if op < 30 { op - 11 } else { op - 10 };
     let mut items: Vec<Record> = match op {
         26 | 43 => {
-            let bytes = tool.slots.get(a as usize).filter(|bytes| bytes.len() % 4 == 0)?;
-            let number = |low: u8, high: u8| low as u32 + 256 * high as u32;
-            let item = |i: &[u8]| [single, number(i[0], i[1]), number(i[2], i[3]), 0];
-            bytes.chunks(4).map(item).collect()
+            let version = match op {
+                26 => tool.run.as_ref().map_or(0, |run| run.version),
+                _ => tool.verifier.as_ref().map_or(0, |verifier| verifier.version),
+            };
+            let whole = |bytes: &&Vec<u8>| bytes.len() % item_size(version) == 0;
+            let items = items_as_given(version, tool.slots.get(a as usize).filter(whole)?);
+            items.iter().map(|&(r, w)| [single, r as u32, w as u32, 0]).collect()
         }
         _ => {
             let numbers = tool.scratch.get(..2 * a as usize).filter(|_| a == b)?;

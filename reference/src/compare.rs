@@ -60,12 +60,12 @@ fn compare_all(programs: &Path, scratch: &Path, seed: u64, count: u64) -> Result
                 .map_err(|difference| format!("batch {batch}\n{difference}"))?;
         }
     }
-    for items in [8_191, 32_768] {
+    for (items, [alone, in_blocks]) in [(8_191, [1, 2]), (32_768, [2, 1])] {
         let seed = seed ^ items as u64;
         let lists = [
-            ("", large_list(seed, items)),
-            (" in blocks", large_list_in_blocks(seed, items, true)),
-            (" in blocks, twisted", large_list_in_blocks(seed, items, false)),
+            ("", large_list(seed, items, alone)),
+            (" in blocks", large_list_in_blocks(seed, items, in_blocks)),
+            (" in blocks, twisted", large_list_in_blocks(seed, items, 0)),
         ];
         for (name, script) in lists {
             compare_script(programs, scratch, &script, &mut report)
@@ -96,7 +96,7 @@ fn compare_trip(
         same_text(&format!("trip {}", arguments.join(" ")), &expected, &got)?;
     }
     fs::remove_dir_all(folder).ok();
-    report.count_trip(&expected);
+    report.count_trip(files.log.as_deref().unwrap_or_default(), &expected);
     Ok(())
 }
 
@@ -206,7 +206,7 @@ fn handed_over(script: &Script, place: usize) -> String {
     script.records[..place].iter().for_each(|&record| drop(tool.step(record)));
     let [op, a, ..]: Record = script.records[place];
     match op {
-        26 | 43 => tool.slots.get(a as usize).map_or(String::new(), |bytes| {
+        26 | 43 | 64 => tool.slots.get(a as usize).map_or(String::new(), |bytes| {
             format!("  slot {a}, {} bytes: {}\n", bytes.len(), hex(bytes))
         }),
         11 | 27 | 30..=32 | 40 | 44 | 59 => format!("  scratch list:{}\n", listed(&tool.scratch)),

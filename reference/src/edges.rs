@@ -13,6 +13,7 @@
 //!   total-claimed T and what a verifier's close answers, with L = 1 and the item (0, 0)
 
 use crate::field::{from_signed, half, TOTAL_LIMIT};
+use crate::files::Item;
 use crate::prover::{Buffers, Call};
 use crate::refusal::Refusal;
 use crate::state::Run;
@@ -20,7 +21,7 @@ use crate::text::listed;
 use crate::vector::{fold, fold_item, message, next_claim, opening, plain_vectors, rounds_of};
 use crate::verifier::Verifier;
 
-pub const TRIP: [(i16, u16); 3] = [(-180, 10), (-175, 20), (40, 5)];
+pub const TRIP: [Item; 3] = [(-180, 10), (-175, 20), (40, 5)];
 pub const CHALLENGES: [u64; 2] = [2, 3];
 pub const POINT: u64 = 2;
 
@@ -36,7 +37,7 @@ pub fn output() -> String {
         lines.push(format!("{mark} rounds {items} {}", rounds_of(items)));
     }
     for weight in [1_440, 1_441] {
-        let mut run = Run::start_plain(1).unwrap();
+        let mut run = Run::start_plain(1, 1).unwrap();
         call(&mut run, Call::Open).ok();
         lines.push(format!("- weight {weight} {}", worded(call(&mut run, Call::Item(1, weight)))));
     }
@@ -80,7 +81,7 @@ fn worded(answer: Result<(), Refusal>) -> String {
 
 /// A run of one item goes from its total straight to its ends.
 fn messages_of_one() -> usize {
-    let mut run = Run::start_plain(1).unwrap();
+    let mut run = Run::start_plain(1, 1).unwrap();
     for step in [Call::Open, Call::Item(7, 3), Call::Close].into_iter().cycle().take(6) {
         call(&mut run, step).unwrap();
     }
@@ -91,11 +92,11 @@ fn messages_of_one() -> usize {
 /// The limit is 32,767 times 32,769 minutes.
 fn computed(total: i64) -> Result<(), Refusal> {
     let sign = total.signum();
-    let reading = (sign * 32_767) as i16;
+    let reading = (sign * 32_767) as i32;
     let mut items = vec![(reading, 1_440); 22];
     items.push((reading, 1_089));
-    items.push(((total - sign * TOTAL_LIMIT) as i16, 1));
-    let mut run = Run::start_plain(24).unwrap();
+    items.push(((total - sign * TOTAL_LIMIT) as i32, 1));
+    let mut run = Run::start_plain(24, 1).unwrap();
     call(&mut run, Call::Open)?;
     for &(reading, weight) in items.iter().rev() {
         call(&mut run, Call::Item(reading, weight))?;
@@ -106,7 +107,7 @@ fn computed(total: i64) -> Result<(), Refusal> {
 }
 
 fn claimed(total: i64) -> Result<(), Refusal> {
-    let mut verifier = Verifier::start_plain(1, &[])?;
+    let mut verifier = Verifier::start_plain(1, 1, &[])?;
     verifier.item(0, 0)?;
     verifier.close(total)
 }

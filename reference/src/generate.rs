@@ -7,10 +7,12 @@ mod file_list;
 mod noise;
 mod plan;
 mod prover_list;
+pub mod reached;
 mod rule_list;
 pub mod script;
 pub mod trip_files;
 mod verifier_list;
+mod version_list;
 
 use crate::replay::Program;
 use plan::{Kind, Plan};
@@ -48,7 +50,7 @@ impl Batch {
     /// One list of the usual kinds.
     fn list(&mut self) {
         let Batch { runs, files } = self;
-        match runs.random.below(20) {
+        match runs.random.below(22) {
             0..=2 => file_list::files(files),
             3 => {
                 noise::run_limits(runs);
@@ -63,6 +65,10 @@ impl Batch {
                 noise::only(runs, 60);
             }
             7..=8 => batch_list::batches(runs),
+            9..=10 => {
+                version_list::runs(runs);
+                version_list::logs(files);
+            }
             _ => {
                 let plan = Plan::random(&mut runs.random);
                 run_and_verify(runs, plan);
@@ -72,17 +78,17 @@ impl Batch {
 }
 
 /// A run too large for the buffers until its folds are short enough.
-pub fn large_list(seed: u64, items: usize) -> Script {
+pub fn large_list(seed: u64, items: usize, version: u64) -> Script {
     let mut script = Script::new(Program::Runs, seed);
-    let plan = Plan::large(&mut script.random, items);
+    let plan = Plan::large(&mut script.random, items, version);
     run_and_verify(&mut script, plan);
     script
 }
 
-/// Such a run in blocks; a twisted one stays small to its end.
-pub fn large_list_in_blocks(seed: u64, items: usize, plain: bool) -> Script {
+/// Such a run in blocks; a twisted one, of version 0, stays small to its end.
+pub fn large_list_in_blocks(seed: u64, items: usize, version: u64) -> Script {
     let mut script = Script::new(Program::Runs, seed);
-    let kind = if plain { Kind::Plain } else { Kind::Twisted };
+    let kind = if version == 0 { Kind::Twisted } else { Kind::Plain(version) };
     let plan = Plan::large_in_blocks(&mut script.random, items, kind);
     run_and_verify(&mut script, plan);
     script

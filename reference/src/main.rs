@@ -23,6 +23,7 @@ mod text;
 mod trip;
 mod vector;
 mod verifier;
+mod version_checks;
 
 use replay::Program;
 use std::io::{self, Read, Write};
@@ -37,8 +38,11 @@ const USAGE: &str = "usage:
   reference edges            the edges of document 01
   reference rules            two small rule checks, one with a failing row, and refusals
   reference compartments     a batch of three logs, checked true and false, and refusals
-  reference make FOLDER      writes trip.rvl and trip.rvc from two lines on standard input:
-                               READING:WEIGHT items, as in -180:10 -175:20 40:5
+  reference make FOLDER [VERSION]
+                             writes trip.rvl, of version 1 (the default) or 2, and trip.rvc from
+                             two lines on standard input:
+                               READING:WEIGHT items, as in -180:10 -175:20 40:5, tenths of a
+                               degree, or -18000:10 -17500:20 4000:5, thousandths (version 2)
                                the challenges and then the point, as in 2 3 2
   reference compare PROGRAMS [SEED] [COUNT]
                              compares the folder's trip, replay, replay_files and examples with
@@ -71,10 +75,8 @@ fn answer(words: &[&str]) -> Result<String, String> {
         ["edges"] => Ok(edges::output()),
         ["rules"] => Ok(rules::example()),
         ["compartments"] => Ok(batch::example()),
-        ["make", folder] => {
-            let text = String::from_utf8(input()?).map_err(|error| error.to_string())?;
-            make::make(Path::new(folder), &text).map(|()| String::new())
-        }
+        ["make", folder] | ["make", folder, "1"] => make_trip(folder, 1),
+        ["make", folder, "2"] => make_trip(folder, 2),
         ["compare", programs] => compare::compare(Path::new(programs), 1, 500),
         ["compare", programs, seed] => compare::compare(Path::new(programs), number(seed)?, 500),
         ["compare", programs, seed, count] => {
@@ -83,6 +85,11 @@ fn answer(words: &[&str]) -> Result<String, String> {
         ["selftest"] => selftest::run(),
         _ => Err(USAGE.to_string()),
     }
+}
+
+fn make_trip(folder: &str, version: u64) -> Result<String, String> {
+    let text = String::from_utf8(input()?).map_err(|error| error.to_string())?;
+    make::make(Path::new(folder), version, &text).map(|()| String::new())
 }
 
 fn input() -> Result<Vec<u8>, String> {

@@ -1,6 +1,23 @@
 //! Seeded numbers (splitmix64), so that a difference can be met again.
 
 use crate::field::P;
+use crate::files::readings;
+
+/// At the limits of either version and past them, and where 32 bits and P end.
+pub const EDGE_READINGS: [i32; 12] = [
+    -32_768,
+    32_767,
+    -32_769,
+    32_768,
+    40_000,
+    -1_000_000,
+    1_000_000,
+    -1_000_001,
+    1_000_001,
+    i32::MIN,
+    i32::MAX,
+    i32::MAX - 1,
+];
 
 pub struct Random(u64);
 
@@ -59,18 +76,54 @@ impl Random {
         }
     }
 
-    pub fn reading(&mut self) -> i16 {
+    pub fn version(&mut self) -> u64 {
+        self.pick(&[1, 2])
+    }
+
+    /// One that is neither.
+    pub fn other_version(&mut self) -> u64 {
+        self.pick(&[0, 3, 258, 65_537, 65_538, u32::MAX as u64])
+    }
+
+    /// In the version's range.
+    pub fn reading(&mut self, version: u64) -> i32 {
+        let (low, high) = (*readings(version).start(), *readings(version).end());
         match self.below(6) {
-            0 => self.pick(&[i16::MIN, -1, 0, 1, i16::MAX]),
-            1 => self.between(0, 400) as i16 - 300,
-            _ => self.next() as i16,
+            0 => self.edge_reading(|reading| readings(version).contains(reading)),
+            1 => self.pick(&[-1, 0, 1, low, high]),
+            2 => self.between(0, 400) as i32 - 300,
+            _ => low + self.below((high - low) as u64 + 1) as i32,
         }
     }
 
-    pub fn weight(&mut self) -> u16 {
+    /// Out of the version's range.
+    pub fn reading_outside(&mut self, version: u64) -> i32 {
+        self.edge_reading(|reading| !readings(version).contains(reading))
+    }
+
+    fn edge_reading(&mut self, wanted: impl Fn(&i32) -> bool) -> i32 {
+        let edges: Vec<i32> = EDGE_READINGS.into_iter().filter(wanted).collect();
+        self.pick(&edges)
+    }
+
+    /// Mostly one with which about as many items reach the total's limits in either version.
+    pub fn weight(&mut self, version: u64) -> u16 {
         match self.below(6) {
-            0 => self.pick(&[0, 1, 1_440]),
-            _ => self.below(1_441) as u16,
+            0 => self.pick(&[0, 1, usual_weight(version)]),
+            1 if self.chance(100) => 1_440,
+            _ => self.below(usual_weight(version) as u64 + 1) as u16,
         }
+    }
+
+    pub fn weight_over(&mut self) -> u16 {
+        self.pick(&[1_441, 1_442, 32_768, 65_535])
+    }
+}
+
+/// With the widest reading, 22 items of this weight stay within the total's limits and 23 do not.
+pub fn usual_weight(version: u64) -> u16 {
+    match version {
+        2 => 47,
+        _ => 1_440,
     }
 }

@@ -1,4 +1,4 @@
-//! What a refused call carries: its number and, for 5 and 13 to 15, an index.
+//! What a refused call carries: its number and, for 5, 13 to 15 and 18, an index.
 
 use std::fmt;
 

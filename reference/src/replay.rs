@@ -6,6 +6,7 @@
 mod file_calls;
 
 use crate::batch;
+use crate::files::Item;
 use crate::prover::{Answer, Buffers, Call, Stack};
 use crate::refusal::Refusal;
 use crate::state::Run;
@@ -73,8 +74,8 @@ fn answered<T: Display>(answer: Result<T, Refusal>) -> String {
     answer.map_or_else(|refusal| refusal.to_string(), |value| value.to_string())
 }
 
-fn plain_item(reading: u32, weight: u32) -> Option<(i16, u16)> {
-    Some((u16::try_from(reading).ok()? as i16, u16::try_from(weight).ok()?))
+fn plain_item(reading: u32, weight: u32) -> Option<Item> {
+    Some((reading as i32, u16::try_from(weight).ok()?))
 }
 
 /// The first a numbers of a list and the next b of it.
@@ -179,7 +180,7 @@ impl Tool {
 
     fn start_prover(&mut self, op: u32, a: u64, b: u64) -> String {
         let run = match op {
-            10 => Run::start_plain(a),
+            10 => Run::start_plain(a, b),
             11 => Run::start_twisted(a, &self.scratch),
             12 => Run::start_rule(a, b),
             _ => batch::start(a, &self.slots, b, &self.scratch),
@@ -232,7 +233,7 @@ impl Tool {
 
     fn start_verifier(&mut self, op: u32, a: u64, b: u64) -> String {
         let verifier = match op {
-            30 => Verifier::start_plain(a, &self.scratch),
+            30 => Verifier::start_plain(a, b, &self.scratch),
             31 if b > self.scratch.len() as u64 => return BAD.to_string(),
             31 => {
                 let (twists, challenges) = self.scratch.split_at(b as usize);

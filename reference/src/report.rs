@@ -1,6 +1,7 @@
 //! What a comparison has covered. What it should reach and did not makes it fail.
 
 use crate::generate::blocks::{Counts, ALWAYS_REFUSED, WHERE};
+use crate::generate::reached::Reached;
 use crate::generate::script::Script;
 
 /// Blocks and batches stand apart from the other calls of a prover and a verifier.
@@ -20,16 +21,16 @@ const GROUPS: [&str; 11] = [
 
 /// The refusals that documents 01 and 02 allow in each group.
 const WANTED: [&[usize]; GROUPS.len()] = [
-    &[1, 2, 3, 4, 5, 6, 7],
-    &[3, 5, 6, 7, 8, 9, 10, 16],
-    &[1, 2, 3, 4, 5, 6, 7, 8, 10, 11, 12, 16],
-    &[1, 2, 3, 4, 5, 6, 7, 9, 11, 13, 14, 15, 16],
-    &[4, 5, 8, 9, 10],
+    &[1, 2, 3, 4, 5, 6, 7, 18],
+    &[2, 3, 5, 6, 7, 8, 9, 10, 16, 18],
+    &[1, 2, 3, 4, 5, 6, 7, 8, 10, 11, 12, 16, 18],
+    &[1, 2, 3, 4, 5, 6, 7, 9, 11, 13, 14, 15, 16, 18],
+    &[4, 5, 8, 9, 10, 18],
     &[8, 9, 10, 16],
-    &[4, 5, 8, 10],
+    &[4, 5, 8, 10, 18],
     &[8, 10, 16],
-    &[1, 2, 3, 4, 5, 6, 10, 17],
-    &[1, 2, 3, 4, 5, 6],
+    &[1, 2, 3, 4, 5, 6, 10, 17, 18],
+    &[1, 2, 3, 4, 5, 6, 18],
     &[6, 10, 11, 17],
 ];
 
@@ -39,20 +40,22 @@ const FOUND: [&str; 3] = ["yes", "no at 0", "no at a j"];
 #[derive(Default)]
 pub struct Report {
     /// By group, then by refusal number.
-    refused: [[u64; 18]; GROUPS.len()],
+    refused: [[u64; 19]; GROUPS.len()],
     answered: [u64; GROUPS.len()],
     blocks: Counts,
     yes: u64,
     no: u64,
     batches: [u64; FOUND.len()],
+    reached: Reached,
     trips: u64,
     lists: u64,
     pub programs: u64,
 }
 
 impl Report {
-    pub fn count_trip(&mut self, output: &str) {
+    pub fn count_trip(&mut self, log: &[u8], output: &str) {
         self.trips += 1;
+        self.reached.note_trip(log, output);
         self.count(0, output);
     }
 
@@ -79,6 +82,7 @@ impl Report {
             }
         }
         self.count_batches(script);
+        self.reached.add(&script.reached);
         let counted = self.blocks.iter_mut().flatten().flatten();
         for (sum, count) in counted.zip(script.blocks.iter().flatten().flatten()) {
             *sum += count;
@@ -110,7 +114,10 @@ impl Report {
     }
 
     pub fn finish(&self) -> Result<String, String> {
-        let missing = self.missing_refusals() + &self.missing_blocks() + &self.missing_batches();
+        let missing = self.missing_refusals()
+            + &self.missing_blocks()
+            + &self.missing_batches()
+            + &self.reached.missing();
         match missing.is_empty() {
             true => Ok(self.table()),
             false => Err(missing + &self.table()),
@@ -148,8 +155,8 @@ impl Report {
     }
 
     fn table(&self) -> String {
-        let mut text =
-            self.columns(0..4) + &self.columns(4..8) + &self.columns(8..11) + &self.places();
+        let columns = self.columns(0..4) + &self.columns(4..8) + &self.columns(8..11);
+        let mut text = columns + &self.places() + &self.reached.table();
         let calls =
             self.refused[1..].iter().flatten().chain(&self.answered[1..]).copied().sum::<u64>();
         text += &format!(
@@ -174,7 +181,7 @@ impl Report {
             format!("{name:>8}{}\n", cells.collect::<String>())
         };
         let mut text = row("refused", &|group| GROUPS[group].to_string());
-        for number in 1..=17 {
+        for number in 1..=18 {
             if WANTED[groups.clone()].iter().any(|wanted| wanted.contains(&number)) {
                 text += &row(&number.to_string(), &|group| self.refused[group][number].to_string());
             }

@@ -6,7 +6,7 @@ use crate::files::write_log;
 use crate::random::Random;
 use crate::replay::{Program, Tool};
 use crate::text::listed;
-use crate::{batch, block_checks, random_runs, rules, trip};
+use crate::{batch, block_checks, random_runs, rules, trip, version_checks};
 
 const PAPER_TRIP: &str = "total -5100
 round 0 2147482047 2147478297 2147480147
@@ -53,7 +53,8 @@ another value at j 2: no 2";
 pub fn run() -> Result<String, String> {
     let numbers: Vec<u8> =
         CHALLENGES.iter().chain(&[POINT]).flat_map(|&c| (c as u32).to_le_bytes()).collect();
-    alike("the paper's trip", PAPER_TRIP, &trip::output(&write_log(&TRIP), &numbers))?;
+    alike("the paper's trip", PAPER_TRIP, &trip::output(&write_log(1, &TRIP), &numbers))?;
+    version_checks::run(&numbers)?;
     let paper = PAPER_TRIP
         .replace("round", "* message")
         .replace("ends", "* ends")
@@ -86,7 +87,7 @@ pub fn run() -> Result<String, String> {
     Ok("selftest passed\n".to_string())
 }
 
-fn alike(name: &str, wanted: &str, got: &str) -> Result<(), String> {
+pub fn alike(name: &str, wanted: &str, got: &str) -> Result<(), String> {
     match wanted == got {
         true => Ok(()),
         false => Err(format!("{name}: wanted\n{wanted}\ngot\n{got}")),
@@ -121,7 +122,7 @@ fn rule_verdicts() -> String {
 fn replayed(change: usize) -> String {
     let tool = &mut Tool::new(Program::Runs);
     tool.lent = (4, 4);
-    call(tool, 10, [3, 0, 0]);
+    call(tool, 10, [3, 1, 0]);
     let mut text = pass(tool, 13, 0) + "\n";
     let (mut messages, mut opening) = (Vec::new(), Vec::new());
     for step in 0..=3 {
@@ -170,7 +171,7 @@ fn call(tool: &mut Tool, op: u32, numbers: [u64; 3]) -> String {
 fn pass(tool: &mut Tool, op: u32, point: u64) -> String {
     call(tool, op, [point, 0, 0]);
     for (reading, weight) in TRIP.iter().rev() {
-        call(tool, 15, [*reading as u16 as u64, *weight as u64, 0]);
+        call(tool, 15, [*reading as u32 as u64, *weight as u64, 0]);
     }
     call(tool, 17, [0; 3])
 }
@@ -187,9 +188,9 @@ fn verified(tool: &mut Tool, messages: &[[u64; 3]], opening: &[u64]) -> String {
     let mut answers = Vec::new();
     for by_file in [false, true] {
         tool.scratch = CHALLENGES.to_vec();
-        call(tool, 30, [3, 0, 0]);
+        call(tool, 30, [3, 1, 0]);
         for (reading, weight) in TRIP {
-            call(tool, 33, [reading as u16 as u64, weight as u64, 0]);
+            call(tool, 33, [reading as u32 as u64, weight as u64, 0]);
         }
         if by_file {
             call(tool, 24, [256, 0, 0]);

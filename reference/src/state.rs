@@ -43,6 +43,8 @@ pub struct Pass {
 #[derive(Clone, Debug, PartialEq)]
 pub struct Run {
     pub plain: bool,
+    /// 1 or 2; a run that is not plain is told none and has 0.
+    pub version: u64,
     pub items: usize,
     pub rounds: usize,
     pub twists: Vec<u64>,
@@ -56,31 +58,33 @@ pub struct Run {
 }
 
 impl Run {
-    pub fn start_plain(items: u64) -> Result<Run, Refusal> {
-        table::start(items)?;
+    pub fn start_plain(items: u64, version: u64) -> Result<Run, Refusal> {
+        table::start_plain(items, version)?;
         let items = items as usize;
-        Ok(Run::fresh(true, items, vec![1; rounds_of(items)]))
+        let fresh = Run::fresh(items, vec![1; rounds_of(items)]);
+        Ok(Run { plain: true, version, ..fresh })
     }
 
     pub fn start_twisted(items: u64, twists: &[u64]) -> Result<Run, Refusal> {
         table::start_twisted(items, twists)?;
-        Ok(Run::fresh(false, items as usize, twists.to_vec()))
+        Ok(Run::fresh(items as usize, twists.to_vec()))
     }
 
     pub fn start_rule(rounds: u64, v: u64) -> Result<Run, Refusal> {
         table::start_rule(rounds, v)?;
-        Ok(Run::fresh(false, 1 << rounds, rule_twists(rounds as usize, v)))
+        Ok(Run::fresh(1 << rounds, rule_twists(rounds as usize, v)))
     }
 
     /// Of a batch: its challenges are known, and its openings are next.
     pub fn at_openings(items: usize, challenges: &[u64]) -> Run {
-        let fresh = Run::fresh(false, items, vec![1; rounds_of(items)]);
+        let fresh = Run::fresh(items, vec![1; rounds_of(items)]);
         Run { next: Next::Openings, challenges: challenges.to_vec(), ..fresh }
     }
 
-    fn fresh(plain: bool, items: usize, twists: Vec<u64>) -> Run {
+    fn fresh(items: usize, twists: Vec<u64>) -> Run {
         Run {
-            plain,
+            plain: false,
+            version: 0,
             items,
             rounds: rounds_of(items),
             twists,

@@ -1,7 +1,7 @@
 //! Document 01, "One trip, whole": what `trip` prints, in whichever mode it works.
 
 use crate::field::{is_usable, within_limits};
-use crate::files::read_log;
+use crate::files::{read_log, Log};
 use crate::refusal::{require, Refusal};
 use crate::vector::{self, fold, fold_item, opening, rounds_of};
 use crate::verifier::{Verdict, Verifier};
@@ -24,7 +24,7 @@ pub fn output(log: &[u8], numbers: &[u8]) -> String {
 }
 
 fn accepted(log: &[u8], numbers: &[u8]) -> Result<String, Refusal> {
-    let items = read_log(log, MOST_ITEMS)?;
+    let Log { version, items } = read_log(log, MOST_ITEMS)?;
     let rounds = rounds_of(items.len());
     require(numbers.len() == 4 * (rounds + 1), 4)?;
     let number = |bytes: &[u8]| u32::from_le_bytes(bytes.try_into().unwrap()) as u64;
@@ -34,7 +34,7 @@ fn accepted(log: &[u8], numbers: &[u8]) -> Result<String, Refusal> {
     require(within_limits(total), 7)?;
     let (challenges, point) = (&numbers[..rounds], numbers[rounds]);
 
-    let mut verifier = Verifier::start_plain(items.len() as u64, challenges)?;
+    let mut verifier = Verifier::start_plain(items.len() as u64, version, challenges)?;
     for &(reading, weight) in &items {
         verifier.item(reading, weight)?;
     }

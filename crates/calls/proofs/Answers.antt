@@ -44,10 +44,10 @@ use Rattle.calls.specs.Step.{Lent, Result, isAnswered, leaving, step}
 use Rattle.calls.specs.State.{State, fresh, takesGiven, takesChallenge, buffersIn, goesOn, closed, follow}
 use Rattle.calls.specs.Table.{Refusal, passWaits, openingsNext, passLevel, taken, table}
 use Rattle.calls.specs.Meaning.{meant, closeAsks, foldF, foldG, messagesTo, AsLeft, challengeWrites, Kept}
-use Rattle.calls.specs.Statement.{Sized, HasStacks, Stacks, Holds, Right}
+use Rattle.calls.specs.Statement.{HasStacks, Stacks, Holds, Right}
 use Rattle.calls.specs.World.{Made, World, freshWorld, came, onward}
 use Rattle.calls.specs.Lists.{along, always}
-use Rattle.calls.specs.Demand3.{AllSized, AllKept, AllRight}
+use Rattle.calls.specs.Demand3.{AllKept, AllRight}
 use Rattle.calls.specs.Starts.{Startable}
 use Rattle.calls.proofs.Records.{Notes, noNotes, noted, refusal-noted, runOf, passOf}
 use Rattle.calls.proofs.Guards.{challengeDoes}
@@ -169,7 +169,7 @@ module _ (p : ℕ) (large : maxWeight < p) (through : Bool) (its : List Given) w
       }
 
   -- ONE CALL
-  module _ (a : State) {past : Notes} (h : Fits p a past) (g : Agrees p through its a past) (whole : length its ≡ a .start .items) (c : Call) (z : Sized c) (l : Lent) where
+  module _ (a : State) {past : Notes} (h : Fits p a past) (g : Agrees p through its a past) (whole : length its ≡ a .start .items) (c : Call) (l : Lent) where
     abbrev U : Trip
     U = tripAt its a
 
@@ -177,35 +177,35 @@ module _ (p : ℕ) (large : maxWeight < p) (through : Bool) (its : List Given) w
     came-to t = settled (runOf a past) (passOf p a past) l t (does p (runOf a past) (passOf p a past) c l)
 
     right-so : (t : Option Refusal) → table p a c l ≡ t → (isAnswered (came-to t .answer) ≡ true → Kept p U through a c l) → t ≡ none → Right p U a c l (came-to t)
-    right-so none e kept free = right p large through its a h g whole l c e (kept-by p U through a c l (kept (goes p large a h c z l e .0)))
+    right-so none e kept free = right p large through its a h g whole l c e (kept-by p U through a c l (kept (goes p large a h c l e .0)))
     right-so (some k) e kept free = absurd (some-none free)
 
     agrees-so : (t : Option Refusal) → table p a c l ≡ t → (isAnswered (came-to t .answer) ≡ true → Kept p U through a c l)
         → Agrees p through its (follow a c (came-to t)) (noted past (came-to t .answer))
     agrees-so none e kept =
         let o : Result = does p (runOf a past) (passOf p a past) c l in
-        let yes = goes p large a h c z l e .0 in
+        let yes = goes p large a h c l e .0 in
         subst (λ b. Agrees p through its (cond b (goesOn a c (o .lent)) a) (noted past (o .answer))) (sym yes) (agrees-next p large through its a h g whole l c e (kept-by p U through a c l (kept yes)))
     agrees-so (some k) e kept =
         let o : Result = refusedResult (runOf a past) (passOf p a past) l k in
         subst (λ b. Agrees p through its (cond b (goesOn a c (o .lent)) a) (noted past (o .answer))) (sym (refused-with _ (k .0) (k .1)))
         (subst (Agrees p through its a) (sym (refusal-noted past (k .0) (k .1))) g)
 
-  pub right-step : (a : State) {past : Notes} (r : Run) (s : Pass) → Inv p large a past r s → Agrees p through its a past → length its ≡ a .start .items → (c : Call) → Sized c → (l : Lent)
+  pub right-step : (a : State) {past : Notes} (r : Run) (s : Pass) → Inv p large a past r s → Agrees p through its a past → length its ≡ a .start .items → (c : Call) → (l : Lent)
       → (isAnswered (step p r s c l .answer) ≡ true → Kept p (tripAt its a) through a c l) → table p a c l ≡ none → Right p (tripAt its a) a c l (step p r s c l)
-  right-step a {past} r s i g whole c z l =
+  right-step a {past} r s i g whole c l =
       let P : Result → Type 0 = λ o. (isAnswered (o .answer) ≡ true → Kept p (tripAt its a) through a c l) → table p a c l ≡ none → Right p (tripAt its a) a c l o in
       subst (λ r. P (step p r s c l)) (sym (i .run))
       (subst (λ s. P (step p (runOf a past) s c l)) (sym (i .pass))
-      (subst P (sym (step-is p large a (i .fits) c l)) (right-so a (i .fits) g whole c z l (table p a c l) refl)))
+      (subst P (sym (step-is p large a (i .fits) c l)) (right-so a (i .fits) g whole c l (table p a c l) refl)))
 
-  pub agrees-step : (a : State) {past : Notes} (r : Run) (s : Pass) → Inv p large a past r s → Agrees p through its a past → length its ≡ a .start .items → (c : Call) → Sized c → (l : Lent)
+  pub agrees-step : (a : State) {past : Notes} (r : Run) (s : Pass) → Inv p large a past r s → Agrees p through its a past → length its ≡ a .start .items → (c : Call) → (l : Lent)
       → (isAnswered (step p r s c l .answer) ≡ true → Kept p (tripAt its a) through a c l) → Agrees p through its (follow a c (step p r s c l)) (noted past (step p r s c l .answer))
-  agrees-step a {past} r s i g whole c z l =
+  agrees-step a {past} r s i g whole c l =
       let P : Result → Type 0 = λ o. (isAnswered (o .answer) ≡ true → Kept p (tripAt its a) through a c l) → Agrees p through its (follow a c o) (noted past (o .answer)) in
       subst (λ r. P (step p r s c l)) (sym (i .run))
       (subst (λ s. P (step p (runOf a past) s c l)) (sym (i .pass))
-      (subst P (sym (step-is p large a (i .fits) c l)) (agrees-so a (i .fits) g whole c z l (table p a c l) refl)))
+      (subst P (sym (step-is p large a (i .fits) c l)) (agrees-so a (i .fits) g whole c l (table p a c l) refl)))
 
 -- the start stays
 buffers-start : (b : Bool) (a : State) (l : Lent) → buffersIn b a l .start ≡ a .start
@@ -257,7 +257,7 @@ module _ (p : ℕ) (large : maxWeight < p) (through : Bool) (T : Trip) (whole : 
       subst (λ U. Holds p through U (w .state) (w .pass)) (same-trip w g)
       (holds-at p large through (T .items) (w .state) (w .run) (w .pass) (g .faithful) (g .agrees))
 
-  module _ (w : World) {past : Notes} (g : Going w past) (m : Made) (z : Sized (m .call))
+  module _ (w : World) {past : Notes} (g : Going w past) (m : Made)
       (kept : isAnswered (came p w m .answer) ≡ true → Kept p T through (w .state) (m .call) (m .lent)) where
     full : length (T .items) ≡ w .state .start .items
     full = whole ∙ ap (λ s. s .items) (sym (g .start))
@@ -268,22 +268,22 @@ module _ (p : ℕ) (large : maxWeight < p) (through : Bool) (T : Trip) (whole : 
     pub right-here : table p (w .state) (m .call) (m .lent) ≡ none → Right p T (w .state) (m .call) (m .lent) (came p w m)
     right-here free =
         subst (λ U. Right p U (w .state) (m .call) (m .lent) (came p w m)) (same-trip w g)
-        (right-step p large through (T .items) (w .state) (w .run) (w .pass) (g .faithful) (g .agrees) full (m .call) z (m .lent) own-kept free)
+        (right-step p large through (T .items) (w .state) (w .run) (w .pass) (g .faithful) (g .agrees) full (m .call) (m .lent) own-kept free)
 
     pub goes-on : Going (onward p w m) (noted past (came p w m .answer))
     goes-on =
         record {
-          faithful = faithful-on p large w (g .faithful) m z;
+          faithful = faithful-on p large w (g .faithful) m;
           start = follow-start (w .state) (m .call) (came p w m) ∙ g .start;
-          agrees = agrees-step p large through (T .items) (w .state) (w .run) (w .pass) (g .faithful) (g .agrees) full (m .call) z (m .lent) own-kept;
+          agrees = agrees-step p large through (T .items) (w .state) (w .run) (w .pass) (g .faithful) (g .agrees) full (m .call) (m .lent) own-kept;
         }
 
-  pub all-right : (w : World) {past : Notes} → Going w past → (ms : List Made) → AllSized p w ms → AllKept p through T w ms → AllRight p through T w ms
+  pub all-right : (w : World) {past : Notes} → Going w past → (ms : List Made) → AllKept p through T w ms → AllRight p through T w ms
   unfolding along always
-  all-right w g [] z kept = (tt, holds-here w g)
-  all-right w g (m ∷ ms) z kept =
-      let rest = all-right (onward p w m) (goes-on w g m (z .0) (kept .0)) ms (z .1) (kept .1) in
-      ((right-here w g m (z .0) (kept .0), rest .0), (holds-here w g, rest .1))
+  all-right w g [] kept = (tt, holds-here w g)
+  all-right w g (m ∷ ms) kept =
+      let rest = all-right (onward p w m) (goes-on w g m (kept .0)) ms (kept .1) in
+      ((right-here w g m (kept .0), rest .0), (holds-here w g, rest .1))
 
   -- nothing is known of the buffers of a fresh run
   pub fresh-agrees : (f g : List ℕ) → Agrees p through (T .items) (fresh (T .start) f g) noNotes

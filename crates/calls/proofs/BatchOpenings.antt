@@ -34,7 +34,7 @@ use Rattle.calls.specs.Given.{BatchChecked}
 use Rattle.calls.specs.Starts.{Startable, Whole, batchRows}
 use Rattle.calls.specs.Begins.{openings, openingsWorld}
 use Rattle.calls.specs.BatchTrip.{batchTrip}
-use Rattle.calls.specs.Demand3.{AllSized, AllKept}
+use Rattle.calls.specs.Demand3.{AllKept}
 use Rattle.calls.proofs.Turns.{both}
 use Rattle.calls.proofs.Begins.{opens-going}
 use Rattle.calls.proofs.BatchTakes.{batch-takes, begun-pointed}
@@ -81,18 +81,18 @@ module _ (p : ℕ) (large : maxWeight < p) (prime : Prime p) (odd : p % 2 ≡ 1)
 
     pub batch-checked : (through : Bool) (f g : List ℕ) (ms : List Made)
         → (let w : World = openingsWorld (T .start) cs f g in
-        AllSized p w ms → AllKept p through T w ms → (s : Start) → Startable s → s .rounds ≡ T .start .rounds → (qs : List Posed)
+        AllKept p through T w ms → (s : Start) → Startable s → s .rounds ≡ T .start .rounds → (qs : List Posed)
         → BatchChecked p T w ms z m logs (after (hearsOn p) (freshHearing s cs) qs))
-    batch-checked through f g ms sized kept s h same qs x values gave own listed each file =
+    batch-checked through f g ms kept s h same qs x values gave own listed each file =
         let b = batch-free p m logs z cs free in
         let o = b .opens in
         let n : ℕ = T .start .rounds in
         let whole : Whole T = batch-whole p z m logs (o .start .least) (o .start .most) in
         let w : World = openingsWorld (T .start) cs f g in
-        let takes = batch-takes p large (T .start) cs o f g ms sized in
-        let hit = hit-somewhere p large through T (whole .items) cs _ _ w (opens-going p large through T (whole .items) cs o f g) ms sized kept takes gave in
+        let takes = batch-takes p large (T .start) cs o f g ms in
+        let hit = hit-somewhere p large through T (whole .items) cs _ _ w (opens-going p large through T (whole .items) cs o f g) ms kept takes gave in
         let opened = opening-of p large through T (whole .items) cs x values (hit .0) (sym (hit .1) ∙ hit-replies p large through T (whole .items) cs _ (hit .0)) in
-        let ok = both (isNonzero p x) (ltb 0 n) (begun-pointed p large (T .start) (openings cs) o f g ms sized x _ gave) in
+        let ok = both (isNonzero p x) (ltb 0 n) (begun-pointed p large (T .start) (openings cs) o f g ms x _ gave) in
         let st = stands-still p s cs h qs in
         let few : n ≤ 15 = omega (arith, o .start .rounds, rounds-at-most (mostItems logs m) (o .start .most)) in
         batch-told s (omega (arith, few, same)) (subst (λ k. 0 < k) (sym same) (o .rounds)) cs (o .listed ∙ sym same) _ _ (st .0) (st .1) (st .2) m z x (b .counted) (b .base) (ok .0)

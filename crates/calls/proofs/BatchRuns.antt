@@ -13,7 +13,7 @@ use Rattle.calls.specs.Proper.{Valid, Brings, Host, openingCalls}
 use Rattle.calls.specs.Begins.{openingsWorld, batchRun}
 use Rattle.calls.specs.Starts.{Opens}
 use Rattle.calls.specs.Demand3.{AllAnswered, AllProper}
-use Rattle.calls.proofs.LiveWorld.{Lives, lives-answered, lives-sized, lives-kept}
+use Rattle.calls.proofs.LiveWorld.{Lives, lives-answered, lives-kept}
 use Rattle.calls.proofs.LiveTakes.{last-quiet, all-take}
 use Rattle.calls.proofs.Live.{after-ends}
 use Rattle.calls.proofs.Begins.{opensNotes, opens-going}
@@ -44,7 +44,6 @@ module _ (p : ℕ) (large : maxWeight < p) (T : Trip) (valid : Valid p T) (k : �
   pub batch-proper : AllProper p cs T (begin .world) (batchRun p T k cs bs l)
   batch-proper = (
     answered,
-    lives-sized p T true begin (openingCalls T k bs) (lives true),
     (λ through. lives-kept p T through begin (openingCalls T k bs) (lives through)),
     all-take p T cs (openingCalls T k bs) begin answered (ap (λ ds. cs ++ ds) (last-quiet T k bs) ∙ append-nil cs),
   )

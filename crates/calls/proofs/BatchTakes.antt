@@ -18,7 +18,6 @@ use Rattle.item.specs.declared.Start.{Start}
 use Rattle.calls.specs.declared.Call.{Call}
 use Rattle.calls.specs.declared.Call.the-variants as call
 use Rattle.calls.specs.Lists.{after, along, always}
-use Rattle.calls.specs.Statement.{Sized}
 use Rattle.calls.specs.Step.{Lent, Result, isAnswered}
 use Rattle.calls.specs.State.{State, Turn, closed, goesOn, follow}
 use Rattle.calls.specs.Table.{table}
@@ -27,7 +26,7 @@ use Rattle.calls.specs.Meaning.{openingAt, Answer}
 use Rattle.calls.specs.Given.{Gave}
 use Rattle.calls.specs.Begins.{Begin, total, openings, CanBegin, begun, openingsWorld}
 use Rattle.calls.specs.Starts.{Opens}
-use Rattle.calls.specs.Demand3.{AllSized, AllTake}
+use Rattle.calls.specs.Demand3.{AllTake}
 use Rattle.calls.proofs.Records.{Notes}
 use Rattle.calls.proofs.Steps.{row-passed}
 use Rattle.calls.proofs.Turns.{both}
@@ -82,41 +81,41 @@ module _ (p : ℕ) (cs : List ℕ) where
       by true e = goes-late a c l (o .lent) (free e) h
       by false e = h
 
-  late-always : (large : maxWeight < p) (w : World) {past : Notes} → Faithful p large w past → Late cs (w .state .turn) → (ms : List Made) → AllSized p w ms
+  late-always : (large : maxWeight < p) (w : World) {past : Notes} → Faithful p large w past → Late cs (w .state .turn) → (ms : List Made)
       → always (onward p) (λ w. Late cs (w .state .turn)) w ms
   unfolding along always
-  late-always large w i h [] z = h
-  late-always large w i h (m ∷ ms) z =
+  late-always large w i h [] = h
+  late-always large w i h (m ∷ ms) =
       let a : State = w .state in
       let o : Result = came p w m in
       let free : isAnswered (o .answer) ≡ true → table p a (m .call) (m .lent) ≡ none =
-      λ y. answered-none (w .run) (w .pass) (m .lent) (table p a (m .call) (m .lent)) o (decide-step p large a (w .run) (w .pass) i (m .call) (z .0) (m .lent)) y in (
+      λ y. answered-none (w .run) (w .pass) (m .lent) (table p a (m .call) (m .lent)) o (decide-step p large a (w .run) (w .pass) i (m .call) (m .lent)) y in (
         h,
-        late-always large (onward p w m) (faithful-on p large w i m (z .0)) (follow-late a (m .call) (m .lent) o free h) ms (z .1),
+        late-always large (onward p w m) (faithful-on p large w i m) (follow-late a (m .call) (m .lent) o free h) ms,
       )
 
 module _ (p : ℕ) (large : maxWeight < p) where
-  late-batch : (s : Start) (cs : List ℕ) → Opens s cs → (f g : List ℕ) (ms : List Made) → AllSized p (openingsWorld s cs f g) ms
+  late-batch : (s : Start) (cs : List ℕ) → Opens s cs → (f g : List ℕ) (ms : List Made)
       → always (onward p) (λ w. Late cs (w .state .turn)) (openingsWorld s cs f g) ms
-  late-batch s cs o f g ms z =
-      late-always p cs large (openingsWorld s cs f g) (opens-faithful p large s cs o f g) (record { openings = refl; challenges = refl }) ms z
+  late-batch s cs o f g ms =
+      late-always p cs large (openingsWorld s cs f g) (opens-faithful p large s cs o f g) (record { openings = refl; challenges = refl }) ms
 
   -- a batch's list takes the challenges that it began with
-  pub batch-takes : (s : Start) (cs : List ℕ) → Opens s cs → (f g : List ℕ) (ms : List Made) → AllSized p (openingsWorld s cs f g) ms
+  pub batch-takes : (s : Start) (cs : List ℕ) → Opens s cs → (f g : List ℕ) (ms : List Made)
       → AllTake p cs (openingsWorld s cs f g) ms
-  batch-takes s cs o f g ms z =
+  batch-takes s cs o f g ms =
       always-so (onward p) (λ w. Late cs (w .state .turn)) _ (λ w h j less. ap (λ ds. at ds j) (h .challenges)) (openingsWorld s cs f g) ms
-      (late-batch s cs o f g ms z)
+      (late-batch s cs o f g ms)
 
   -- and has them before its last call
   pub batch-challenges : (s : Start) (cs : List ℕ) → Opens s cs → (f g : List ℕ) (ms : List Made) (m : Made)
-      → AllSized p (openingsWorld s cs f g) (ms ++ m ∷ []) → after (onward p) (openingsWorld s cs f g) ms .state .turn .challenges ≡ cs
-  batch-challenges s cs o f g ms m z =
+      → after (onward p) (openingsWorld s cs f g) ms .state .turn .challenges ≡ cs
+  batch-challenges s cs o f g ms m =
       always-last (onward p) (λ w. Late cs (w .state .turn)) (openingsWorld s cs f g) ms
-      (late-batch s cs o f g ms (along-first (onward p) (λ w m. Sized (m .call)) (openingsWorld s cs f g) ms m z)) .challenges
+      (late-batch s cs o f g ms) .challenges
 
-  pub begun-pointed : (s : Start) (b : Begin) → CanBegin s b → (f g : List ℕ) (ms : List Made) → AllSized p (begun s b f g) ms → (x : ℕ) (y : Answer)
+  pub begun-pointed : (s : Start) (b : Begin) → CanBegin s b → (f g : List ℕ) (ms : List Made) → (x : ℕ) (y : Answer)
       → Gave p (begun s b f g) ms (openingAt x) y → (isNonzero p x && ltb 0 (s .rounds)) ≡ true
-  begun-pointed s total h f g ms z x y gave = gave-pointed p large (begun s total f g) (begun-faithful p large s total h f g) refl ms z x y gave
-  begun-pointed s (openings cs) h f g ms z x y gave =
-      gave-pointed p large (begun s (openings cs) f g) (begun-faithful p large s (openings cs) h f g) refl ms z x y gave
+  begun-pointed s total h f g ms x y gave = gave-pointed p large (begun s total f g) (begun-faithful p large s total h f g) refl ms x y gave
+  begun-pointed s (openings cs) h f g ms x y gave =
+      gave-pointed p large (begun s (openings cs) f g) (begun-faithful p large s (openings cs) h f g) refl ms x y gave

@@ -16,13 +16,13 @@ use Rattle.vector.specs.Opening.{evaluate, openingOf}
 use Rattle.vector.proofs.Horner.{evaluate-same}
 use Rattle.item.specs.declared.Given.the-variants.{Reading}
 use Rattle.item.specs.Item.{contributes, readingNumber}
-use Rattle.wire.specs.Log.{logCount, readingOf, weightOf, readLog}
+use Rattle.wire.specs.Log.{Head, logCount, readingOf, weightOf, readLog}
 use Rattle.wire.proofs.LogSays.{GoodLog, items-found}
 use Rattle.runs.specs.Trip.{Trip, vectorF}
 use Rattle.runs.proofs.CloseLaws.{residue-below}
 use Rattle.r1cs.proofs.RuleTotals.{padded-same}
 use Rattle.batch.specs.Batch.{numberOf, readingsOf, combined, mostItems, logValue}
-use Rattle.batch.proofs.Laws.{log-good, reading-beyond, padded-self, combined-one, log-read}
+use Rattle.batch.proofs.Laws.{log-good, log-counted, reading-beyond, padded-self, combined-one, log-read}
 use Rattle.calls.specs.Lists.{after}
 use Rattle.calls.specs.Step.{isAnswered}
 use Rattle.calls.specs.World.{Made, World, came, onward}
@@ -32,7 +32,7 @@ use Rattle.calls.specs.Proper.{Valid}
 use Rattle.calls.specs.Starts.{Opens, batchRows}
 use Rattle.calls.specs.Begins.{openings, openingsWorld}
 use Rattle.calls.specs.BatchTrip.{batchTrip, logTrip}
-use Rattle.calls.specs.Demand3.{AllSized, AllKept}
+use Rattle.calls.specs.Demand3.{AllKept}
 use Rattle.calls.proofs.RuleTrips.{items-at}
 use Rattle.calls.proofs.BatchTrips.{batch-whole, batch-vector-f, item-at}
 use Rattle.calls.proofs.BatchTakes.{batch-challenges}
@@ -68,27 +68,27 @@ module _ (p : ℕ) (large : maxWeight < p) (m : ℕ) (logs : List (List ℕ)) (z
       let v : World = openingsWorld (T .start) cs f′ g′ in
       let x : World = after (onward p) w ms in
       let y : World = after (onward p) v ns in
-      AllSized p w (ms ++ a ∷ []) → AllSized p v (ns ++ b ∷ []) → AllKept p th T w (ms ++ a ∷ []) → AllKept p th′ T v (ns ++ b ∷ [])
+      AllKept p th T w (ms ++ a ∷ []) → AllKept p th′ T v (ns ++ b ∷ [])
       → question (x .state) (a .call) ≡ question (y .state) (b .call) → isAnswered (came p x a .answer) ≡ true
       → isAnswered (came p y b .answer) ≡ true → replyOf (came p x a) ≡ replyOf (came p y b))
-  batch-alike prime odd word th th′ f g f′ g′ ms ns a b z z′ kept kept′ =
-      demand3 p large prime odd word .alike T (batch-valid .whole) (openings cs) (openings cs) opens opens th th′ f g f′ g′ ms ns a b z z′ kept kept′
-      (batch-challenges p large (T .start) cs opens f g ms a z ∙ sym (batch-challenges p large (T .start) cs opens f′ g′ ns b z′))
+  batch-alike prime odd word th th′ f g f′ g′ ms ns a b kept kept′ =
+      demand3 p large prime odd word .alike T (batch-valid .whole) (openings cs) (openings cs) opens opens th th′ f g f′ g′ ms ns a b kept kept′
+      (batch-challenges p large (T .start) cs opens f g ms a ∙ sym (batch-challenges p large (T .start) cs opens f′ g′ ns b))
 
 -- A BATCH OF ONE, of a good log: its vector is f of the log's own plain run, and so are its values
-module _ (p z : ℕ) (log : List ℕ) (rest : List (List ℕ)) (items : ℕ) (good : readLog log ≡ answered items) where
+module _ (p z : ℕ) (log : List ℕ) (rest : List (List ℕ)) (head : Head) (good : readLog log ≡ answered head) where
   abbrev logs : List (List ℕ)
   logs = log ∷ rest
 
-  counted : GoodLog log items
-  counted = log-good log items good
+  counted : GoodLog log head
+  counted = log-good log head good
 
   one-most : mostItems logs 1 ≡ logCount log
   unfolding mostItems
   one-most = let e : max 0 (logCount log) ≡ logCount log = omega arith in e
 
   reading-at : (i : ℕ) → i < logCount log → readingsOf p log i ≡ readingNumber p (readingOf log i)
-  reading-at i less = ap (numberOf p) (items-found log items counted i (omega (arith, counted .counted)))
+  reading-at i less = ap (numberOf p) (items-found log head counted i less)
 
   one-vector : vectorF p (logTrip log) ≡ padded (logCount log) (readingsOf p log)
   one-vector =
@@ -122,9 +122,9 @@ module _ (p z : ℕ) (log : List ℕ) (rest : List (List ℕ)) (items : ℕ) (go
   pub batch-one-value : (b : ℕ) → isNonzero p b ≡ true
       → logValue p log b ≡ answered (evaluate p (2 ^ logTrip log .start .rounds) (vectorF p (logTrip log)) b)
   batch-one-value b ok =
-      log-read p log b items good
-      ∙ ap (λ t. require t number.argument (answered (evaluate p (2 ^ roundsOf items) (readingsOf p log) b))) ok
-      ∙ ap (λ n. answered (evaluate p (2 ^ roundsOf n) (readingsOf p log) b)) (sym (counted .counted))
+      log-read p log b head good
+      ∙ ap (λ t. require t number.argument (answered (evaluate p (2 ^ roundsOf (head .count)) (readingsOf p log) b))) ok
+      ∙ ap (λ n. answered (evaluate p (2 ^ roundsOf n) (readingsOf p log) b)) (sym (log-counted counted))
       ∙ ap answered (evaluate-same p _ (readingsOf p log) (padded (logCount log) (readingsOf p log)) b
-      (λ i less. padded-self (logCount log) (readingsOf p log) (λ i l. reading-beyond p log i (omega (arith, counted .frame .size))) i))
+      (λ i less. padded-self (logCount log) (readingsOf p log) (λ i l. reading-beyond p log (logCount log) i (counted .frame .size) l) i))
       ∙ ap (λ v. answered (evaluate p (2 ^ roundsOf (logCount log)) v b)) (sym one-vector)

@@ -23,10 +23,10 @@ use Rattle.calls.specs.Step.{Lent, Result, isAnswered, leaving}
 use Rattle.calls.specs.State.{State}
 use Rattle.calls.specs.Table.{Refusal, refusedWith}
 use Rattle.calls.specs.World.{Made, World, came, onward}
-use Rattle.calls.specs.Statement.{Sized, Decides}
+use Rattle.calls.specs.Statement.{Decides}
 use Rattle.calls.specs.Begins.{Begin, CanBegin, begun}
-use Rattle.calls.specs.Demand3.{AllSized, AllAnswered}
-use Rattle.calls.specs.Blocks.{blockTable, withItems, Wide, made, given, SizedWide, blockCame, wideOn, single, singles, StandsFor, BlockDecided, WideDecided, standing, expanded}
+use Rattle.calls.specs.Demand3.{AllAnswered}
+use Rattle.calls.specs.Blocks.{blockTable, withItems, Wide, made, given, blockCame, wideOn, single, ownSingles, StandsFor, BlockDecided, WideDecided, standing, expanded}
 use Rattle.calls.proofs.Records.{Notes, noted, runOf, passOf}
 use Rattle.calls.proofs.Steps.{some-none, settled, refusedResult, leaving-so}
 use Rattle.calls.proofs.Fits.{few, formed, kind-is, taken-is}
@@ -60,16 +60,16 @@ module _ {W M : Type 0} (next : W → M → W) where
 
 module _ (p : ℕ) (large : maxWeight < p) where
   -- ONE BLOCK
-  module _ (w : World) {past : Notes} (i : Faithful p large w past) (b : Block) (z : (j : ℕ) → j < count b → Sized (call.Give (itemAt b j))) (l : Lent) where
+  module _ (w : World) {past : Notes} (i : Faithful p large w past) (b : Block) (l : Lent) where
     abbrev did : Result
-    did = leaving l (block p large b w (count b) l)
+    did = leaving l (block p large (w .state .start .version) b w (count (w .state .start .version) b) l)
 
     came-so : blockCame p w b l ≡ settled (w .run) (w .pass) l (blockTable p (w .state) b l) did
     came-so =
         let a : State = w .state in
         let h = i .fits in
         let So : Run → Pass → Type 0 =
-        λ r s. leaving l (leaves r s (l .f) (l .g) (itemsCall p r s b (l .f) (l .g))) ≡ settled r s l (blockTable p a b l) (leaving l (takesAll p r b (count b) s (l .f) (l .g))) in
+        λ r s. leaving l (leaves r s (l .f) (l .g) (itemsCall p r s b (l .f) (l .g))) ≡ settled r s l (blockTable p a b l) (leaving l (takesAll p r b (count (a .start .version) b) s (l .f) (l .g))) in
         let here : So (runOf a past) (passOf p a past) =
         ap (λ o. leaving l (leaves (runOf a past) (passOf p a past) (l .f) (l .g) o))
         (block-decided p a past (few p a h) (passOf p a past) (formed p a h) (kind-is p a h) (taken-is p a h) b l)
@@ -77,16 +77,16 @@ module _ (p : ℕ) (large : maxWeight < p) where
         subst (λ r. So r (w .pass)) (sym (i .run)) (subst (λ s. So (runOf a past) s) (sym (i .pass)) here)
 
     did-answer : did .answer ≡ answered reply.taken
-    did-answer = all-answer p (w .run) b (count b) (w .pass) (l .f) (l .g)
+    did-answer = all-answer p (w .run) b (count (w .state .start .version) b) (w .pass) (l .f) (l .g)
 
     decided-so : (t : Option Refusal) → Decides (w .run) (w .pass) l t (settled (w .run) (w .pass) l t did)
     decided-so none = ap isAnswered did-answer
     decided-so (some k) = refl
 
-    block-singly : blockTable p (w .state) b l ≡ none → Singly p large b w (count b) l
+    block-singly : blockTable p (w .state) b l ≡ none → Singly p large (w .state .start .version) b w (count (w .state .start .version) b) l
     block-singly e =
         let h = block-admits p (w .state) b l e in
-        singly p large b (count b) w i z l (h .0) (h .1)
+        singly p large (w .state .start .version) b (count (w .state .start .version) b) w i refl l (h .0) (h .1)
 
     stands-for : blockTable p (w .state) b l ≡ none → StandsFor p w b l
     stands-for e =
@@ -96,21 +96,21 @@ module _ (p : ℕ) (large : maxWeight < p) where
           answer = ap (λ (o : Result). o .answer) o ∙ did-answer;
           answers = h .answers;
           same =
-              ap (λ (o : Result). (let v : World = record { state = cond (isAnswered (o .answer)) (withItems (w .state) b (count b) (o .lent)) (w .state); run = o .run; pass = o .pass } in v)) o
-              ∙ ap₂ (λ (c : Bool) (r : Run). (let v : World = record { state = cond c (withItems (w .state) b (count b) (did .lent)) (w .state); run = r; pass = did .pass } in v))
-              (ap isAnswered did-answer) (all-run p (w .run) b (count b) (w .pass) (l .f) (l .g))
+              ap (λ (o : Result). (let v : World = record { state = cond (isAnswered (o .answer)) (withItems (w .state) b (count (w .state .start .version) b) (o .lent)) (w .state); run = o .run; pass = o .pass } in v)) o
+              ∙ ap₂ (λ (c : Bool) (r : Run). (let v : World = record { state = cond c (withItems (w .state) b (count (w .state .start .version) b) (did .lent)) (w .state); run = r; pass = did .pass } in v))
+              (ap isAnswered did-answer) (all-run p (w .run) b (count (w .state .start .version) b) (w .pass) (l .f) (l .g))
               ∙ sym (h .world);
           buffers = ap (λ (o : Result). o .lent) o ∙ sym (h .buffers);
         }
 
-    refused-so : (k : Refusal) → blockTable p (w .state) b l ≡ some k → isWhole b ≡ true → 0 < count b
-        → somewhere (onward p) (λ w m. isAnswered (came p w m .answer) ≡ false) w (singles p w b (count b) l)
+    refused-so : (k : Refusal) → blockTable p (w .state) b l ≡ some k → isWhole (w .state .start .version) b ≡ true → 0 < count (w .state .start .version) b
+        → somewhere (onward p) (λ w m. isAnswered (came p w m .answer) ≡ false) w (ownSingles p w b l)
     refused-so k e whole more =
-        ⊎-elim {C = somewhere (onward p) (λ w m. isAnswered (came p w m .answer) ≡ false) w (singles p w b (count b) l)}
-        (λ (all : AllAnswered p w (singles p w b (count b) l)).
-        let h = admitted p large b (count b) more w i z l all in
+        ⊎-elim {C = somewhere (onward p) (λ w m. isAnswered (came p w m .answer) ≡ false) w (ownSingles p w b l)}
+        (λ (all : AllAnswered p w (ownSingles p w b l)).
+        let h = admitted p large (w .state .start .version) b (count (w .state .start .version) b) more w i l all in
         absurd (some-none (sym e ∙ block-free p (w .state) b l (h .0) more whole (h .1))))
-        (λ h. h) (all-or-some (onward p) (λ w m. isAnswered (came p w m .answer)) w (singles p w b (count b) l))
+        (λ h. h) (all-or-some (onward p) (λ w m. isAnswered (came p w m .answer)) w (ownSingles p w b l))
 
     block-is : BlockDecided p w b l
     block-is =
@@ -126,78 +126,66 @@ module _ (p : ℕ) (large : maxWeight < p) where
     pub faithful : Faithful p large (wideOn p w x) notes
     pub decided : WideDecided p w x
     pub same : wideOn p w x ≡ after (onward p) w (standing p w x)
-    pub sized : AllSized p w (standing p w x)
 
-  singles-sized : (m : ℕ) (w : World) (b : Block) → ((j : ℕ) → j < m → Sized (call.Give (itemAt b j))) → (l : Lent) → AllSized p w (singles p w b m l)
-  unfolding along singles
-  singles-sized zero w b z l = tt
-  singles-sized (suc m) w b z l = (z m (omega arith), singles-sized m _ b (λ j u. z j (omega arith)) _)
-
-  faithful-after : (w : World) {past : Notes} → Faithful p large w past → (ms : List Made) → AllSized p w ms → (n : Notes) × Faithful p large (after (onward p) w ms) n
+  faithful-after : (w : World) {past : Notes} → Faithful p large w past → (ms : List Made) → (n : Notes) × Faithful p large (after (onward p) w ms) n
   unfolding after along
-  faithful-after w {past} i [] z = (past, i)
-  faithful-after w i (m ∷ ms) z = faithful-after (onward p w m) (faithful-on p large w i m (z .0)) ms (z .1)
+  faithful-after w {past} i [] = (past, i)
+  faithful-after w i (m ∷ ms) = faithful-after (onward p w m) (faithful-on p large w i m) ms
 
-  block-moved : (w : World) {past : Notes} → Faithful p large w past → (b : Block) → ((j : ℕ) → j < count b → Sized (call.Give (itemAt b j))) → (l : Lent) → Moved w (given b l)
+  block-moved : (w : World) {past : Notes} → Faithful p large w past → (b : Block) → (l : Lent) → Moved w (given b l)
   unfolding after along
-  block-moved w {past} i b z l = by (blockTable p (w .state) b l) refl
+  block-moved w {past} i b l = by (blockTable p (w .state) b l) refl
     where
       is : BlockDecided p w b l
-      is = block-is w i b z l
+      is = block-is w i b l
 
       ms : List Made
-      ms = singles p w b (count b) l
+      ms = ownSingles p w b l
 
       by : (t : Option Refusal) → blockTable p (w .state) b l ≡ t → Moved w (given b l)
       by none e =
           let h = is .stands e in
           let so : standing p w (given b l) ≡ ms = ap (λ (o : Outcome Reply). cond (isAnswered o) ms []) (h .answer) in
-          let all : AllSized p w ms = singles-sized (count b) w b z l in
-          let f = faithful-after w i ms all in
+          let f = faithful-after w i ms in
           record {
             notes = f .0;
             faithful = subst (λ v. Faithful p large v (f .0)) (sym (h .same)) (f .1);
             decided = is;
             same = h .same ∙ ap (after (onward p) w) (sym so);
-            sized = subst (AllSized p w) (sym so) all;
           }
       by (some k) e =
           let o : blockCame p w b l ≡ refusedResult (w .run) (w .pass) l k = subst (λ t. Decides (w .run) (w .pass) l t (blockCame p w b l)) e (is .decided) in
           let no : isAnswered (refusedWith {A = Reply} (k .0) (k .1)) ≡ false = refused-with Reply (k .0) (k .1) in
           let so : standing p w (given b l) ≡ [] = ap (λ (o : Result). cond (isAnswered (o .answer)) ms []) o ∙ ap (λ c. cond c ms []) no in
           let still : wideOn p w (given b l) ≡ w =
-          ap (λ (o : Result). (let v : World = record { state = cond (isAnswered (o .answer)) (withItems (w .state) b (count b) (o .lent)) (w .state); run = o .run; pass = o .pass } in v)) o
-          ∙ ap (λ (c : Bool). (let v : World = record { state = cond c (withItems (w .state) b (count b) l) (w .state); run = w .run; pass = w .pass } in v)) no in
+          ap (λ (o : Result). (let v : World = record { state = cond (isAnswered (o .answer)) (withItems (w .state) b (count (w .state .start .version) b) (o .lent)) (w .state); run = o .run; pass = o .pass } in v)) o
+          ∙ ap (λ (c : Bool). (let v : World = record { state = cond c (withItems (w .state) b (count (w .state .start .version) b) l) (w .state); run = w .run; pass = w .pass } in v)) no in
           record {
             notes = past;
             faithful = subst (λ v. Faithful p large v past) (sym still) i;
             decided = is;
             same = still ∙ ap (after (onward p) w) (sym so);
-            sized = subst (AllSized p w) (sym so) tt;
           }
 
-  moved : (w : World) {past : Notes} → Faithful p large w past → (x : Wide) → SizedWide x → Moved w x
+  moved : (w : World) {past : Notes} → Faithful p large w past → (x : Wide) → Moved w x
   unfolding after along
-  moved w {past} i (made m) z = record { notes = noted past (came p w m .answer); faithful = faithful-on p large w i m z; decided = tt; same = refl; sized = (z, tt) }
-  moved w i (given b l) z = block-moved w i b z l
+  moved w {past} i (made m) = record { notes = noted past (came p w m .answer); faithful = faithful-on p large w i m; decided = tt; same = refl }
+  moved w i (given b l) = block-moved w i b l
 
   -- EVERY LIST
-  pub all-blocks : (w : World) {past : Notes} → Faithful p large w past → (xs : List Wide) → along (wideOn p) (λ w x. SizedWide x) w xs
-      → along (wideOn p) (WideDecided p) w xs × (after (wideOn p) w xs ≡ after (onward p) w (expanded p w xs)) × AllSized p w (expanded p w xs)
+  pub all-blocks : (w : World) {past : Notes} → Faithful p large w past → (xs : List Wide)
+      → along (wideOn p) (WideDecided p) w xs × (after (wideOn p) w xs ≡ after (onward p) w (expanded p w xs))
   unfolding along after expanded
-  all-blocks w i [] z = (tt, refl, tt)
-  all-blocks w i (x ∷ xs) z =
-      let m = moved w i x (z .0) in
-      let rest = all-blocks (wideOn p w x) (m .faithful) xs (z .1) in (
+  all-blocks w i [] = (tt, refl)
+  all-blocks w i (x ∷ xs) =
+      let m = moved w i x in
+      let rest = all-blocks (wideOn p w x) (m .faithful) xs in (
         (m .decided, rest .0),
         rest .1 ∙ ap (λ v. after (onward p) v (expanded p (wideOn p w x) xs)) (m .same) ∙ sym (after-both (onward p) w (standing p w x) (expanded p (wideOn p w x) xs)),
-        along-both (onward p) (λ w m. Sized (m .call)) w (standing p w x) (expanded p (wideOn p w x) xs) (m .sized)
-            (subst (λ v. AllSized p v (expanded p (wideOn p w x) xs)) (m .same) (rest .2)),
       )
 
   -- wherever the run begins
   pub begun-blocks : (s : Start) (b : Begin) → CanBegin s b → (f g : List ℕ) (xs : List Wide)
       → (let w : World = begun s b f g in
-      along (wideOn p) (λ w x. SizedWide x) w xs
-      → along (wideOn p) (WideDecided p) w xs × (after (wideOn p) w xs ≡ after (onward p) w (expanded p w xs)) × AllSized p w (expanded p w xs))
+      along (wideOn p) (WideDecided p) w xs × (after (wideOn p) w xs ≡ after (onward p) w (expanded p w xs)))
   begun-blocks s b h f g xs = all-blocks (begun s b f g) (begun-faithful p large s b h f g) xs

@@ -42,7 +42,7 @@ use Rattle.calls.specs.Step.{Lent, Result, isAnswered, leaving, step}
 use Rattle.calls.specs.State.{State, Turn, Taking, inPass, withBuffers, buffersIn, takesGiven, follow}
 use Rattle.calls.specs.Table.{Refusal, levelNow, row, placeRow, table}
 use Rattle.calls.specs.World.{Made, World, came, onward}
-use Rattle.calls.specs.Statement.{Sized, Decides}
+use Rattle.calls.specs.Statement.{Decides}
 use Rattle.calls.specs.Demand3.{AllAnswered}
 use Rattle.calls.specs.Blocks.{onto, withItems, single, singles, leftBy}
 use Rattle.calls.proofs.Records.{Notes, noted, runOf, passOf}
@@ -114,16 +114,20 @@ placeIn s t q m n =
     row (not (isChange (q .kind)) || (leb long m && leb long n)) 9 none
 
 -- one more item, and m of a block
-more-items : (a : State) (b : Block) (m : ℕ) (l k : Lent) → (m ≡ 0 → k ≡ l) → withItems (takesGiven a (itemAt b m) l) b m k ≡ withItems a b (suc m) k
+more-items : (a : State) (b : Block) (m : ℕ) (l k : Lent) → (m ≡ 0 → k ≡ l)
+    → withItems (takesGiven a (itemAt (a .start .version) b m) l) b m k ≡ withItems a b (suc m) k
 unfolding onto
-more-items a b zero l k h = ap (takesGiven a (itemAt b 0)) (sym (h refl))
+more-items a b zero l k h = ap (takesGiven a (itemAt (a .start .version) b 0)) (sym (h refl))
 more-items a b (suc m) l k h = by (isChange (a .pass .kind)) refl
   where
+    version : ℕ
+    version = a .start .version
+
     one : State
-    one = inPass a (a .pass .kind) (a .pass .point) (itemAt b (suc m) ∷ a .pass .items)
+    one = inPass a (a .pass .kind) (a .pass .point) (itemAt version b (suc m) ∷ a .pass .items)
 
     all : List Given
-    all = onto b (suc (suc m)) (a .pass .items)
+    all = onto version b (suc (suc m)) (a .pass .items)
 
     by : (c : Bool) → isChange (a .pass .kind) ≡ c
         → withItems (buffersIn c one l) b (suc m) k ≡ buffersIn (isChange (a .pass .kind)) (inPass a (a .pass .kind) (a .pass .point) all) k
@@ -131,6 +135,14 @@ more-items a b (suc m) l k h = by (isChange (a .pass .kind)) refl
         ap (λ c. buffersIn c (inPass (withBuffers one l) (a .pass .kind) (a .pass .point) all) k) e
         ∙ sym (ap (λ c. buffersIn c (inPass a (a .pass .kind) (a .pass .point) all) k) e)
     by false e = refl
+
+-- the last item of a block first, read by any number that is the run's version
+last-first : (p : ℕ) (r : Run) (b : Block) (m : ℕ) (s : Pass) (f g : List ℕ) (v : ℕ) → v ≡ r .start .version
+    → (let o : Out = takes p r s (contributes p (r .start) (itemAt v b m)) f g in
+    takesAll p r b m (o .pass) (o .f) (o .g) ≡ takesAll p r b (suc m) s f g)
+unfolding takesAll takesAllIn takes
+last-first p r b m s f g v e =
+    ap (λ v. (let o : Out = takes p r s (contributes p (r .start) (itemAt v b m)) f g in takesAll p r b m (o .pass) (o .f) (o .g))) e
 
 module _ (p : ℕ) (large : maxWeight < p) where
   -- AN ANSWERED ITEM
@@ -163,9 +175,9 @@ module _ (p : ℕ) (large : maxWeight < p) where
         (takes-run p (w .run) (w .pass) (contributes p (w .run .start) x) (l .f) (l .g))
 
   -- THE ITEMS OF A BLOCK
-  module _ (b : Block) where
+  module _ (v : ℕ) (b : Block) where
     abbrev AdmitsHere : State → ℕ → Type 0
-    AdmitsHere a m = Admits p (a .start) (a .pass .kind) (length (a .pass .items)) b m
+    AdmitsHere a m = Admits p (a .start) (a .pass .kind) (length (a .pass .items)) v b m
 
     abbrev pub block : World → ℕ → Lent → Out
     block w m l = takesAll p (w .run) b m (w .pass) (l .f) (l .g)
@@ -177,25 +189,25 @@ module _ (p : ℕ) (large : maxWeight < p) where
     blockWorld w m l = record { state = withItems (w .state) b m (blockLeft w m l); run = w .run; pass = block w m l .pass }
 
     pub record Singly (w : World) (m : ℕ) (l : Lent) : Type 0 where
-      pub answers : along (onward p) (λ w m. came p w m .answer ≡ answered reply.taken) w (singles p w b m l)
-      pub world : after (onward p) w (singles p w b m l) ≡ blockWorld w m l
-      pub buffers : leftBy p w b m l ≡ blockLeft w m l
+      pub answers : along (onward p) (λ w m. came p w m .answer ≡ answered reply.taken) w (singles p v w b m l)
+      pub world : after (onward p) w (singles p v w b m l) ≡ blockWorld w m l
+      pub buffers : leftBy p v w b m l ≡ blockLeft w m l
 
     nothing-left : (w : World) (m : ℕ) (l : Lent) → m ≡ 0 → blockLeft w m l ≡ l
     unfolding takesAll takesAllIn
     nothing-left w zero l e = refl
     nothing-left w (suc m) l e = absurd (omega arith)
 
-    item-free : (a : State) (m : ℕ) (l : Lent) → AdmitsHere a (suc m) → placeRow a l ≡ none → table p a (call.Give (itemAt b m)) l ≡ none
+    item-free : (a : State) (m : ℕ) (l : Lent) → AdmitsHere a (suc m) → placeRow a l ≡ none → table p a (call.Give (itemAt v b m)) l ≡ none
     unfolding table
     item-free a m l h place =
         let less : length (a .pass .items) < a .start .items = omega (arith, h .wanted) in
         row-free _ 10 _ (h .opened) (row-free _ 8 _ (lt-ltb _ _ less) (h .each m (omega arith) _ _ ∙ place))
 
-    still-admits : (a : State) (m : ℕ) (l : Lent) → AdmitsHere a (suc m) → AdmitsHere (takesGiven a (itemAt b m) l) m
+    still-admits : (a : State) (m : ℕ) (l : Lent) → AdmitsHere a (suc m) → AdmitsHere (takesGiven a (itemAt v b m) l) m
     still-admits a m l h =
-        in-buffers (λ s t q. Admits p s (q .kind) (length (q .items)) b m) (isChange (a .pass .kind))
-        (inPass a (a .pass .kind) (a .pass .point) (itemAt b m ∷ a .pass .items)) l
+        in-buffers (λ s t q. Admits p s (q .kind) (length (q .items)) v b m) (isChange (a .pass .kind))
+        (inPass a (a .pass .kind) (a .pass .point) (itemAt v b m ∷ a .pass .items)) l
         (record { opened = h .opened; wanted = omega (arith, h .wanted); each = λ j u. h .each j (omega arith) })
 
     still-place : (a : State) (x : Given) (l k : Lent) → length (k .f) ≡ length (l .f) → length (k .g) ≡ length (l .g) → placeRow a l ≡ none → placeRow (takesGiven a x k) k ≡ none
@@ -203,38 +215,46 @@ module _ (p : ℕ) (large : maxWeight < p) where
         in-buffers (λ s t q. placeIn s t q (length (k .f)) (length (k .g)) ≡ none) (isChange (a .pass .kind)) (inPass a (a .pass .kind) (a .pass .point) (x ∷ a .pass .items)) k
         (ap₂ (λ m n. placeIn (a .start) (a .turn) (a .pass) m n) ef eg ∙ place)
 
-    pub singly : (m : ℕ) (w : World) {past : Notes} → Faithful p large w past → ((j : ℕ) → j < m → Sized (call.Give (itemAt b j))) → (l : Lent) → AdmitsHere (w .state) m
+    pub singly : (m : ℕ) (w : World) {past : Notes} → Faithful p large w past → v ≡ w .state .start .version → (l : Lent) → AdmitsHere (w .state) m
         → placeRow (w .state) l ≡ none → Singly w m l
     unfolding along after singles leftBy takesAll takesAllIn takes
-    singly zero w i z l h place = record { answers = tt; world = refl; buffers = refl }
-    singly (suc m) w {past} i z l h place =
-        let x : Given = itemAt b m in
+    singly zero w i own l h place = record { answers = tt; world = refl; buffers = refl }
+    singly (suc m) w {past} i own l h place =
+        let x : Given = itemAt v b m in
         let free = item-free (w .state) m l h place in
         let e = moves w i x l free in
-        let v : World = onwardWith w i x l free in
+        let u : World = onwardWith w i x l free in
         let k : Lent = left w i x l free in
-        let o : Out = gave w i x l free in
         let lengths = takes-long p (w .run) (w .pass) (contributes p (w .run .start) x) (l .f) (l .g) in
-        let later : Notes = noted past (came p w (single p b m l) .answer) in
-        let faithful : Faithful p large v later = subst (λ (q : World × Lent). Faithful p large (q .0) later) e (faithful-on p large w i (single p b m l) (z m (omega arith))) in
-        let rest : Singly v m k =
-        singly m v {past = later} faithful (λ j u. z j (omega arith)) k (still-admits (w .state) m k h) (still-place (w .state) x l k (lengths .0) (lengths .1) place) in
+        let later : Notes = noted past (came p w (single p v b m l) .answer) in
+        let faithful : Faithful p large u later = subst (λ (q : World × Lent). Faithful p large (q .0) later) e (faithful-on p large w i (single p v b m l)) in
+        let still : v ≡ u .state .start .version =
+        in-buffers (λ s t q. v ≡ s .version) (isChange (w .state .pass .kind)) (inPass (w .state) (w .state .pass .kind) (w .state .pass .point) (x ∷ w .state .pass .items)) k own in
+        let rest : Singly u m k =
+        singly m u {past = later} faithful still k (still-admits (w .state) m k h) (still-place (w .state) x l k (lengths .0) (lengths .1) place) in
+        let all : block u m k ≡ block w (suc m) l =
+        last-first p (w .run) b m (w .pass) (l .f) (l .g) v (own ∙ sym (ap (λ r. r .start .version) (i .run))) in
+        let grown : withItems (takesGiven (w .state) x k) b m (blockLeft u m k) ≡ withItems (w .state) b (suc m) (blockLeft u m k) =
+        ap (λ v. withItems (takesGiven (w .state) (itemAt v b m) k) b m (blockLeft u m k)) own ∙ more-items (w .state) b m k (blockLeft u m k) (nothing-left u m k) in
         record {
           answers = (
             ap (λ (o : Result). o .answer) (came-is w i x l free) ∙ takes-answer p (w .run) (w .pass) (contributes p (w .run .start) x) (l .f) (l .g),
-            subst (λ (q : World × Lent). along (onward p) (λ w m. came p w m .answer ≡ answered reply.taken) (q .0) (singles p (q .0) b m (q .1))) (sym e) (rest .answers),
+            subst (λ (q : World × Lent). along (onward p) (λ w m. came p w m .answer ≡ answered reply.taken) (q .0) (singles p v (q .0) b m (q .1))) (sym e) (rest .answers),
           );
           world =
-              ap (λ (q : World × Lent). after (onward p) (q .0) (singles p (q .0) b m (q .1))) e
+              ap (λ (q : World × Lent). after (onward p) (q .0) (singles p v (q .0) b m (q .1))) e
               ∙ rest .world
-              ∙ ap (λ s. record { state = s; run = w .run; pass = block v m k .pass }) (more-items (w .state) b m k (blockLeft v m k) (nothing-left v m k));
-          buffers = ap (λ (q : World × Lent). leftBy p (q .0) b m (q .1)) e ∙ rest .buffers;
+              ∙ ap (λ s. (let z : World = record { state = s; run = w .run; pass = block u m k .pass } in z)) grown
+              ∙ ap (λ (o : Out). (let z : World = record { state = withItems (w .state) b (suc m) (record { f = o .f; g = o .g; file = l .file }); run = w .run; pass = o .pass } in z)) all;
+          buffers =
+              ap (λ (q : World × Lent). leftBy p v (q .0) b m (q .1)) e ∙ rest .buffers
+              ∙ ap (λ (o : Out). (let z : Lent = record { f = o .f; g = o .g; file = l .file } in z)) all;
         }
 
     -- AN ITEM THAT WAS ANSWERED
-    was-free : (w : World) {past : Notes} → Faithful p large w past → (x : Given) → Sized (call.Give x) → (l : Lent)
+    was-free : (w : World) {past : Notes} → Faithful p large w past → (x : Given) → (l : Lent)
         → isAnswered (came p w (record { call = call.Give x; lent = l }) .answer) ≡ true → table p (w .state) (call.Give x) l ≡ none
-    was-free w i x z l e = by (table p (w .state) (call.Give x) l) (decide-step p large (w .state) (w .run) (w .pass) i (call.Give x) z l)
+    was-free w i x l e = by (table p (w .state) (call.Give x) l) (decide-step p large (w .state) (w .run) (w .pass) i (call.Give x) l)
       where
         by : (t : Option Refusal) → Decides (w .run) (w .pass) l t (step p (w .run) (w .pass) (call.Give x) l) → t ≡ none
         by none d = refl
@@ -251,30 +271,30 @@ module _ (p : ℕ) (large : maxWeight < p) where
 
     -- a pass with n items taken lets m more through
     abbrev Let : ℕ → Start → Turn → Taking → Type 0
-    Let m s t q = (length (q .items) + m ≤ s .items) × ((j : ℕ) → j < m → Passes p s (itemAt b j))
+    Let m s t q = (length (q .items) + m ≤ s .items) × ((j : ℕ) → j < m → Passes p s (itemAt v b j))
 
-    let-through : (m : ℕ) (w : World) {past : Notes} → Faithful p large w past → ((j : ℕ) → j < m → Sized (call.Give (itemAt b j))) → (l : Lent)
-        → AllAnswered p w (singles p w b m l) → Held (Let m) (w .state)
+    let-through : (m : ℕ) (w : World) {past : Notes} → Faithful p large w past → (l : Lent)
+        → AllAnswered p w (singles p v w b m l) → Held (Let m) (w .state)
     unfolding along singles
-    let-through zero w i z l e = (omega (arith, i .fits .pass .count), λ j u. absurd (omega arith))
-    let-through (suc m) w i z l e =
+    let-through zero w i l e = (omega (arith, i .fits .pass .count), λ j u. absurd (omega arith))
+    let-through (suc m) w i l e =
         let a : State = w .state in
-        let k : Lent = came p w (single p b m l) .lent in
-        let here = item-rows a (itemAt b m) l (was-free w i (itemAt b m) (z m (omega arith)) l (e .0)) in
-        let there = let-through m (onward p w (single p b m l)) (faithful-on p large w i (single p b m l) (z m (omega arith))) (λ j u. z j (omega arith)) k (e .1) in
-        let next = out-of-buffers (Let m) (isChange (a .pass .kind)) (inPass a (a .pass .kind) (a .pass .point) (itemAt b m ∷ a .pass .items)) k
-        (subst (λ c. Held (Let m) (cond c (takesGiven a (itemAt b m) k) a)) (e .0) there) in
+        let k : Lent = came p w (single p v b m l) .lent in
+        let here = item-rows a (itemAt v b m) l (was-free w i (itemAt v b m) l (e .0)) in
+        let there = let-through m (onward p w (single p v b m l)) (faithful-on p large w i (single p v b m l)) k (e .1) in
+        let next = out-of-buffers (Let m) (isChange (a .pass .kind)) (inPass a (a .pass .kind) (a .pass .point) (itemAt v b m ∷ a .pass .items)) k
+        (subst (λ c. Held (Let m) (cond c (takesGiven a (itemAt v b m) k) a)) (e .0) there) in
         (omega (arith, next .0), λ j u. ⊎-elim (λ (q : j ≡ m). rw q (here .1)) (λ (q : j < m). next .1 j q) (eq-or-lt-of-le (at-most j m u)))
       where
         at-most : (j m : ℕ) → j < suc m → j ≤ m
         at-most j m h = omega arith
 
     -- where every one of its items was answered, its rows let it through
-    pub admitted : (m : ℕ) → 0 < m → (w : World) {past : Notes} → Faithful p large w past → ((j : ℕ) → j < m → Sized (call.Give (itemAt b j))) → (l : Lent)
-        → AllAnswered p w (singles p w b m l) → AdmitsHere (w .state) m × (placeRow (w .state) l ≡ none)
+    pub admitted : (m : ℕ) → 0 < m → (w : World) {past : Notes} → Faithful p large w past → (l : Lent)
+        → AllAnswered p w (singles p v w b m l) → AdmitsHere (w .state) m × (placeRow (w .state) l ≡ none)
     unfolding along singles
-    admitted zero more w i z l e = absurd (omega arith)
-    admitted (suc m) more w i z l e =
-        let here = item-rows (w .state) (itemAt b m) l (was-free w i (itemAt b m) (z m (omega arith)) l (e .0)) in
-        let all = let-through (suc m) w i z l e in
+    admitted zero more w i l e = absurd (omega arith)
+    admitted (suc m) more w i l e =
+        let here = item-rows (w .state) (itemAt v b m) l (was-free w i (itemAt v b m) l (e .0)) in
+        let all = let-through (suc m) w i l e in
         (record { opened = here .0; wanted = all .0; each = all .1 }, here .2)

@@ -24,12 +24,11 @@ use Rattle.calls.specs.Step.{Lent, Result, isAnswered}
 use Rattle.calls.specs.State.{State, goesOn}
 use Rattle.calls.specs.World.{Made, World, freshWorld, came, onward}
 use Rattle.calls.specs.Meaning.{Question, total, roundMessage, ends, openingAt, proof, done, question, Answer, meant, proofOfTrip, Kept}
-use Rattle.calls.specs.Statement.{Sized}
 use Rattle.calls.specs.QueryState.{VerifierState, freshVerifierState, Posed, Hearing, freshHearing}
 use Rattle.calls.specs.Given.{replyOf, Gave, Wrote}
 use Rattle.calls.specs.Proper.{Valid, Brings, properRun}
 use Rattle.calls.specs.Carried.{itemsOf, claimsIn, checks, carriedOver, byMessages, byFile, writesProof}
-use Rattle.calls.specs.Demand3.{AllSized, AllKept, AllTake, AllProper, AllBringRun, AllAgreed}
+use Rattle.calls.specs.Demand3.{AllKept, AllTake, AllProper, AllBringRun, AllAgreed}
 use Rattle.calls.proofs.Records.{Notes, noNotes}
 use Rattle.calls.proofs.Turns.{both}
 use Rattle.calls.proofs.KeptCalls.{by-kept}
@@ -41,8 +40,7 @@ use Rattle.calls.proofs.Hits.{Prefix, Hit, hit-replies, hit-here}
 use Rattle.calls.proofs.Links.{message-of, opening-of, file-of}
 use Rattle.calls.proofs.Pointed.{pointed, follow-pointed, asked-pointed}
 use Rattle.calls.proofs.LiveTable.{write-free, free-answered}
-use Rattle.calls.proofs.LiveStep.{other-sized}
-use Rattle.calls.proofs.Live.{proper-answered, proper-sized, proper-kept, proper-ended}
+use Rattle.calls.proofs.Live.{proper-answered, proper-kept, proper-ended}
 use Rattle.calls.proofs.LiveTakes.{proper-takes}
 use Rattle.calls.proofs.CarriedTurns.{turn, brought, AtTurn, goes-turn, follow-turn}
 use Rattle.calls.proofs.CarriedSteps.{VerifierAgrees, agrees-along, place, items-agreed, total-agreed, message-agreed, verdict-agreed, check-agreed, proof-agreed}
@@ -86,7 +84,7 @@ module _ (p : ℕ) (large : maxWeight < p) (prime : Prime p) (odd : p % 2 ≡ 1)
   module _ (what : Question → Answer → List Posed) (Beside : State → VerifierState → Type 0)
       (one : (q : Question) (h : H q) → isAnswered (cameOf q h .answer) ≡ true → Given q h → (b : VerifierState) (v : Verifier) → F b v → Beside (h .world .state) b → (qs : List Posed)
       → ((b : VerifierState) (v : Verifier) → F b v → Beside (next-state q h) b → Agrees b v qs) → Agrees b v (what q (replyOf (cameOf q h)) ++ qs)) where
-    module _ (w : World) {past : Notes} (g : G w past) (prefix : Prefix (w .state .turn .challenges) cs) (m : Made) (z : Sized (m .call))
+    module _ (w : World) {past : Notes} (g : G w past) (prefix : Prefix (w .state .turn .challenges) cs) (m : Made)
         (kept : isAnswered (came p w m .answer) ≡ true → Kept p T through (w .state) (m .call) (m .lent))
         (here : isAnswered (came p w m .answer) ≡ true → Gave p w₀ ms₀ (question (w .state) (m .call)) (replyOf (came p w m)))
         (b : VerifierState) (v : Verifier) (f : F b v) (beside : Beside (w .state) b) (rest : List Posed) where
@@ -94,16 +92,16 @@ module _ (p : ℕ) (large : maxWeight < p) (prime : Prime p) (odd : p % 2 ≡ 1)
           → (y : Bool) → isAnswered (came p w m .answer) ≡ y → Agrees b v (cond y (what (question (w .state) (m .call)) (replyOf (came p w m))) [] ++ rest)
       unfolding hit-here
       one-call on true y =
-          one (question (w .state) (m .call)) (hit-here p large through T (valid .whole .items) cs w g prefix m z kept (question (w .state) (m .call)) (y, refl)) y (here y) b v f beside rest on
+          one (question (w .state) (m .call)) (hit-here p large through T (valid .whole .items) cs w g prefix m kept (question (w .state) (m .call)) (y, refl)) y (here y) b v f beside rest on
       one-call on false y = on b v f (subst (λ c. Beside c b) (sym (ap (λ y. cond y (goesOn (w .state) (m .call) (came p w m .lent)) (w .state)) y)) beside)
 
-    all-agreed : (w : World) {past : Notes} → G w past → (ms : List Made) → AllSized p w ms → AllKept p through T w ms → AllTake p cs w ms → Within w ms
+    all-agreed : (w : World) {past : Notes} → G w past → (ms : List Made) → AllKept p through T w ms → AllTake p cs w ms → Within w ms
         → (b : VerifierState) (v : Verifier) → F b v → Beside (w .state) b → Agrees b v (carriedOver p T w ms what)
     unfolding along always collected somewhere
-    all-agreed w g [] z kept takes within b v f beside = tt
-    all-agreed w g (m ∷ ms) z kept takes within b v f beside =
-        one-call w g (takes .0) m (z .0) (kept .0) (λ y. within _ _ (inl ((y, refl), refl))) b v f beside _
-        (λ b v f beside. all-agreed (onward p w m) (goes-on p large through T (valid .whole .items) w g m (z .0) (kept .0)) ms (z .1) (kept .1) (takes .1) (λ q x gave. within q x (inr gave)) b v f beside)
+    all-agreed w g [] kept takes within b v f beside = tt
+    all-agreed w g (m ∷ ms) kept takes within b v f beside =
+        one-call w g (takes .0) m (kept .0) (λ y. within _ _ (inl ((y, refl), refl))) b v f beside _
+        (λ b v f beside. all-agreed (onward p w m) (goes-on p large through T (valid .whole .items) w g m (kept .0)) ms (kept .1) (takes .1) (λ q x gave. within q x (inr gave)) b v f beside)
         (isAnswered (came p w m .answer)) refl
 
   -- BY MESSAGES: the verifier is where the run is
@@ -188,14 +186,14 @@ module _ (p : ℕ) (large : maxWeight < p) (prime : Prime p) (odd : p % 2 ≡ 1)
   each-checked (done x) h y gave b v f s qs on = on b v f (pointed-next (done x) h y s)
 
   -- the world after a list
-  going-after : (w : World) {past : Notes} → G w past → (ms : List Made) → AllSized p w ms → AllKept p through T w ms → AllTake p cs w ms
+  going-after : (w : World) {past : Notes} → G w past → (ms : List Made) → AllKept p through T w ms → AllTake p cs w ms
       → (let x : World = after (onward p) w ms in (past : Notes) × G x past × Prefix (x .state .turn .challenges) cs)
   unfolding along always after
-  going-after w {past} g [] z kept takes = (past, g, takes)
-  going-after w g (m ∷ ms) z kept takes = going-after (onward p w m) (goes-on p large through T (valid .whole .items) w g m (z .0) (kept .0)) ms (z .1) (kept .1) (takes .1)
+  going-after w {past} g [] kept takes = (past, g, takes)
+  going-after w g (m ∷ ms) kept takes = going-after (onward p w m) (goes-on p large through T (valid .whole .items) w g m (kept .0)) ms (kept .1) (takes .1)
 
   -- A RUN'S LIST from a fresh run on
-  module _ (f g : List ℕ) (ms : List Made) (z : AllSized p (freshWorld (T .start) f g) ms) (kept : AllKept p through T (freshWorld (T .start) f g) ms)
+  module _ (f g : List ℕ) (ms : List Made) (kept : AllKept p through T (freshWorld (T .start) f g) ms)
       (takes : AllTake p cs (freshWorld (T .start) f g) ms) (within : Within (freshWorld (T .start) f g) ms) where
     abbrev Told : List Posed → Type 0
     Told qs = AllAgreed p (freshHearing (T .start) cs) qs × AllBringRun p T w₀ ms₀ (freshHearing (T .start) cs) qs
@@ -217,7 +215,7 @@ module _ (p : ℕ) (large : maxWeight < p) (prime : Prime p) (odd : p % 2 ≡ 1)
     pub messages-agreed : Told (byMessages p T fresh ms)
     messages-agreed =
         items-first _
-        (λ b v s unclosed whole. all-agreed carried Beside each-carried fresh going ms z kept takes within b v s
+        (λ b v s unclosed whole. all-agreed carried Beside each-carried fresh going ms kept takes within b v s
         (record { pointed = refl; whole = whole; place = ap (λ c. cond c (suc (b .round)) 0) unclosed }))
 
     module _ (plain : T .start .plain ≡ true) (turn-so : waits next.Openings (after (onward p) fresh ms .state .turn .next) ≡ true)
@@ -229,7 +227,7 @@ module _ (p : ℕ) (large : maxWeight < p) (prime : Prime p) (odd : p % 2 ≡ 1)
       wrote = came p w (writesProof l)
 
       last : (past : Notes) × G w past × Prefix (w .state .turn .challenges) cs
-      last = going-after fresh going ms z kept takes
+      last = going-after fresh going ms kept takes
 
       pub start-kept : w .state .start ≡ T .start
       start-kept = last .1 .start
@@ -237,14 +235,14 @@ module _ (p : ℕ) (large : maxWeight < p) (prime : Prime p) (odd : p % 2 ≡ 1)
       pub write-answered : isAnswered (wrote .answer) ≡ true
       write-answered =
           let g = last .1 in
-          free-answered p large (w .state) (w .run) (w .pass) (g .faithful) call.WriteProof (other-sized call.WriteProof refl) l
+          free-answered p large (w .state) (w .run) (w .pass) (g .faithful) call.WriteProof l
           (write-free p (w .state) l (ap (λ s. s .plain) (g .start) ∙ plain) turn-so (omega (arith, room, ap (λ s. s .rounds) (g .start))))
 
       pub written : take (proofSize n) (wrote .lent .file) ≡ proofOfTrip p T cs
       unfolding hit-here
       written =
           let g = last .1 in
-          let h = hit-here p large through T (valid .whole .items) cs w g (last .2) (writesProof l) (other-sized call.WriteProof refl)
+          let h = hit-here p large through T (valid .whole .items) cs w g (last .2) (writesProof l)
           (λ y. by-kept p T through (w .state) call.WriteProof l tt) proof (write-answered, refl) in
           file-of p large through T (valid .whole .items) cs (take (proofSize n) (wrote .lent .file)) h (ap (λ s. take (proofSize (s .rounds)) (wrote .lent .file)) (g .start)) .0
 
@@ -252,7 +250,7 @@ module _ (p : ℕ) (large : maxWeight < p) (prime : Prime p) (odd : p % 2 ≡ 1)
       file-agreed given =
           items-first _
           (λ b v s unclosed whole. proof-agreed p large prime odd word T valid cs listed w₀ ms₀ b v s plain unclosed whole _ written given _
-          (λ b v s. all-agreed checked Pointed each-checked fresh going ms z kept takes within b v s refl))
+          (λ b v s. all-agreed checked Pointed each-checked fresh going ms kept takes within b v s refl))
 
 -- A PROPER RUN'S
 module _ (p : ℕ) (large : maxWeight < p) (prime : Prime p) (odd : p % 2 ≡ 1) (word : p ≤ 2 ^ 32) (T : Trip) (valid : Valid p T) (k : ℕ) (cs bs : List ℕ) (l : Lent)
@@ -267,14 +265,14 @@ module _ (p : ℕ) (large : maxWeight < p) (prime : Prime p) (odd : p % 2 ≡ 1)
   pub proper-run : AllProper p cs T begin ms
   proper-run =
       let answered = proper-answered p large T valid k cs bs l brings in
-      (answered, proper-sized p large T valid k cs bs l brings, proper-kept p large T valid k cs bs l brings, proper-takes p T k cs bs l answered)
+      (answered, proper-kept p large T valid k cs bs l brings, proper-takes p T k cs bs l answered)
 
   abbrev h : Hearing
   h = freshHearing (T .start) cs
 
   pub proper-messages : AllAgreed p h (byMessages p T begin ms) × AllBringRun p T begin ms h (byMessages p T begin ms)
   proper-messages =
-      messages-agreed p large prime odd word true T valid cs (brings .count) begin ms (l .f) (l .g) ms (proper-run .1) (proper-run .2 true) (proper-run .3)
+      messages-agreed p large prime odd word true T valid cs (brings .count) begin ms (l .f) (l .g) ms (proper-run .1 true) (proper-run .2)
       (λ q x gave. gave)
 
   module _ (plain : T .start .plain ≡ true) (m : Lent) (room : proofSize (T .start .rounds) ≤ length (m .file)) where
@@ -299,26 +297,25 @@ module _ (p : ℕ) (large : maxWeight < p) (prime : Prime p) (odd : p % 2 ≡ 1)
 
     filed-answered : isAnswered (filed .answer) ≡ true
     filed-answered =
-        write-answered p large prime odd word true T valid cs (brings .count) begin longer (l .f) (l .g) ms (proper-run .1) (proper-run .2 true) (proper-run .3) within plain ended m room
+        write-answered p large prime odd word true T valid cs (brings .count) begin longer (l .f) (l .g) ms (proper-run .1 true) (proper-run .2) within plain ended m room
 
     pub proper-longer : AllProper p cs T begin longer
     proper-longer = (
       along-more (onward p) _ begin ms (writesProof m) (proper-run .0) filed-answered,
-      along-more (onward p) _ begin ms (writesProof m) (proper-run .1) (other-sized call.WriteProof refl),
-      λ through. along-more (onward p) _ begin ms (writesProof m) (proper-run .2 through) (λ y. by-kept p T through (ending .state) call.WriteProof m tt),
-      always-more (onward p) _ begin ms (writesProof m) (proper-run .3)
+      λ through. along-more (onward p) _ begin ms (writesProof m) (proper-run .1 through) (λ y. by-kept p T through (ending .state) call.WriteProof m tt),
+      always-more (onward p) _ begin ms (writesProof m) (proper-run .2)
           (subst (λ ds. Prefix ds cs) (sym (ap (λ b. cond b (goesOn (ending .state) call.WriteProof (filed .lent)) (ending .state) .turn .challenges) filed-answered))
-          (always-last (onward p) _ begin ms (proper-run .3))),
+          (always-last (onward p) _ begin ms (proper-run .2))),
     )
 
     pub proper-written : file ≡ proofOfTrip p T cs
-    proper-written = written p large prime odd word true T valid cs (brings .count) begin longer (l .f) (l .g) ms (proper-run .1) (proper-run .2 true) (proper-run .3) within plain ended m room
+    proper-written = written p large prime odd word true T valid cs (brings .count) begin longer (l .f) (l .g) ms (proper-run .1 true) (proper-run .2) within plain ended m room
 
     pub proper-file : AllAgreed p h (byFile p T begin ms file) × AllBringRun p T begin longer h (byFile p T begin ms file)
     proper-file =
-        file-agreed p large prime odd word true T valid cs (brings .count) begin longer (l .f) (l .g) ms (proper-run .1) (proper-run .2 true) (proper-run .3) within plain ended m room
+        file-agreed p large prime odd word true T valid cs (brings .count) begin longer (l .f) (l .g) ms (proper-run .1 true) (proper-run .2) within plain ended m room
         (somewhere-last (onward p) _ begin ms (writesProof m) (
           (filed-answered, refl),
           ap (λ s. take (proofSize (s .rounds)) (filed .lent .file))
-              (start-kept p large prime odd word true T valid cs (brings .count) begin longer (l .f) (l .g) ms (proper-run .1) (proper-run .2 true) (proper-run .3) within plain ended m room),
+              (start-kept p large prime odd word true T valid cs (brings .count) begin longer (l .f) (l .g) ms (proper-run .1 true) (proper-run .2) within plain ended m room),
         ))

@@ -82,13 +82,13 @@ below p e h = subst (λ z. z < p) (sym e) h
 pass-free : (b : VerifierState) (kind : Bool) (rest : Option Refusal) → b .closed ≡ false → hasAll b ≡ true → kind ≡ true → rest ≡ none → closeRows b kind rest ≡ none
 pass-free b kind rest unclosed c k r = row-free _ 10 _ (ap not unclosed) (row-free _ 8 _ c (row-free kind 10 rest k r))
 
-given-free : (p : ℕ) (s : Start) (i : ℕ) (x : Given) → ItemFits p (s .plain) x → givenRows p s i x none ≡ none
-given-free p s i (Reading r w) fits = row-free _ 10 _ (fits .0) (row-at-free _ 5 _ none (le-leb w maxWeight (fits .2)) refl)
+given-free : (p : ℕ) (s : Start) (i : ℕ) (x : Given) → ItemFits p s x → givenRows p s i x none ≡ none
+given-free p s i (Reading r w) fits = row-free _ 10 _ (fits .0) (row-at-free _ 5 _ _ (le-leb w maxWeight (fits .2)) (row-at-free _ 18 _ none (fits .1) refl))
 given-free p s i (Numbers x y) fits =
     row-free _ 10 _ (ap not (fits .0)) (row-free _ 16 none (ap₂ _&&_ (lt-ltb x p (fits .1)) (lt-ltb y p (fits .2))) refl)
 
 module _ (p : ℕ) (b : VerifierState) (l : Shown) where
-  item-free : (x : Given) → b .closed ≡ false → length (b .items) < b .start .items → ItemFits p (b .start .plain) x → verifierTable p b (query.Give x) l ≡ none
+  item-free : (x : Given) → b .closed ≡ false → length (b .items) < b .start .items → ItemFits p (b .start) x → verifierTable p b (query.Give x) l ≡ none
   unfolding verifierTable
   item-free x unclosed more fits = row-free _ 10 _ (ap not unclosed) (row-free _ 8 _ (lt-ltb _ _ more) (given-free p (b .start) _ x fits))
 
@@ -166,12 +166,12 @@ module _ (p : ℕ) (large : maxWeight < p) (prime : Prime p) (odd : p % 2 ≡ 1)
     whole-so e = eq-eqb _ _ (e ∙ ap (λ s. s .items) (sym (f .start)))
 
     -- AN ITEM
-    item-agreed : (x : Given) → x ≡ tripItem T (length (b .items)) → ItemFits p (T .start .plain) x → b .closed ≡ false → length (b .items) < L → (qs : List Posed)
+    item-agreed : (x : Given) → x ≡ tripItem T (length (b .items)) → ItemFits p (T .start) x → b .closed ≡ false → length (b .items) < L → (qs : List Posed)
         → ((b′ : VerifierState) (v : Verifier) → F b′ v → b′ .closed ≡ false → length (b′ .items) ≡ suc (length (b .items)) → Agrees b′ v qs)
         → Agrees b v (plainly (query.Give x) ∷ qs)
     item-agreed x e fits unclosed more qs on =
         one-agreed b v f (query.Give x) _
-        (item-free p b _ x unclosed (omega (arith, ap (λ s. s .items) (f .start))) (subst (λ s. ItemFits p (s .plain) x) (sym (f .start)) fits)) e e (λ t h. h) qs
+        (item-free p b _ x unclosed (omega (arith, ap (λ s. s .items) (f .start))) (subst (λ s. ItemFits p s x) (sym (f .start)) fits)) e e (λ t h. h) qs
         (λ v f. on _ v f unclosed refl)
 
     -- THE TOTAL
@@ -239,5 +239,5 @@ module _ (p : ℕ) (large : maxWeight < p) (prime : Prime p) (odd : p % 2 ≡ 1)
   items-agreed (x ∷ xs) k all same b v f unclosed count qs on =
       let less : k < L = omega arith in
       let here : x ≡ tripItem T k = same 0 ∙ ap (tripItem T) (add-zero k) in
-      item-agreed b v f x (here ∙ ap (tripItem T) (sym count)) (subst (ItemFits p (T .start .plain)) (sym here) (valid .items k less)) unclosed (omega (arith, count)) (itemsOf xs ++ qs)
+      item-agreed b v f x (here ∙ ap (tripItem T) (sym count)) (subst (ItemFits p (T .start)) (sym here) (valid .items k less)) unclosed (omega (arith, count)) (itemsOf xs ++ qs)
       (λ c v g still count′. items-agreed xs (suc k) (omega arith) (λ j. same (suc j) ∙ ap (tripItem T) (add-suc k j ∙ sym (suc-add k j))) c v g still (count′ ∙ ap suc count) qs on)

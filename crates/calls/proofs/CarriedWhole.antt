@@ -22,14 +22,14 @@ use Rattle.calls.specs.Given.{replyOf}
 use Rattle.calls.specs.Proper.{Valid, Host, makes, hostOn, wholeRun, Brings, properRun}
 use Rattle.calls.specs.Carried.{itemsOf, claims, claimsIn, checks, carriedOver, byMessages, byFile}
 use Rattle.calls.specs.WholeList.{bringsTotal, bringsMessage, messagesFrom, checkAt, allChecks, wholeByMessages, wholeByFile}
-use Rattle.calls.specs.Demand3.{AllAnswered, AllSized, AllKept, AllTake}
+use Rattle.calls.specs.Demand3.{AllAnswered, AllKept, AllTake}
 use Rattle.calls.proofs.Records.{Notes}
 use Rattle.calls.proofs.Answers.{Going, goes-on, fresh-going}
 use Rattle.calls.proofs.Hits.{Hit, hit-replies, hit-here}
 use Rattle.calls.proofs.Links.{message-of, opening-of}
 use Rattle.calls.proofs.CarriedTurns.{AtTurn, goes-turn}
 use Rattle.calls.proofs.CarriedWalk.{asked, placeOf, leads, askedBy, follow-leads, roundsAsked, openingsAsked, whole-asked}
-use Rattle.calls.proofs.Live.{proper-answered, proper-sized, proper-kept}
+use Rattle.calls.proofs.Live.{proper-answered, proper-kept}
 use Rattle.calls.proofs.LiveTakes.{proper-takes}
 
 -- the calls that questions are carried over as
@@ -120,18 +120,18 @@ module _ (p : ℕ) (large : maxWeight < p) (through : Bool) (T : Trip) (whole : 
   module _ (what : Question → Answer → List Posed) (form : Question → List Posed) (one : (q : Question) (h : H q) → what q (replyOf (cameOf q h)) ≡ carriedAs form (asked q)) where
     gathered-so : (calls : List Call) (w : Host) {past : Notes} → Going p large through T whole (w .world) past
         → (let ms : List Made = each (hostOn p T) (makes p T) w calls in
-        AllAnswered p (w .world) ms → AllSized p (w .world) ms → AllKept p through T (w .world) ms → AllTake p cs (w .world) ms
+        AllAnswered p (w .world) ms → AllKept p through T (w .world) ms → AllTake p cs (w .world) ms
         → carriedOver p T (w .world) ms what ≡ carriedAs form (askedBy (T .start .rounds) (placeOf (w .world .state)) calls))
     unfolding each along always collected carriedAs askedBy hit-here
-    gathered-so [] w g y z kept takes = refl
-    gathered-so (c ∷ calls) w g y z kept takes =
+    gathered-so [] w g y kept takes = refl
+    gathered-so (c ∷ calls) w g y kept takes =
         let a : State = w .world .state in
         let m : Made = makes p T w c in
         let o : Result = came p (w .world) m in
         let v : Host = hostOn p T w c in
         let n : ℕ = T .start .rounds in
-        let here = one (question a c) (hit-here p large through T whole cs (w .world) g (takes .0) m (z .0) (kept .0) (question a c) (y .0, refl)) in
-        let later = gathered-so calls v (goes-on p large through T whole (w .world) g m (z .0) (kept .0)) (y .1) (z .1) (kept .1) (takes .1) in
+        let here = one (question a c) (hit-here p large through T whole cs (w .world) g (takes .0) m (kept .0) (question a c) (y .0, refl)) in
+        let later = gathered-so calls v (goes-on p large through T whole (w .world) g m (kept .0)) (y .1) (kept .1) (takes .1) in
         let led = follow-leads a c o (y .0) in
         let rounds-so : a .start .rounds ≡ n = ap (λ s. s .rounds) (g .start) in
         let first : asked (question a c) ≡ leads n (placeOf a) c .0 = led .0 ∙ ap (λ k. leads k (placeOf a) c .0) rounds-so in
@@ -187,7 +187,7 @@ module _ (p : ℕ) (large : maxWeight < p) (T : Trip) (valid : Valid p T) (k : �
       let answered = proper-answered p large T valid k cs bs l brings in
       gathered-so p large true T (valid .whole .items) cs what form one (wholeRun T k cs bs) (record { world = begin; lent = l })
       (fresh-going p large true T (valid .whole .items) (valid .whole .start) (l .f) (l .g))
-      answered (proper-sized p large T valid k cs bs l brings) (proper-kept p large T valid k cs bs l brings true) (proper-takes p T k cs bs l answered)
+      answered (proper-kept p large T valid k cs bs l brings true) (proper-takes p T k cs bs l answered)
       ∙ ap (carriedAs form) (whole-asked T k cs bs (brings .count))
       ∙ ap (λ m. carriedAs form (((total ∷ roundsAsked 0 m) ++ (ends ∷ [])) ++ cond (ltb 0 (T .start .rounds)) (openingsAsked bs) [])) (brings .count)
 

@@ -23,7 +23,7 @@ use Rattle.calls.specs.QueryStep.{Shown}
 use Rattle.calls.specs.QueryState.{VerifierState, Posed, Hearing, freshHearing, heard, hearsOn}
 use Rattle.calls.specs.Given.{replyOf, BringsRun}
 use Rattle.calls.specs.Starts.{Whole}
-use Rattle.calls.specs.Demand3.{AllSized, AllKept, AllTake, AllBringRun, AllSay, Demand3}
+use Rattle.calls.specs.Demand3.{AllKept, AllTake, AllBringRun, AllSay, Demand3}
 use Rattle.calls.proofs.BlockLists.{begun-blocks}
 use Rattle.calls.proofs.HeardBlocks.{every-heard-block}
 use Rattle.calls.proofs.Records.{Notes}
@@ -47,22 +47,22 @@ use Rattle.calls.proofs.StartRows.{all-starts}
 
 -- WHAT THE RUN GAVE IS THE TRIP'S
 module _ (p : ℕ) (large : maxWeight < p) (through : Bool) (T : Trip) (whole : Whole T) (cs : List ℕ) (w : World) {past : Notes}
-    (going : Going p large through T (whole .items) w past) (ms : List Made) (z : AllSized p w ms) (kept : AllKept p through T w ms) (takes : AllTake p cs w ms) where
+    (going : Going p large through T (whole .items) w past) (ms : List Made) (kept : AllKept p through T w ms) (takes : AllTake p cs w ms) where
   brings : (b : VerifierState) → b .challenges ≡ cs → (q : Query) (l : Shown) → BringsRun p T w ms b q l → BringsTrip p T b q l
   brings b e (query.Give x) l h = h
   brings b e (query.Close t) l h =
-      let g = hit-somewhere p large through T (whole .items) cs _ _ w going ms z kept takes h in
+      let g = hit-somewhere p large through T (whole .items) cs _ _ w going ms kept takes h in
       total-of p large through T (whole .items) cs t (g .0) (sym (g .1) ∙ hit-replies p large through T (whole .items) cs _ (g .0))
   brings b e (query.CloseClaim c) l h =
-      let g = hit-somewhere p large through T (whole .items) cs _ _ w going ms z kept takes h in
+      let g = hit-somewhere p large through T (whole .items) cs _ _ w going ms kept takes h in
       claim-of p large through T (whole .items) cs c (g .0) (sym (g .1) ∙ hit-replies p large through T (whole .items) cs _ (g .0))
   brings b e (query.Message even cross odd) l h =
-      let g = hit-somewhere p large through T (whole .items) cs _ _ w going ms z kept takes h in
+      let g = hit-somewhere p large through T (whole .items) cs _ _ w going ms kept takes h in
       message-of p large through T (whole .items) cs (b .round) even cross odd (g .0) (sym (g .1) ∙ hit-replies p large through T (whole .items) cs _ (g .0))
       ∙ ap (λ ds. messageAt p T ds (b .round)) (sym e)
   brings b e query.Verdict l h = tt
   brings b e query.Proof l h =
-      let g = hit-somewhere p large through T (whole .items) cs _ _ w going ms z kept takes h in
+      let g = hit-somewhere p large through T (whole .items) cs _ _ w going ms kept takes h in
       let f = file-of p large through T (whole .items) cs (l .file) (g .0) (g .1) in
       (f .0 ∙ ap (proofOfTrip p T) (sym e), f .1)
   brings b e (query.CheckOpening x) l h = tt
@@ -87,30 +87,30 @@ module _ (p : ℕ) (large : maxWeight < p) (prime : Prime p) (odd : p % 2 ≡ 1)
   replies : (through : Bool) (T : Trip) → Whole T → (b : Begin) → CanBegin (T .start) b → (f g : List ℕ) (ms : List Made) (m : Made)
       → (let w : World = begun (T .start) b f g in
       let x : World = after (onward p) w ms in
-      AllSized p w (ms ++ m ∷ []) → AllKept p through T w (ms ++ m ∷ []) → isAnswered (came p x m .answer) ≡ true → replyOf (came p x m) ≡ meaning p T (x .state) (m .call))
-  replies through T whole b h f g ms m z kept =
+      AllKept p through T w (ms ++ m ∷ []) → isAnswered (came p x m .answer) ≡ true → replyOf (came p x m) ≡ meaning p T (x .state) (m .call))
+  replies through T whole b h f g ms m kept =
       let w : World = begun (T .start) b f g in
       let going = begun-going p large through T (whole .items) b h f g in
-      last-replies p T through w ms m (all-decided p large w (going .faithful) (ms ++ m ∷ []) z) (all-right p large through T (whole .items) w going (ms ++ m ∷ []) z kept)
+      last-replies p T through w ms m (all-decided p large w (going .faithful) (ms ++ m ∷ [])) (all-right p large through T (whole .items) w going (ms ++ m ∷ []) kept)
 
   -- DEMAND 3
   pub demand3 : Demand3 p
   demand3 =
       record {
         starts = all-starts p;
-        refusals = λ s b h f g ms z. all-decided p large (begun s b f g) (begun-faithful p large s b h f g) ms z;
-        answers = λ through T whole b h f g ms z kept.
-            all-right p large through T (whole .items) (begun (T .start) b f g) (begun-going p large through T (whole .items) b h f g) ms z kept;
+        refusals = λ s b h f g ms. all-decided p large (begun s b f g) (begun-faithful p large s b h f g) ms;
+        answers = λ through T whole b h f g ms kept.
+            all-right p large through T (whole .items) (begun (T .start) b f g) (begun-going p large through T (whole .items) b h f g) ms kept;
         proper = proper-run p large prime odd word;
         properBatch = batch-proper p large;
-        alike = λ T whole b b′ h h′ th th′ f g f′ g′ ms ns m n z z′ kept kept′ challenges asked e e′.
-            replies th T whole b h f g ms m z kept e ∙ ap₂ (meant p T) challenges asked ∙ sym (replies th′ T whole b′ h′ f′ g′ ns n z′ kept′ e′);
+        alike = λ T whole b b′ h h′ th th′ f g f′ g′ ms ns m n kept kept′ challenges asked e e′.
+            replies th T whole b h f g ms m kept e ∙ ap₂ (meant p T) challenges asked ∙ sym (replies th′ T whole b′ h′ f′ g′ ns n kept′ e′);
         verifierRefusals = every-query p;
-        verifierAnswers = λ through T whole b h f g ms z kept cs listed takes qs brought.
-            all-say p large through T whole cs (begun (T .start) b f g) (begun-going p large through T (whole .items) b h f g) ms z kept takes prime odd word listed
+        verifierAnswers = λ through T whole b h f g ms kept cs listed takes qs brought.
+            all-say p large through T whole cs (begun (T .start) b f g) (begun-going p large through T (whole .items) b h f g) ms kept takes prime odd word listed
             (freshHearing (T .start) cs) (fresh-follows p large prime odd word T whole cs listed) qs brought;
-        openingsChecked = λ through T whole b h f g ms z kept cs listed takes.
-            openings-checked p large prime odd word T whole cs listed through b h f g ms z kept takes;
+        openingsChecked = λ through T whole b h f g ms kept cs listed takes.
+            openings-checked p large prime odd word T whole cs listed through b h f g ms kept takes;
         batchChecked = batch-checked p large prime odd;
         verifierProper = λ T valid k cs bs l brought.
             let told = proper-messages p large prime odd word T valid k cs bs l brought in (

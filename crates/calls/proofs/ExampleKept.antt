@@ -23,9 +23,8 @@ use Rattle.calls.specs.State.{State}
 use Rattle.calls.specs.World.{Made, World, came, onward}
 use Rattle.calls.specs.Table.{long}
 use Rattle.calls.specs.Meaning.{bindsItem, AsLeft}
-use Rattle.calls.specs.Demand3.{AllSized, AllKept}
+use Rattle.calls.specs.Demand3.{AllKept}
 use Rattle.calls.proofs.KeptCalls.{ItemKept, KeptBy, by-kept}
-use Rattle.calls.proofs.LiveStep.{sizeOf, small-sized}
 
 abbrev pub sameInteger : ℤ → ℤ → Bool
 sameInteger (pos m) (pos n) = eqb m n
@@ -106,10 +105,6 @@ tested next P test tells w [] e = tt
 tested next P test tells w (m ∷ ms) e =
     let h = holds (test w m) (allTrue (each next test (next w m) ms)) e in
     (tells w m (h .0), tested next P test tells (next w m) ms (h .1))
-
-pub all-sized : (p : ℕ) (w : World) (ms : List Made) → allTrue (each (onward p) (λ w m. leb (sizeOf (m .call)) 32768) w ms) ≡ true → AllSized p w ms
-all-sized p w ms e =
-    tested (onward p) _ (λ w m. leb (sizeOf (m .call)) 32768) (λ w m h. small-sized (m .call) (leb-true (sizeOf (m .call)) 32768 h)) w ms e
 
 module _ (p : ℕ) (through : Bool) (T : Trip) where
   left : (a : State) (l : Lent) → leftTest p through T a l ≡ true → AsLeft a l

@@ -32,6 +32,7 @@ use Rattle.pass.specs.Values.{valuesOf}
 use Rattle.pass.specs.Formed.{passFormed, turnFormed}
 use Rattle.prover.specs.WellFormed.{wellFormed}
 use Rattle.prover.specs.Written.{writeCall}
+use Rattle.item.specs.Version.{inRange}
 use Rattle.item.specs.Item.{partsOf}
 use Rattle.runs.specs.Trip.{sumOf}
 use Rattle.calls.specs.Lists.{each}
@@ -42,14 +43,13 @@ use Rattle.calls.specs.Example.{P, tripStart, trip, callsOf, answersOf, 
 use Rattle.calls.specs.ExampleSmall.{smallCalls}
 use Rattle.calls.specs.ExampleFull.{fullCalls}
 use Rattle.calls.specs.ExampleChange.{changing}
-use Rattle.calls.proofs.ExampleKept.{allTrue, all-sized, all-kept}
+use Rattle.calls.proofs.ExampleKept.{allTrue, all-kept}
 
 module _ (f g : List ℕ) where
   pub small-run : TripList smallCalls (freshWorld tripStart f g)
-  unfolding each allTrue lastOf callsOf answersOf refusalsOf table sumOf step messageCall giveCall itemChecks openCall openAtCall closeCall challengeCall toFullCall writeCall wellFormed turnFormed passFormed powers firstFrom inLimits sizeIn32 partsOf takes takesIn entersIn summedItem enteredIn plus image residue negMod addMod mulMod valuesOf tripleValues bytes bits allBelow numbers proofHeader writeProof writtenIn hornerAt arrived topAt climbFrom evaluatedFrom climbed evaluated meetsAt summed settled sumsAfter stacksFit entered streamed paddingFrom paddingBelow left placed placedAll placedIn
+  unfolding each allTrue lastOf callsOf answersOf refusalsOf table sumOf step messageCall giveCall itemChecks openCall openAtCall closeCall challengeCall toFullCall writeCall wellFormed turnFormed passFormed powers firstFrom inLimits sizeIn32 partsOf takes takesIn entersIn summedItem enteredIn plus image residue negMod addMod mulMod valuesOf tripleValues bytes bits allBelow numbers proofHeader writeProof writtenIn hornerAt arrived topAt climbFrom evaluatedFrom climbed evaluated meetsAt summed settled sumsAfter stacksFit entered streamed paddingFrom paddingBelow left placed placedAll placedIn inRange
   small-run =
       record {
-        sized = all-sized P (freshWorld tripStart f g) (callsOf smallCalls) refl;
         kept = all-kept P true trip (freshWorld tripStart f g) (callsOf smallCalls) refl;
         replies = refl;
         refusals = refl;
@@ -57,10 +57,9 @@ module _ (f g : List ℕ) where
       }
 
   pub full-run : TripList fullCalls (freshWorld tripStart f g)
-  unfolding each allTrue lastOf callsOf answersOf refusalsOf every table sumOf step messageGiven messageCall endsCall giveCall itemChecks openCall toSmallCall closeCall challengedFull challengeCall cleared toFullCall openingGiven openingCall writeCall wellFormed turnFormed passFormed powers firstFrom inLimits sizeIn32 partsOf takes takesIn entersIn summedItem enteredIn plus image residue negMod addMod mulMod sum foldWith overwrite foldSlice messageSlice tripleValues bytes bits allBelow numbers proofHeader writeProof writtenIn hornerAt arrived topAt climbFrom evaluatedFrom climbed evaluated meetsAt summed settled sumsAfter stacksFit entered streamed paddingFrom paddingBelow left placed placedAll placedIn
+  unfolding each allTrue lastOf callsOf answersOf refusalsOf every table sumOf step messageGiven messageCall endsCall giveCall itemChecks openCall toSmallCall closeCall challengedFull challengeCall cleared toFullCall openingGiven openingCall writeCall wellFormed turnFormed passFormed powers firstFrom inLimits sizeIn32 partsOf takes takesIn entersIn summedItem enteredIn plus image residue negMod addMod mulMod sum foldWith overwrite foldSlice messageSlice tripleValues bytes bits allBelow numbers proofHeader writeProof writtenIn hornerAt arrived topAt climbFrom evaluatedFrom climbed evaluated meetsAt summed settled sumsAfter stacksFit entered streamed paddingFrom paddingBelow left placed placedAll placedIn inRange
   full-run =
       record {
-        sized = all-sized P (freshWorld tripStart f g) (callsOf fullCalls) refl;
         kept = all-kept P true trip (freshWorld tripStart f g) (callsOf fullCalls) refl;
         replies = refl;
         refusals = refl;
@@ -68,10 +67,9 @@ module _ (f g : List ℕ) where
       }
 
   pub changing-run : TripList changing (freshWorld tripStart f g)
-  unfolding each allTrue lastOf callsOf answersOf refusalsOf every table sumOf step messageGiven messageCall endsCall giveCall itemChecks openCall openAtCall closeCall challengedFull challengeCall cleared toFullCall openingGiven openingCall writeCall wellFormed turnFormed passFormed powers firstFrom inLimits sizeIn32 partsOf takes takesIn entersIn summedItem enteredIn plus image residue negMod addMod mulMod sum foldWith overwrite foldSlice messageSlice tripleValues bytes bits allBelow numbers proofHeader writeProof writtenIn hornerAt arrived topAt climbFrom evaluatedFrom climbed evaluated meetsAt summed settled sumsAfter stacksFit entered streamed paddingFrom paddingBelow left placed placedAll placedIn
+  unfolding each allTrue lastOf callsOf answersOf refusalsOf every table sumOf step messageGiven messageCall endsCall giveCall itemChecks openCall openAtCall closeCall challengedFull challengeCall cleared toFullCall openingGiven openingCall writeCall wellFormed turnFormed passFormed powers firstFrom inLimits sizeIn32 partsOf takes takesIn entersIn summedItem enteredIn plus image residue negMod addMod mulMod sum foldWith overwrite foldSlice messageSlice tripleValues bytes bits allBelow numbers proofHeader writeProof writtenIn hornerAt arrived topAt climbFrom evaluatedFrom climbed evaluated meetsAt summed settled sumsAfter stacksFit entered streamed paddingFrom paddingBelow left placed placedAll placedIn inRange
   changing-run =
       record {
-        sized = all-sized P (freshWorld tripStart f g) (callsOf changing) refl;
         kept = all-kept P true trip (freshWorld tripStart f g) (callsOf changing) refl;
         replies = refl;
         refusals = refl;

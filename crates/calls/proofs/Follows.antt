@@ -142,20 +142,20 @@ module _ (p : ℕ) (large : maxWeight < p) where
       })
 
   -- an item within its limits
-  within : (x : Given) → ((z : ℤ) (w : ℕ) → x ≡ Reading z w → natAbs z ≤ 32768) → Limits p x → Within x
-  within (Reading z w) size h = (size z w refl, h)
-  within (Numbers a b) size h = tt
+  within : (x : Given) → Limits p x → Within x
+  within (Reading z w) h = h
+  within (Numbers a b) h = tt
 
   fine : (s : Start) (x : Given) → Limits p x → Fine p s x
-  fine s (Reading z w) h = (omega (arith, image-lt p z, base-of p positive), omega (arith, h))
+  fine s (Reading z w) h = (omega (arith, image-lt p z, base-of p positive), omega (arith, h .1))
   fine s (Numbers a b) h = h
 
-  pub item-follows : (a : State) {past : Notes} → Fits p a past → (x : Given) (l : Lent) → ((z : ℤ) (w : ℕ) → x ≡ Reading z w → natAbs z ≤ 32768)
+  pub item-follows : (a : State) {past : Notes} → Fits p a past → (x : Given) (l : Lent)
       → table p a (call.Give x) l ≡ none
       → (let o : Result = does p (runOf a past) (passOf p a past) (call.Give x) l in Follows p (goesOn a (call.Give x) (o .lent)) past o)
-  item-follows a {past} h x l size e =
+  item-follows a {past} h x l e =
       let q = item-admitted p a l x e in
-      take-follows a h x l (does p (runOf a past) (passOf p a past) (call.Give x) l .lent) (q .opened) (q .more) (within x size (q .limits)) (fine (a .start) x (q .limits))
+      take-follows a h x l (does p (runOf a past) (passOf p a past) (call.Give x) l .lent) (q .opened) (q .more) (within x (q .limits)) (fine (a .start) x (q .limits))
       (does p (runOf a past) (passOf p a past) (call.Give x) l) (takes-run p (runOf a past) (passOf p a past) (contributes p (a .start) x) (l .f) (l .g)) refl
 
   -- WHAT IS NEXT after the total and after a challenge

@@ -40,6 +40,7 @@ use Rattle.prover.specs.Challenge.{challengedSmall, challengedFull, challenged,
 use Rattle.prover.specs.Opening.{openingGiven, openingCall}
 use Rattle.pass.proofs.Facts.{size-32}
 use Rattle.item.specs.declared.Given.the-variants.{Reading, Numbers}
+use Rattle.item.specs.Version.{inRange}
 use Rattle.item.specs.Item.{contributes, partsOf}
 use Rattle.runs.specs.Trip.{sumOf}
 use Rattle.calls.specs.Step.{Lent}
@@ -196,14 +197,18 @@ module _ (p : ℕ) (a : State) (past : Notes) (few : a .start .rounds ≤ 15) wh
           → andThen (partsOf p (a .start) (a .start .items - 1 - s .taken) x) (itemPlaces p R s (l .f) (l .g))
           ≡ decided (givenRows p (a .start) (a .start .items - 1 - length (a .pass .items)) x (placeRow a l)) (answered (takes p R s (contributes p (a .start) x) (l .f) (l .g)))
       unfolding partsOf
-      own-rows (Reading z w) l = by (a .start .plain) (leb w maxWeight)
+      own-rows (Reading z w) l = by (a .start .plain) (leb w maxWeight) (inRange (a .start .version) z)
         where
-          by : (plain fits : Bool)
-              → andThen (require plain 10 (requireAt fits 5 (a .start .items - 1 - s .taken) (answered (contributes p (a .start) (Reading z w))))) (itemPlaces p R s (l .f) (l .g))
-              ≡ decided (row plain 10 (rowAt fits 5 (a .start .items - 1 - length (a .pass .items)) (placeRow a l))) (answered (takes p R s (contributes p (a .start) (Reading z w)) (l .f) (l .g)))
-          by false fits = refl
-          by true false = ap (λ n. refusedAt 5 (a .start .items - 1 - n)) count
-          by true true = places l (contributes p (a .start) (Reading z w))
+          at : ℕ → ℕ
+          at n = a .start .items - 1 - n
+
+          by : (plain fits ranged : Bool)
+              → andThen (require plain 10 (requireAt fits 5 (at (s .taken)) (requireAt ranged 18 (at (s .taken)) (answered (contributes p (a .start) (Reading z w)))))) (itemPlaces p R s (l .f) (l .g))
+              ≡ decided (row plain 10 (rowAt fits 5 (at (length (a .pass .items))) (rowAt ranged 18 (at (length (a .pass .items))) (placeRow a l)))) (answered (takes p R s (contributes p (a .start) (Reading z w)) (l .f) (l .g)))
+          by false fits ranged = refl
+          by true false ranged = ap (λ n. refusedAt 5 (at n)) count
+          by true true false = ap (λ n. refusedAt 18 (at n)) count
+          by true true true = places l (contributes p (a .start) (Reading z w))
       own-rows (Numbers x y) l = by (not (a .start .plain)) (ltb x p && ltb y p)
         where
           by : (twisted fine : Bool)

@@ -26,9 +26,9 @@ use Rattle.calls.specs.State.{State}
 use Rattle.calls.specs.World.{Made, World, came, onward}
 use Rattle.calls.specs.Table.{openingsNext, table}
 use Rattle.calls.specs.Meaning.{Question, total, roundMessage, ends, openingAt, proof, done, closeAsks, question, meant, Kept}
-use Rattle.calls.specs.Statement.{Sized, Right}
+use Rattle.calls.specs.Statement.{Right}
 use Rattle.calls.specs.Given.{replyOf, Answered}
-use Rattle.calls.specs.Demand3.{AllSized, AllKept, AllTake}
+use Rattle.calls.specs.Demand3.{AllKept, AllTake}
 use Rattle.calls.proofs.Records.{Notes}
 use Rattle.calls.proofs.Steps.{row-passed}
 use Rattle.calls.proofs.Fits.{Fits}
@@ -57,22 +57,22 @@ module _ (p : ℕ) (large : maxWeight < p) (through : Bool) (T : Trip) (whole : 
   pub hit-replies : (q : Question) (h : Hit q) → replyOf (came p (h .world) (h .made)) ≡ meant p T (h .world .state .turn .challenges) q
   hit-replies q h = ap₂ (λ x y. record { answer = x; values = y }) (h .right .answer) (h .right .values) ∙ ap (meant p T (h .world .state .turn .challenges)) (h .asked)
 
-  unfoldable pub hit-here : (w : World) {past : Notes} → Going p large through T whole w past → Prefix (w .state .turn .challenges) cs → (m : Made) → Sized (m .call)
+  unfoldable pub hit-here : (w : World) {past : Notes} → Going p large through T whole w past → Prefix (w .state .turn .challenges) cs → (m : Made)
       → (isAnswered (came p w m .answer) ≡ true → Kept p T through (w .state) (m .call) (m .lent)) → (q : Question) → Answered p q w m → Hit q
-  hit-here w {past} g prefix m z kept q e =
-      let d = decide-step p large (w .state) (w .run) (w .pass) (g .faithful) (m .call) z (m .lent) in
+  hit-here w {past} g prefix m kept q e =
+      let d = decide-step p large (w .state) (w .run) (w .pass) (g .faithful) (m .call) (m .lent) in
       let free = answered-none (w .run) (w .pass) (m .lent) (table p (w .state) (m .call) (m .lent)) (came p w m) d (e .0) in
-      record { world = w; past = past; made = m; going = g; prefix = prefix; asked = e .1; free = free; right = right-here p large through T whole w g m z kept free }
+      record { world = w; past = past; made = m; going = g; prefix = prefix; asked = e .1; free = free; right = right-here p large through T whole w g m kept free }
 
   -- WHAT HOLDS SOMEWHERE IN THE LIST of an answered call that was asked q
-  pub hit-somewhere : (q : Question) (P : World → Made → Type 0) (w : World) {past : Notes} → Going p large through T whole w past → (ms : List Made) → AllSized p w ms → AllKept p through T w ms
+  pub hit-somewhere : (q : Question) (P : World → Made → Type 0) (w : World) {past : Notes} → Going p large through T whole w past → (ms : List Made) → AllKept p through T w ms
       → AllTake p cs w ms → somewhere (onward p) (λ w m. Answered p q w m × P w m) w ms → (h : Hit q) × P (h .world) (h .made)
   unfolding along always somewhere hit-here
-  hit-somewhere q P w g [] z kept takes e = absurd e
-  hit-somewhere q P w g (m ∷ ms) z kept takes e =
+  hit-somewhere q P w g [] kept takes e = absurd e
+  hit-somewhere q P w g (m ∷ ms) kept takes e =
       ⊎-elim {C = (h : Hit q) × P (h .world) (h .made)}
-      (λ here. (hit-here w g (takes .0) m (z .0) (kept .0) q (here .0), here .1))
-      (λ later. hit-somewhere q P (onward p w m) (goes-on p large through T whole w g m (z .0) (kept .0)) ms (z .1) (kept .1) (takes .1) later) e
+      (λ here. (hit-here w g (takes .0) m (kept .0) q (here .0), here .1))
+      (λ later. hit-somewhere q P (onward p w m) (goes-on p large through T whole w g m (kept .0)) ms (kept .1) (takes .1) later) e
 
 -- THE ROUND OF A QUESTION
 abbrev roundIn : ℕ → Question → ℕ

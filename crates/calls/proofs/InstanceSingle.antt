@@ -42,6 +42,7 @@ use Rattle.verifier.specs.Sums.{entering as verifierEntering, oneMore}
 use Rattle.verifier.specs.Claims.{closedWith, passedWith, failedNow, hears, finds}
 use Rattle.verifier.specs.Calls.{passOpen, give, close, verdictTurn, verdict}
 use Rattle.verifier.specs.ProofFile.{hearsNext, hearsFirst, endsAgree, compares, afterFile, proof}
+use Rattle.item.specs.Version.{inRange}
 use Rattle.item.specs.declared.Given.the-variants.{Reading}
 use Rattle.item.specs.Item.{partsOf}
 use Rattle.runs.specs.Trip.{Trip, tripItem, sumOf}
@@ -67,11 +68,11 @@ use Rattle.calls.proofs.Demand3.{demand3-31}
 abbrev P : ℕ
 P = 2147483647
 
--- the reading -180 for 10 minutes
+-- of version 2: the reading -18,000, which is -18.000 degrees, for 10 minutes
 abbrev single : Trip
-single = record { start = record { items = 1; rounds = 0; plain = true; twists = replicate 15 0 }; items = Reading (negsuc 179) 10 ∷ [] }
+single = record { start = record { items = 1; rounds = 0; plain = true; version = 2; twists = replicate 15 0 }; items = Reading (negsuc 17999) 10 ∷ [] }
 
-pub single-starts : startPlain 1 ≡ answered (started (freshRun (single .start)))
+pub single-starts : startPlain 1 2 ≡ answered (started (freshRun (single .start)))
 unfolding startPlain powers firstFrom
 single-starts = refl
 
@@ -80,11 +81,11 @@ unfolding powers firstFrom
 single-whole = record { start = record { least = omega arith; most = omega arith; rounds = refl }; items = refl }
 
 single-valid : Valid P single
-unfolding powers firstFrom inLimits sumOf
+unfolding powers firstFrom inLimits sumOf inRange
 single-valid = record { whole = single-whole; items = fits; total = λ e. refl }
   where
-    fits : (i : ℕ) → i < 1 → ItemFits P true (tripItem single i)
-    fits zero h = (refl, omega arith, omega arith)
+    fits : (i : ℕ) → i < 1 → ItemFits P (single .start) (tripItem single i)
+    fits zero h = (refl, refl, omega arith)
     fits (suc i) h = absurd (omega arith)
 
 -- one place that holds anything
@@ -113,12 +114,12 @@ pub single-replies :
     repliesFrom singleWorld (singleRun 2)
     ≡ says reply.opened
     ∷ says reply.taken
-    ∷ says (reply.total (negsuc 1799))
+    ∷ says (reply.total (negsuc 179999))
     ∷ says reply.opened
     ∷ says reply.taken
-    ∷ says (reply.ends 2147483467 10)
+    ∷ says (reply.ends 2147465647 10)
     ∷ []
-unfolding each itemsBelow roundsFrom openingsAt step endsCall giveCall itemChecks openCall closeCall cleared toFullCall wellFormed turnFormed passFormed powers firstFrom inLimits sizeIn32 partsOf takes takesIn entersIn summedItem enteredIn plus image residue negMod addMod mulMod sum foldWith overwrite every hornerAt arrived topAt climbFrom evaluatedFrom climbed evaluated meetsAt summed settled sumsAfter stacksFit entered streamed paddingFrom paddingBelow left placed placedAll placedIn
+unfolding each itemsBelow roundsFrom openingsAt step endsCall giveCall itemChecks openCall closeCall cleared toFullCall wellFormed turnFormed passFormed powers firstFrom inLimits sizeIn32 partsOf takes takesIn entersIn summedItem enteredIn plus image residue negMod addMod mulMod sum foldWith overwrite every hornerAt arrived topAt climbFrom evaluatedFrom climbed evaluated meetsAt summed settled sumsAfter stacksFit entered streamed paddingFrom paddingBelow left placed placedAll placedIn inRange
 single-replies = refl
 
 -- and with the change before the ends
@@ -126,25 +127,25 @@ pub single-changed :
     repliesFrom singleWorld (singleRun 0)
     ≡ says reply.opened
     ∷ says reply.taken
-    ∷ says (reply.total (negsuc 1799))
+    ∷ says (reply.total (negsuc 179999))
     ∷ says reply.opened
     ∷ says reply.taken
     ∷ says reply.changed
-    ∷ says (reply.ends 2147483467 10)
+    ∷ says (reply.ends 2147465647 10)
     ∷ []
-unfolding each itemsBelow roundsFrom openingsAt step endsCall giveCall itemChecks openCall closeCall cleared toFullCall wellFormed turnFormed passFormed powers firstFrom inLimits sizeIn32 partsOf takes takesIn entersIn summedItem enteredIn plus image residue negMod addMod mulMod sum foldWith overwrite every hornerAt arrived topAt climbFrom evaluatedFrom climbed evaluated meetsAt summed settled sumsAfter stacksFit entered streamed paddingFrom paddingBelow left placed placedAll placedIn
+unfolding each itemsBelow roundsFrom openingsAt step endsCall giveCall itemChecks openCall closeCall cleared toFullCall wellFormed turnFormed passFormed powers firstFrom inLimits sizeIn32 partsOf takes takesIn entersIn summedItem enteredIn plus image residue negMod addMod mulMod sum foldWith overwrite every hornerAt arrived topAt climbFrom evaluatedFrom climbed evaluated meetsAt summed settled sumsAfter stacksFit entered streamed paddingFrom paddingBelow left placed placedAll placedIn inRange
 single-changed = refl
 
 -- its verifier's own list: the item, the close and the verdict; or the item and the file of 18 bytes
 abbrev singleList : List Posed
-singleList = plainly (query.Give (Reading (negsuc 179) 10)) ∷ plainly (query.Close (negsuc 1799)) ∷ plainly query.Verdict ∷ []
+singleList = plainly (query.Give (Reading (negsuc 17999) 10)) ∷ plainly (query.Close (negsuc 179999)) ∷ plainly query.Verdict ∷ []
 
 abbrev singleFile : List ℕ
-singleFile = 82 ∷ 86 ∷ 80 ∷ 1 ∷ 0 ∷ 0 ∷ 248 ∷ 248 ∷ 255 ∷ 255 ∷ 75 ∷ 255 ∷ 255 ∷ 127 ∷ 10 ∷ 0 ∷ 0 ∷ 0 ∷ []
+singleFile = 82 ∷ 86 ∷ 80 ∷ 1 ∷ 0 ∷ 0 ∷ 224 ∷ 64 ∷ 253 ∷ 255 ∷ 175 ∷ 185 ∷ 255 ∷ 127 ∷ 10 ∷ 0 ∷ 0 ∷ 0 ∷ []
 
 abbrev singleByFile : List Posed
 singleByFile =
-    plainly (query.Give (Reading (negsuc 179) 10)) ∷ (record { query = query.Proof; shown = record { file = singleFile; values = []; logs = [] } }) ∷ []
+    plainly (query.Give (Reading (negsuc 17999) 10)) ∷ (record { query = query.Proof; shown = record { file = singleFile; values = []; logs = [] } }) ∷ []
 
 pub single-list : wholeByMessages P single [] (2 ∷ []) ≡ singleList
 unfolding messagesFrom sumOf
@@ -157,11 +158,11 @@ single-file-list = refl
 pub single-told :
     toldAll (freshHearing (single .start) []) singleList
     ≡ answered (said.replies heard.taken) ∷ answered (said.replies heard.closed) ∷ answered (said.finds yes) ∷ []
-unfolding each ask give passOpen verifierFormed turnOf partsOf oneMore verifierEntering freshVerifier fifteen overwrite powers firstFrom weight image residue addMod negMod mulMod close closedWith inLimits hears passedWith failedNow verdict verdictTurn finds
+unfolding each ask give passOpen verifierFormed turnOf partsOf oneMore verifierEntering freshVerifier fifteen overwrite powers firstFrom weight image residue addMod negMod mulMod close closedWith inLimits hears passedWith failedNow verdict verdictTurn finds inRange
 single-told = refl
 
 pub single-file-told : toldAll (freshHearing (single .start) []) singleByFile ≡ answered (said.replies heard.taken) ∷ answered (said.finds yes) ∷ []
-unfolding each ask give passOpen verifierFormed turnOf partsOf oneMore verifierEntering freshVerifier fifteen overwrite powers firstFrom weight image residue addMod negMod mulMod closedWith inLimits hears passedWith failedNow finds proof readProofOf readProof marked allBelow numAt num bytes signed bits proofHeader fileNumbers hearsNext hearsFirst endsAgree compares afterFile
+unfolding each ask give passOpen verifierFormed turnOf partsOf oneMore verifierEntering freshVerifier fifteen overwrite powers firstFrom weight image residue addMod negMod mulMod closedWith inLimits hears passedWith failedNow finds proof readProofOf readProof marked allBelow numAt num bytes signed bits proofHeader fileNumbers hearsNext hearsFirst endsAgree compares afterFile inRange
 single-file-told = refl
 
 -- what demand 3 says of them, whatever the mode
@@ -174,7 +175,7 @@ module _ (k : ℕ) where
 
   pub single-right : AllRight P true single singleWorld (singleRun k)
   single-right =
-      demand3-31 .answers true single single-whole total (single-whole .start) (singleLent .f) (singleLent .g) (singleRun k) (single-proper .1) (single-proper .2 true)
+      demand3-31 .answers true single single-whole total (single-whole .start) (singleLent .f) (singleLent .g) (singleRun k) (single-proper .1 true)
 
   -- its verifier's own list is that one, agrees with all of it, and brings what the run gave; so the verdict is yes
   pub single-verifier : (byMessages P single singleWorld (singleRun k) ≡ singleList)
@@ -187,12 +188,12 @@ module _ (k : ℕ) where
 
   pub single-says : AllSay P single singleHearing singleList
   single-says =
-      demand3-31 .verifierAnswers true single single-whole total (single-whole .start) (singleLent .f) (singleLent .g) (singleRun k) (single-proper .1) (single-proper .2 true) [] refl (single-proper .3) singleList
+      demand3-31 .verifierAnswers true single single-whole total (single-whole .start) (singleLent .f) (singleLent .g) (singleRun k) (single-proper .1 true) [] refl (single-proper .2) singleList
       (single-verifier .2)
 
   pub single-checked : (qs : List Posed) → OpeningsChecked P single singleWorld (singleRun k) (after (hearsOn P) singleHearing qs)
   single-checked =
-      demand3-31 .openingsChecked true single single-whole total (single-whole .start) (singleLent .f) (singleLent .g) (singleRun k) (single-proper .1) (single-proper .2 true) [] refl (single-proper .3)
+      demand3-31 .openingsChecked true single single-whole total (single-whole .start) (singleLent .f) (singleLent .g) (singleRun k) (single-proper .1 true) [] refl (single-proper .2)
 
   -- a file with room
   abbrev into : Lent
@@ -216,5 +217,5 @@ module _ (k : ℕ) where
 
   pub single-file-says : AllSay P single singleHearing singleByFile
   single-file-says =
-      demand3-31 .verifierAnswers true single single-whole total (single-whole .start) (singleLent .f) (singleLent .g) longer (single-filed .0 .1) (single-filed .0 .2 true) [] refl (single-filed .0 .3) singleByFile
+      demand3-31 .verifierAnswers true single single-whole total (single-whole .start) (singleLent .f) (singleLent .g) longer (single-filed .0 .1 true) [] refl (single-filed .0 .2) singleByFile
       (single-filed .3)

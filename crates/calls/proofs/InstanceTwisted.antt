@@ -42,6 +42,7 @@ use Rattle.verifier.specs.Sums.{entering as verifierEntering, oneMore}
 use Rattle.verifier.specs.Claims.{closedWith, passedWith, failedNow, hears, finds}
 use Rattle.verifier.specs.Openings.{firstFault, openingFinds}
 use Rattle.verifier.specs.Calls.{passOpen, give, closeClaim, messageTurn, allReduced3, message, verdictTurn, verdict, hasRounds, checkOpening}
+use Rattle.item.specs.Version.{inRange}
 use Rattle.item.specs.declared.Given.the-variants.{Numbers}
 use Rattle.item.specs.Item.{partsOf}
 use Rattle.runs.specs.Trip.{Trip, tripItem}
@@ -72,7 +73,7 @@ P = 2147483647
 abbrev twisted : Trip
 twisted =
     record {
-      start = record { items = 3; rounds = 2; plain = false; twists = 5 ∷ 7 ∷ replicate 13 0 };
+      start = record { items = 3; rounds = 2; plain = false; version = 0; twists = 5 ∷ 7 ∷ replicate 13 0 };
       items = Numbers 3 4 ∷ Numbers 6 7 ∷ Numbers 8 9 ∷ [];
     }
 
@@ -88,7 +89,7 @@ twisted-valid : Valid P twisted
 unfolding powers firstFrom
 twisted-valid = record { whole = twisted-whole; items = fits; total = λ e. absurd (true≢false (sym e)) }
   where
-    fits : (i : ℕ) → i < 3 → ItemFits P false (tripItem twisted i)
+    fits : (i : ℕ) → i < 3 → ItemFits P (twisted .start) (tripItem twisted i)
     fits zero h = (refl, omega arith, omega arith)
     fits (suc zero) h = (refl, omega arith, omega arith)
     fits (suc (suc zero)) h = (refl, omega arith, omega arith)
@@ -136,7 +137,7 @@ pub twisted-replies :
     ∷ says (reply.ends 231 45)
     ∷ (record { answer = answered reply.opening; values = inNinety 2 twistedOpening })
     ∷ [])
-unfolding each itemsBelow roundsFrom openingsAt step messageGiven messageCall endsCall giveCall itemChecks openCall openAtCall closeCall challengedFull challengeCall cleared toFullCall openingGiven openingCall wellFormed turnFormed passFormed powers firstFrom inLimits sizeIn32 partsOf takes takesIn entersIn weight summedItem enteredIn plus image residue negMod addMod mulMod sum foldWith overwrite foldSlice messageSlice valuesOf tripleValues every hornerAt arrived topAt climbFrom evaluatedFrom climbed evaluated meetsAt summed settled sumsAfter stacksFit entered streamed paddingFrom paddingBelow left placed placedAll placedIn
+unfolding each itemsBelow roundsFrom openingsAt step messageGiven messageCall endsCall giveCall itemChecks openCall openAtCall closeCall challengedFull challengeCall cleared toFullCall openingGiven openingCall wellFormed turnFormed passFormed powers firstFrom inLimits sizeIn32 partsOf takes takesIn entersIn weight summedItem enteredIn plus image residue negMod addMod mulMod sum foldWith overwrite foldSlice messageSlice valuesOf tripleValues every hornerAt arrived topAt climbFrom evaluatedFrom climbed evaluated meetsAt summed settled sumsAfter stacksFit entered streamed paddingFrom paddingBelow left placed placedAll placedIn inRange
 twisted-replies = refl
 
 -- its verifier's own list: the items, the claim, two messages, the verdict and a check
@@ -167,7 +168,7 @@ pub twisted-told :
     ∷ answered (said.finds yes)
     ∷ answered (said.opens holds)
     ∷ []
-unfolding each ask give passOpen verifierFormed turnOf partsOf oneMore verifierEntering freshVerifier fifteen overwrite powers firstFrom weight image residue addMod negMod mulMod closeClaim closedWith inLimits message messageTurn allReduced3 hears passedWith failedNow verdict verdictTurn finds checkOpening hasRounds every openingFinds firstFault opens divMod inverseMod inverseIn halfMod halfOne subMod
+unfolding each ask give passOpen verifierFormed turnOf partsOf oneMore verifierEntering freshVerifier fifteen overwrite powers firstFrom weight image residue addMod negMod mulMod closeClaim closedWith inLimits message messageTurn allReduced3 hears passedWith failedNow verdict verdictTurn finds checkOpening hasRounds every openingFinds firstFault opens divMod inverseMod inverseIn halfMod halfOne subMod inRange
 twisted-told = refl
 
 -- what demand 3 says of them
@@ -176,7 +177,7 @@ twisted-proper = demand3-31 .proper twisted twisted-valid 1 (2 ∷ 3 ∷ []) (3 
 
 pub twisted-right : AllRight P true twisted twistedWorld twistedRun
 twisted-right =
-    demand3-31 .answers true twisted twisted-whole total (twisted-whole .start) (twistedLent .f) (twistedLent .g) twistedRun (twisted-proper .1) (twisted-proper .2 true)
+    demand3-31 .answers true twisted twisted-whole total (twisted-whole .start) (twistedLent .f) (twistedLent .g) twistedRun (twisted-proper .1 true)
 
 abbrev twistedHearing : Hearing
 twistedHearing = freshHearing (twisted .start) (2 ∷ 3 ∷ [])
@@ -192,10 +193,10 @@ twisted-verifier =
 -- so every message passes and the verdict is yes
 pub twisted-says : AllSay P twisted twistedHearing twistedList
 twisted-says =
-    demand3-31 .verifierAnswers true twisted twisted-whole total (twisted-whole .start) (twistedLent .f) (twistedLent .g) twistedRun (twisted-proper .1) (twisted-proper .2 true) (2 ∷ 3 ∷ []) refl (twisted-proper .3) twistedList
+    demand3-31 .verifierAnswers true twisted twisted-whole total (twisted-whole .start) (twistedLent .f) (twistedLent .g) twistedRun (twisted-proper .1 true) (2 ∷ 3 ∷ []) refl (twisted-proper .2) twistedList
     (twisted-verifier .2)
 
 -- and every check of the run's openings is yes, before the list, after it or after any other
 pub twisted-checked : (qs : List Posed) → OpeningsChecked P twisted twistedWorld twistedRun (after (hearsOn P) twistedHearing qs)
 twisted-checked =
-    demand3-31 .openingsChecked true twisted twisted-whole total (twisted-whole .start) (twistedLent .f) (twistedLent .g) twistedRun (twisted-proper .1) (twisted-proper .2 true) (2 ∷ 3 ∷ []) refl (twisted-proper .3)
+    demand3-31 .openingsChecked true twisted twisted-whole total (twisted-whole .start) (twistedLent .f) (twistedLent .g) twistedRun (twisted-proper .1 true) (2 ∷ 3 ∷ []) refl (twisted-proper .2)

@@ -26,10 +26,10 @@ use Rattle.calls.specs.Table.{changeWaits}
 use Rattle.calls.specs.Lists.{after}
 use Rattle.calls.specs.World.{World, freshWorld, onward}
 use Rattle.calls.specs.Proper.{Valid, AllNonzero, wholePass, answerBy, changeBefore, roundsFrom, openingsAt, endCalls, openingCalls, wholeRun, Host, Brings, properRun}
-use Rattle.calls.specs.Demand3.{AllSized, AllAnswered, AllKept, AllRight}
+use Rattle.calls.specs.Demand3.{AllAnswered, AllKept, AllRight}
 use Rattle.calls.proofs.Records.{noNotes}
 use Rattle.calls.proofs.Answers.{all-right, fresh-going}
-use Rattle.calls.proofs.LiveWorld.{Lives, lives-answered, lives-sized, lives-kept, lives-ended, Standing}
+use Rattle.calls.proofs.LiveWorld.{Lives, lives-answered, lives-kept, lives-ended, Standing}
 use Rattle.calls.proofs.LivePass.{total-lives, message-lives, ends-lives, opening-lives, change-lives}
 use Rattle.calls.proofs.LiveFull.{challenge-lives, full-message-lives, full-ends-lives, full-opening-lives}
 
@@ -177,9 +177,6 @@ module _ (p : ℕ) (large : maxWeight < p) (T : Trip) (valid : Valid p T) (k : �
   proper-answered = lives-answered p T true begin (wholeRun T k cs bs) (lives true)
 
   -- it is a list of which the two layers speak
-  pub proper-sized : AllSized p fresh (properRun p T k cs bs l)
-  proper-sized = lives-sized p T true begin (wholeRun T k cs bs) (lives true)
-
   pub proper-kept : (through : Bool) → AllKept p through T fresh (properRun p T k cs bs l)
   proper-kept through = lives-kept p T through begin (wholeRun T k cs bs) (lives through)
 
@@ -191,4 +188,4 @@ module _ (p : ℕ) (large : maxWeight < p) (T : Trip) (valid : Valid p T) (k : �
   pub proper-right : (through : Bool) → AllRight p through T fresh (properRun p T k cs bs l)
   proper-right through =
       all-right p large through T (valid .whole .items) fresh (fresh-going p large through T (valid .whole .items) (valid .whole .start) (l .f) (l .g))
-      (properRun p T k cs bs l) proper-sized (proper-kept through)
+      (properRun p T k cs bs l) (proper-kept through)

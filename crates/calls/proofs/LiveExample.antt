@@ -10,6 +10,7 @@ use lib.ListN.{replicate, take}
 use Rattle.field.specs.Total.{inLimits}
 use Rattle.vector.specs.Rounds.{powers, firstFrom}
 use Rattle.item.specs.declared.Given.the-variants.{Reading}
+use Rattle.item.specs.Version.{inRange}
 use Rattle.runs.specs.Trip.{Trip, tripItem, sumOf}
 use Rattle.calls.specs.Step.{Lent}
 use Rattle.calls.specs.Lists.{after}
@@ -26,18 +27,18 @@ P = 2147483647
 abbrev trip : Trip
 trip =
     record {
-      start = record { items = 3; rounds = 2; plain = true; twists = replicate 15 0 };
+      start = record { items = 3; rounds = 2; plain = true; version = 1; twists = replicate 15 0 };
       items = Reading (negsuc 179) 10 ∷ Reading (negsuc 174) 20 ∷ Reading (pos 40) 5 ∷ [];
     }
 
 valid : Valid P trip
-unfolding powers firstFrom inLimits sumOf
+unfolding powers firstFrom inLimits sumOf inRange
 valid = record { whole = record { start = record { least = omega arith; most = omega arith; rounds = refl }; items = refl }; items = fits; total = λ e. refl }
   where
-    fits : (i : ℕ) → i < 3 → ItemFits P true (tripItem trip i)
-    fits zero h = (refl, omega arith, omega arith)
-    fits (suc zero) h = (refl, omega arith, omega arith)
-    fits (suc (suc zero)) h = (refl, omega arith, omega arith)
+    fits : (i : ℕ) → i < 3 → ItemFits P (trip .start) (tripItem trip i)
+    fits zero h = (refl, refl, omega arith)
+    fits (suc zero) h = (refl, refl, omega arith)
+    fits (suc (suc zero)) h = (refl, refl, omega arith)
     fits (suc (suc (suc i))) h = absurd (omega arith)
 
 -- four places that hold anything

@@ -30,7 +30,6 @@ use Rattle.calls.specs.State.{State, takesChallenge, buffersIn}
 use Rattle.calls.specs.Table.{openingsNext, levelNow, long, readRows}
 use Rattle.calls.specs.Meaning.{challengeWrites, AsLeft}
 use Rattle.calls.specs.Proper.{Valid, Host, foldZero}
-use Rattle.calls.proofs.LiveStep.{other-sized}
 use Rattle.calls.proofs.LiveVectors.{f-below, g-below}
 use Rattle.calls.proofs.LiveTable.{reads-free, message-free, challenge-free, ends-free, opening-free}
 use Rattle.calls.proofs.LiveWorld.{still, made, Lives, SameBuffers, buffers-so, not-anew, Standing, call-lives, stands, fits-read}
@@ -72,7 +71,7 @@ module _ (p : ℕ) (large : maxWeight < p) (through : Bool) (T : Trip) (due : Ty
       = λ y. (let f : isFull m ≡ true = ap isFull (sym (st .mode)) ∙ y in fits-read p large through T due valid m next.Challenge i k q w st (may f) (is-full m f) refl) in
       let free = challenge-free p a (w .lent) c (ap (waits next.Challenge) (st .next)) ok reads in
       let kept : isFull (a .turn .mode) ≡ true → AsLeft a (w .lent) = λ y j h. left j in
-      call-lives p large through T due valid m next.Challenge i k q w st (call.Challenge c) (other-sized _ refl) false (not-anew m next.Challenge refl) free kept cs
+      call-lives p large through T due valid m next.Challenge i k q w st (call.Challenge c) false (not-anew m next.Challenge refl) free kept cs
       (λ v r.
       let o : Lent = made p T w (call.Challenge c) .lent in
       let e = buffers-so (isFull (a .turn .mode)) b o in
@@ -92,7 +91,7 @@ module _ (p : ℕ) (large : maxWeight < p) (through : Bool) (T : Trip) (due : Ty
         let reads = fits-read p large through T due valid Full next.Message i k q w st d refl refl in
         let free = message-free p (w .world .state) (w .lent) (ap isFull (st .mode)) (ap (waits next.Message) (st .next)) reads in
         let kept : AsLeft (w .world .state) (w .lent) = λ j h. st .left refl j in
-        call-lives p large through T due valid Full next.Message i k q w st call.Message (other-sized _ refl) false refl free kept cs
+        call-lives p large through T due valid Full next.Message i k q w st call.Message false refl free kept cs
         (λ v r. on _ (stands p large through T due valid Full next.Message i k q w st call.Message v Full next.Challenge i Shut 0
         (st .mode) refl (st .round) refl refl (λ y j. (refl, refl))))
 
@@ -101,7 +100,7 @@ module _ (p : ℕ) (large : maxWeight < p) (through : Bool) (T : Trip) (due : Ty
         let reads = fits-read p large through T due valid Full next.Ends i k q w st d refl refl in
         let free = ends-free p (w .world .state) (w .lent) (ap isFull (st .mode)) (ap (waits next.Ends) (st .next)) reads in
         let kept : AsLeft (w .world .state) (w .lent) = λ j h. st .left refl j in
-        call-lives p large through T due valid Full next.Ends i k q w st call.Ends (other-sized _ refl) false refl free kept cs
+        call-lives p large through T due valid Full next.Ends i k q w st call.Ends false refl free kept cs
         (λ v r. on _ (stands p large through T due valid Full next.Ends i k q w st call.Ends v Full next.Openings i Shut 0
         (st .mode) refl (st .round) refl refl (λ y j. (refl, refl))))
 
@@ -125,6 +124,6 @@ module _ (p : ℕ) (large : maxWeight < p) (through : Bool) (T : Trip) (due : Ty
         let turn : openingsNext (a .turn .next) (a .start .rounds) ≡ true = ap₂ openingsNext (st .next) (ap (λ s. s .rounds) (st .going .start)) ∙ some in
         let free = opening-free p a l b (ap isFull (st .mode)) turn ok reads in
         let kept : (j : ℕ) → j < 2 ^ n → (at (l .f) j ≡ vectorF p T j) × (at (l .g) j ≡ vectorG p T j) = λ j h. (fz j h, gz j h) in
-        call-lives p large through T due valid Full next.Openings i k q w st (call.Opening b) (other-sized _ refl) true refl free kept cs
+        call-lives p large through T due valid Full next.Openings i k q w st (call.Opening b) true refl free kept cs
         (λ v r. on _ (stands p large through T due valid Full next.Openings i k q w st (call.Opening b) v Full next.Openings i k q
         (st .mode) (st .next) (st .round) (st .kind) (st .taken) (λ y. absurd (true≢false y))))

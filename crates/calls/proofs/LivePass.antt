@@ -29,11 +29,9 @@ use Rattle.calls.specs.Step.{Lent}
 use Rattle.calls.specs.State.{State, inPass, buffersIn, closed, goesOn}
 use Rattle.calls.specs.Table.{passWaits, openingsNext, changeWaits, bothLong, totalFits}
 use Rattle.calls.specs.Meaning.{itemWrites}
-use Rattle.calls.specs.Statement.{Sized}
 use Rattle.calls.specs.Proper.{ItemFits, Valid, itemsBelow, wholePass, Host, hostOn}
 use Rattle.calls.proofs.Agrees.{tripAt}
 use Rattle.calls.proofs.KeptCalls.{ItemKept}
-use Rattle.calls.proofs.LiveStep.{small-sized, other-sized}
 use Rattle.calls.proofs.LiveTable.{open-free, open-at-free, to-full-free, item-free, close-free}
 use Rattle.calls.proofs.LiveWorld.{still, made, Lives, SameBuffers, buffers-so, Standing, MovedBy, call-lives, stands, fits-long}
 
@@ -63,7 +61,7 @@ module _ (p : ℕ) (large : maxWeight < p) (through : Bool) (T : Trip) (due : Ty
     open-lives : passWaits Small t ≡ true → ((w : Host) → Stands Small t i Asked 0 w → Lives p T through w cs) → Lives p T through w (call.OpenPass ∷ cs)
     open-lives turn on =
         let free = open-free p (w .world .state) (w .lent) (ap₂ passWaits (st .mode) (st .next) ∙ turn) in
-        call-lives p large through T due valid Small t i k q w st call.OpenPass (other-sized _ refl) false refl free tt cs
+        call-lives p large through T due valid Small t i k q w st call.OpenPass false refl free tt cs
         (λ v r. on _ (stands p large through T due valid Small t i k q w st call.OpenPass v Small t i Asked 0 (st .mode) (st .next) (st .round) refl refl
         (λ y. still (w .world .state) (inPass (w .world .state) Asked 0 []) (w .lent) (made p T w call.OpenPass .lent) _ _ refl refl (r .f) (r .g) (st .left refl))))
 
@@ -71,7 +69,7 @@ module _ (p : ℕ) (large : maxWeight < p) (through : Bool) (T : Trip) (due : Ty
         → Lives p T through w (call.OpenAt b ∷ cs)
     open-at-lives b turn ok on =
         let free = open-at-free p (w .world .state) (w .lent) b (ap isSmall (st .mode)) (ap₂ openingsNext (st .next) rounds-so ∙ turn) ok in
-        call-lives p large through T due valid Small t i k q w st (call.OpenAt b) (other-sized _ refl) false refl free tt cs
+        call-lives p large through T due valid Small t i k q w st (call.OpenAt b) false refl free tt cs
         (λ v r. on _ (stands p large through T due valid Small t i k q w st (call.OpenAt b) v Small t i Asked 0 (st .mode) (st .next) (st .round) refl refl
         (λ y. still (w .world .state) (inPass (w .world .state) Asked b []) (w .lent) (made p T w (call.OpenAt b) .lent) _ _ refl refl (r .f) (r .g) (st .left refl))))
 
@@ -80,7 +78,7 @@ module _ (p : ℕ) (large : maxWeight < p) (through : Bool) (T : Trip) (due : Ty
         let now : changeWaits (w .world .state .turn .mode) (w .world .state .turn .next) (w .world .state .start .rounds) ≡ true
         = ap₂ (λ m t. changeWaits m t (w .world .state .start .rounds)) (st .mode) (st .next) ∙ ap (changeWaits Small t) rounds-so ∙ turn in
         let free = to-full-free p (w .world .state) (w .lent) now (fits-long p large through T due valid Small t i k q w st (w .lent) (st .room d)) in
-        call-lives p large through T due valid Small t i k q w st call.ToFull (other-sized _ refl) false refl free tt cs
+        call-lives p large through T due valid Small t i k q w st call.ToFull false refl free tt cs
         (λ v r. on _ (stands p large through T due valid Small t i k q w st call.ToFull v Small t i Change 0 (st .mode) (st .next) (st .round) refl refl
         (λ y j. (refl, refl))))
 
@@ -114,17 +112,13 @@ module _ (p : ℕ) (large : maxWeight < p) (through : Bool) (T : Trip) (due : Ty
         (ap (λ d. d .mode) turn ∙ st .mode) (ap (λ d. d .next) turn ∙ st .next) (ap (λ d. length (d .challenges)) turn ∙ st .round)
         (ap (λ d. d .kind) pass ∙ st .kind) (ap (λ d. length (d .items)) pass ∙ ap suc (st .taken)) (λ y. subst (SameBuffers (made p T w c .lent)) (sym e) left)
 
-    item-sized : (x : Given) → ItemFits p (T .start .plain) x → Sized (call.Give x)
-    item-sized (Reading r m) fits = small-sized (call.Give (Reading r m)) (fits .1)
-    item-sized (Numbers x y) fits = other-sized (call.Give (Numbers x y)) refl
-
-    item-lives : (x : Given) → ItemFits p (T .start .plain) x → x ≡ tripItem T (L - 1 - q) → (cs : List Call)
+    item-lives : (x : Given) → ItemFits p (T .start) x → x ≡ tripItem T (L - 1 - q) → (cs : List Call)
         → ((w : Host) → Stands Small t i k (suc q) w → Lives p T through w cs) → Lives p T through w (call.Give x ∷ cs)
     item-lives x fits e cs on =
         let c : Call = call.Give x in
-        let own : ItemFits p (a .start .plain) x = subst (λ s. ItemFits p (s .plain) x) (sym (st .going .start)) fits in
+        let own : ItemFits p (a .start) x = subst (λ s. ItemFits p s x) (sym (st .going .start)) fits in
         let free = item-free p a (w .lent) x (ap isOpen (st .kind) ∙ op) more-so own fits-change in
-        call-lives p large through T due valid Small t i k q w st c (item-sized x fits) false refl free (kept-item x e) cs
+        call-lives p large through T due valid Small t i k q w st c false refl free (kept-item x e) cs
         (λ v o. on _ (stands-item x c v refl
         (item-left a (taking x) (w .lent) (made p T w c .lent) _ _ (a .pass .kind) refl refl (o .f) (o .g) (st .left refl))))
 
@@ -173,7 +167,7 @@ module _ (p : ℕ) (large : maxWeight < p) (through : Bool) (T : Trip) (due : Ty
       let a : State = w .world .state in
       let all : length (a .pass .items) ≡ a .start .items = st .taken ∙ ap (λ s. s .items) (sym (st .going .start)) in
       let free = close-free p a (w .lent) (ap isOpen (st .kind) ∙ op) all (total-so t i k w st) in
-      call-lives p large through T due valid Small t i k L w st call.Close (other-sized _ refl) false refl free tt cs
+      call-lives p large through T due valid Small t i k L w st call.Close false refl free tt cs
       (λ v r.
       let b : State = closed a (a .turn .next) (a .pass .kind) in
       let h = subst (λ b. Closes a b m' t') (ap₂ (closed a) (sym (st .next)) (sym (st .kind))) (after a (st .going .start) (st .mode) (st .next)) in

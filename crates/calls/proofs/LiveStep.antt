@@ -16,31 +16,10 @@ use Rattle.item.specs.declared.Given.the-variants.{Reading, Numbers}
 use Rattle.calls.specs.World.{Made, World, came, onward}
 use Rattle.calls.specs.Table.{table}
 use Rattle.calls.specs.Meaning.{Kept}
-use Rattle.calls.specs.Statement.{Sized, Right}
+use Rattle.calls.specs.Statement.{Right}
 use Rattle.calls.proofs.Records.{Notes, noted}
 use Rattle.calls.proofs.Answers.{Going, right-here, goes-on}
 use Rattle.calls.proofs.LiveTable.{free-answered}
-
--- how large a reading a call brings
-abbrev pub sizeOf : Call → ℕ
-sizeOf call.OpenPass = 0
-sizeOf (call.OpenAt b) = 0
-sizeOf call.ToFull = 0
-sizeOf call.ToSmall = 0
-sizeOf (call.Give (Reading r w)) = natAbs r
-sizeOf (call.Give (Numbers x y)) = 0
-sizeOf call.Close = 0
-sizeOf call.Message = 0
-sizeOf (call.Challenge c) = 0
-sizeOf call.Ends = 0
-sizeOf (call.Opening b) = 0
-sizeOf call.WriteProof = 0
-
-pub small-sized : (c : Call) → sizeOf c ≤ 32768 → Sized c
-small-sized c h r w e = subst (λ k. k ≤ 32768) (ap sizeOf e) h
-
-pub other-sized : (c : Call) → sizeOf c ≡ 0 → Sized c
-other-sized c e = small-sized c (omega arith)
 
 module _ (p : ℕ) (large : maxWeight < p) (through : Bool) (T : Trip) (whole : length (T .items) ≡ T .start .items) where
   -- an answered call, and where it leads
@@ -50,13 +29,13 @@ module _ (p : ℕ) (large : maxWeight < p) (through : Bool) (T : Trip) (whole : 
     pub right : Right p T (w .state) (m .call) (m .lent) (came p w m)
     pub state : follow (w .state) (m .call) (came p w m) ≡ goesOn (w .state) (m .call) (came p w m .lent)
 
-  pub moved : (w : World) {past : Notes} → Going p large through T whole w past → (m : Made) → Sized (m .call)
+  pub moved : (w : World) {past : Notes} → Going p large through T whole w past → (m : Made)
       → table p (w .state) (m .call) (m .lent) ≡ none → Kept p T through (w .state) (m .call) (m .lent) → Moved w past m
-  moved w g m z free kept =
-      let yes = free-answered p large (w .state) (w .run) (w .pass) (g .faithful) (m .call) z (m .lent) free in
+  moved w g m free kept =
+      let yes = free-answered p large (w .state) (w .run) (w .pass) (g .faithful) (m .call) (m .lent) free in
       record {
         answered = yes;
-        going = goes-on p large through T whole w g m z (λ y. kept);
-        right = right-here p large through T whole w g m z (λ y. kept) free;
+        going = goes-on p large through T whole w g m (λ y. kept);
+        right = right-here p large through T whole w g m (λ y. kept) free;
         state = ap (λ y. cond y (goesOn (w .state) (m .call) (came p w m .lent)) (w .state)) yes;
       }

@@ -22,7 +22,7 @@ use Rattle.item.specs.declared.Given.{Given}
 use Rattle.item.specs.declared.Given.the-variants.{Reading, Numbers}
 use Rattle.calls.specs.Proper.{ItemFits}
 use Rattle.calls.specs.Table.{Refusal, row, rowAt, passWaits, openingsNext, changeWaits, long, bothLong, readRows, givenRows, placeRow, totalFits, table}
-use Rattle.calls.specs.Statement.{Sized, Decides}
+use Rattle.calls.specs.Statement.{Decides}
 use Rattle.calls.proofs.Records.{Notes}
 use Rattle.calls.proofs.Refusals.{Inv, decide-step}
 
@@ -62,12 +62,12 @@ module _ (p : ℕ) (a : State) (l : Lent) where
       by true h = h refl
       by false h = refl
 
-  own-free : (x : Given) → ItemFits p (a .start .plain) x → placeRow a l ≡ none
+  own-free : (x : Given) → ItemFits p (a .start) x → placeRow a l ≡ none
       → givenRows p (a .start) (a .start .items - 1 - length (a .pass .items)) x (placeRow a l) ≡ none
-  own-free (Reading r w) fits place = row-free _ 10 _ (fits .0) (row-at-free _ 5 _ _ (le-leb w maxWeight (fits .2)) place)
+  own-free (Reading r w) fits place = row-free _ 10 _ (fits .0) (row-at-free _ 5 _ _ (le-leb w maxWeight (fits .2)) (row-at-free _ 18 _ _ (fits .1) place))
   own-free (Numbers x y) fits place = row-free _ 10 _ (ap not (fits .0)) (row-free _ 16 _ (ap₂ _&&_ (lt-ltb x p (fits .1)) (lt-ltb y p (fits .2))) place)
 
-  pub item-free : (x : Given) → isOpen (a .pass .kind) ≡ true → length (a .pass .items) < a .start .items → ItemFits p (a .start .plain) x
+  pub item-free : (x : Given) → isOpen (a .pass .kind) ≡ true → length (a .pass .items) < a .start .items → ItemFits p (a .start) x
       → (isChange (a .pass .kind) ≡ true → bothLong a l ≡ true) → table p a (call.Give x) l ≡ none
   unfolding table
   item-free x op more fits long = row-free _ 10 _ op (row-free _ 8 _ (lt-ltb _ _ more) (own-free x fits (place-free long)))
@@ -103,6 +103,6 @@ module _ (p : ℕ) (a : State) (l : Lent) where
   write-free plain turn long = row-free _ 10 _ (ap₂ _&&_ plain turn) (row-free _ 9 none (le-leb _ _ long) refl)
 
 -- such a call is answered
-pub free-answered : (p : ℕ) (large : maxWeight < p) (a : State) {past : Notes} (r : Run) (s : Pass) → Inv p large a past r s → (c : Call) → Sized c → (l : Lent) → table p a c l ≡ none
+pub free-answered : (p : ℕ) (large : maxWeight < p) (a : State) {past : Notes} (r : Run) (s : Pass) → Inv p large a past r s → (c : Call) → (l : Lent) → table p a c l ≡ none
     → isAnswered (step p r s c l .answer) ≡ true
-free-answered p large a r s i c z l free = subst (λ t. Decides r s l t (step p r s c l)) free (decide-step p large a r s i c z l)
+free-answered p large a r s i c l free = subst (λ t. Decides r s l t (step p r s c l)) free (decide-step p large a r s i c l)

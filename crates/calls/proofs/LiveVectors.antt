@@ -17,16 +17,16 @@ use Rattle.calls.proofs.Fits.{Fine}
 use Rattle.calls.proofs.Numbers.{enters-below}
 
 module _ (p : ℕ) (large : maxWeight < p) (T : Trip) (valid : Valid p T) where
-  item-below : (plain : Bool) (x : Given) → ItemFits p plain x → Fine p (T .start) x
-  item-below plain (Reading r w) h = (omega (arith, image-lt p r, base-of p (positive p large)), omega (arith, h .2))
-  item-below plain (Numbers a b) h = (h .1, h .2)
+  item-below : (x : Given) → ItemFits p (T .start) x → Fine p (T .start) x
+  item-below (Reading r w) h = (omega (arith, image-lt p r, base-of p (positive p large)), omega (arith, h .2))
+  item-below (Numbers a b) h = (h .1, h .2)
 
   padded-below : (j : ℕ) (b : Bool) (x : ℕ) → (b ≡ true → x < p) → cond b x 0 < p
   padded-below j true x h = h refl
   padded-below j false x h = positive p large
 
   fits-at : (j : ℕ) → ltb j (T .start .items) ≡ true → Fine p (T .start) (tripItem T j)
-  fits-at j e = item-below (T .start .plain) (tripItem T j) (valid .items j (ltb-true j (T .start .items) e))
+  fits-at j e = item-below (tripItem T j) (valid .items j (ltb-true j (T .start .items) e))
 
   pub f-below : (j : ℕ) → vectorF p T j < p
   f-below j = padded-below j (ltb j (T .start .items)) _ (λ e. enters-below p (positive p large) (T .start) j _ (fits-at j e .0))

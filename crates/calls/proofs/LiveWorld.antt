@@ -27,9 +27,9 @@ use Rattle.calls.specs.State.{State, withBuffers, buffersIn, goesOn}
 use Rattle.calls.specs.World.{Made, World, came, onward}
 use Rattle.calls.specs.Table.{long, taken, completed, bothLong, readRows, table}
 use Rattle.calls.specs.Meaning.{foldF, foldG}
-use Rattle.calls.specs.Statement.{Sized, Right, known}
+use Rattle.calls.specs.Statement.{Right, known}
 use Rattle.calls.specs.Proper.{Valid, Host, foldZero, lends, makes, hostOn}
-use Rattle.calls.specs.Demand3.{AllSized, AllAnswered, AllKept}
+use Rattle.calls.specs.Demand3.{AllAnswered, AllKept}
 use Rattle.calls.proofs.Follows.{positive}
 use Rattle.calls.proofs.Records.{Notes, noted}
 use Rattle.calls.proofs.Agrees.{tripAt, knownIn}
@@ -45,7 +45,7 @@ module _ (p : ℕ) (T : Trip) where
 
   -- all that is shown of a call
   abbrev Lived : Bool → Host → Call → Type 0
-  Lived through w c = (isAnswered (made w c .answer) ≡ true) × Sized c × KeptBy p T through (w .world .state) c (lends p T (w .world .state) (w .lent))
+  Lived through w c = (isAnswered (made w c .answer) ≡ true) × KeptBy p T through (w .world .state) c (lends p T (w .world .state) (w .lent))
 
   -- and of a list, along it; it ends after the ends
   unfoldable pub Lives : Bool → Host → List Call → Type 0
@@ -68,11 +68,8 @@ module _ (p : ℕ) (T : Trip) where
     pub lives-answered : AllAnswered p (w .world) (each (hostOn p T) (makes p T) w cs)
     lives-answered = played through _ (λ w c q. q .0) w cs h
 
-    pub lives-sized : AllSized p (w .world) (each (hostOn p T) (makes p T) w cs)
-    lives-sized = played through _ (λ w c q. q .1) w cs h
-
     pub lives-kept : AllKept p through T (w .world) (each (hostOn p T) (makes p T) w cs)
-    lives-kept = played through _ (λ w c q y. by-kept p T through (w .world .state) c (lends p T (w .world .state) (w .lent)) (q .2)) w cs h
+    lives-kept = played through _ (λ w c q y. by-kept p T through (w .world .state) c (lends p T (w .world .state) (w .lent)) (q .1)) w cs h
 
   -- fold 0 is lent in buffers of the same length
   lends-length : (a : State) (l : Lent) → (length (lends p T a l .f) ≡ length (l .f)) × (length (lends p T a l .g) ≡ length (l .g))
@@ -148,20 +145,20 @@ module _ (p : ℕ) (large : maxWeight < p) (through : Bool) (T : Trip) (due : Ty
     start-so = st .going .start
 
     -- lent fold 0 anew, or what is in the host's hands
-    pub call-lives : (c : Call) → Sized c → (b : Bool) → lentAnew m t ≡ b
+    pub call-lives : (c : Call) → (b : Bool) → lentAnew m t ≡ b
         → (let a : State = w .world .state in
         let l : Lent = cond b (foldZero p T (w .lent)) (w .lent) in
         table p a c l ≡ none → KeptBy p T through a c l → (cs : List Call)
         → (MovedBy c → Right p T a c l (made p T w c) → Lives p T through (hostOn p T w c) cs) → Lives p T through w (c ∷ cs))
     unfolding Lives
-    call-lives c z b anew free kept cs on =
+    call-lives c b anew free kept cs on =
         let a : State = w .world .state in
         let e : lends p T a (w .lent) ≡ cond b (foldZero p T (w .lent)) (w .lent) =
         ap (λ b. cond b (foldZero p T (w .lent)) (w .lent)) (ap₂ lentAnew (st .mode) (st .next) ∙ anew) in
         let here = subst (λ l. (table p a c l ≡ none) × KeptBy p T through a c l) (sym e) (free, kept) in
         let v : MovedBy c =
-        moved p large through T (valid .whole .items) (w .world) (st .going) (makes p T w c) z (here .0) (by-kept p T through a c (lends p T a (w .lent)) (here .1)) in
-        ((v .answered, z, here .1), on v (subst (λ l. Right p T a c l (made p T w c)) e (v .right)))
+        moved p large through T (valid .whole .items) (w .world) (st .going) (makes p T w c) (here .0) (by-kept p T through a c (lends p T a (w .lent)) (here .1)) in
+        ((v .answered, here .1), on v (subst (λ l. Right p T a c l (made p T w c)) e (v .right)))
 
     pub stands : (c : Call) → MovedBy c → (m' : Mode) (t' : Next) (i' : ℕ) (k' : Kind) (q' : ℕ)
         → (let b : State = goesOn (w .world .state) c (made p T w c .lent) in

@@ -29,7 +29,7 @@ use Rattle.calls.specs.QueryState.{VerifierState, verifierTable, Posed, 
 use Rattle.calls.specs.Given.{OpeningsChecked}
 use Rattle.calls.specs.Starts.{Startable, Whole}
 use Rattle.calls.specs.Begins.{Begin, CanBegin, begun}
-use Rattle.calls.specs.Demand3.{AllSized, AllKept, AllTake}
+use Rattle.calls.specs.Demand3.{AllKept, AllTake}
 use Rattle.calls.proofs.Turns.{both}
 use Rattle.calls.proofs.Begins.{begun-going}
 use Rattle.calls.proofs.QueryStands.{Carries, Stands, fresh-stands}
@@ -111,12 +111,12 @@ module _ (p : ℕ) (large : maxWeight < p) (prime : Prime p) (odd : p % 2 ≡ 1)
 
   pub openings-checked : (through : Bool) (begin : Begin) → CanBegin (T .start) begin → (f g : List ℕ) (ms : List Made)
       → (let v : World = begun (T .start) begin f g in
-      AllSized p v ms → AllKept p through T v ms → AllTake p cs v ms → (qs : List Posed)
+      AllKept p through T v ms → AllTake p cs v ms → (qs : List Posed)
       → OpeningsChecked p T v ms (after (hearsOn p) (freshHearing (T .start) cs) qs))
-  openings-checked through begin can f g ms z kept takes qs x values gave file logs =
+  openings-checked through begin can f g ms kept takes qs x values gave file logs =
       let going = begun-going p large through T (w .items) begin can f g in
-      let hit = hit-somewhere p large through T (w .items) cs _ _ (begun (T .start) begin f g) going ms z kept takes gave in
-      let ok = both (isNonzero p x) (ltb 0 rounds) (begun-pointed p large (T .start) begin can f g ms z x _ gave) in
+      let hit = hit-somewhere p large through T (w .items) cs _ _ (begun (T .start) begin f g) going ms kept takes gave in
+      let ok = both (isNonzero p x) (ltb 0 rounds) (begun-pointed p large (T .start) begin can f g ms x _ gave) in
       let h = stands-still p (T .start) cs (w .start) qs in
       opening-yes _ _ (h .0) (h .1) (h .2) x (ok .0) (ok .1) (record { file = file; values = take (6 * rounds) values; logs = logs })
       (opening-of p large through T (w .items) cs x values (hit .0) (sym (hit .1) ∙ hit-replies p large through T (w .items) cs _ (hit .0)))

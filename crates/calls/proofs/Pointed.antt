@@ -24,7 +24,6 @@ use Rattle.calls.specs.Table.{row, passWaits, openingsNext, table}
 use Rattle.calls.specs.Meaning.{Question, total, roundMessage, ends, openingAt, proof, done, closeAsks, question, Answer}
 use Rattle.calls.specs.World.{Made, World, came, onward}
 use Rattle.calls.specs.Given.{Gave}
-use Rattle.calls.specs.Demand3.{AllSized}
 use Rattle.calls.proofs.Records.{Notes}
 use Rattle.calls.proofs.Steps.{row-passed}
 use Rattle.calls.proofs.Turns.{both}
@@ -137,17 +136,17 @@ module _ (p : ℕ) where
   asked-pointed a call.WriteProof l x t h e = absurd (true≢false (sym (ap isOpeningAsked e)))
 
   module _ (large : maxWeight < p) where
-    pub gave-pointed : (w : World) {past : Notes} → Faithful p large w past → pointed p (w .state) ≡ true → (ms : List Made) → AllSized p w ms
+    pub gave-pointed : (w : World) {past : Notes} → Faithful p large w past → pointed p (w .state) ≡ true → (ms : List Made)
         → (x : ℕ) (y : Answer) → Gave p w ms (openingAt x) y → (isNonzero p x && ltb 0 (w .state .start .rounds)) ≡ true
     unfolding somewhere along
-    gave-pointed w i h [] z x y e = absurd e
-    gave-pointed w i h (m ∷ ms) z x y e =
+    gave-pointed w i h [] x y e = absurd e
+    gave-pointed w i h (m ∷ ms) x y e =
         let a : State = w .state in
         let o : Result = came p w m in
         let free : isAnswered (o .answer) ≡ true → table p a (m .call) (m .lent) ≡ none =
-        λ y. answered-none (w .run) (w .pass) (m .lent) (table p a (m .call) (m .lent)) o (decide-step p large a (w .run) (w .pass) i (m .call) (z .0) (m .lent)) y in
+        λ y. answered-none (w .run) (w .pass) (m .lent) (table p a (m .call) (m .lent)) o (decide-step p large a (w .run) (w .pass) i (m .call) (m .lent)) y in
         ⊎-elim {C = (isNonzero p x && ltb 0 (a .start .rounds)) ≡ true}
         (λ here. asked-pointed a (m .call) (m .lent) x (free (here .0 .0)) h (here .0 .1))
         (λ later.
         subst (λ st. (isNonzero p x && ltb 0 (st .rounds)) ≡ true) (follow-start a (m .call) o)
-        (gave-pointed (onward p w m) (faithful-on p large w i m (z .0)) (follow-pointed a (m .call) (m .lent) o free h) ms (z .1) x y later)) e
+        (gave-pointed (onward p w m) (faithful-on p large w i m) (follow-pointed a (m .call) (m .lent) o free h) ms x y later)) e

@@ -28,6 +28,7 @@ use Rattle.verifier.proofs.Invariant.{formed-says}
 use Rattle.item.specs.declared.Start.{Start}
 use Rattle.item.specs.declared.Given.{Given}
 use Rattle.item.specs.declared.Given.the-variants.{Reading, Numbers}
+use Rattle.item.specs.Version.{inRange}
 use Rattle.item.specs.Item.{contributes, partsOf}
 use Rattle.calls.specs.declared.query.Query.the-variants as query
 use Rattle.calls.specs.QueryStep.{Shown}
@@ -111,14 +112,15 @@ module _ (p : ℕ) (a : VerifierState) (v : Verifier) (s : Stands p a v) where
 
   rows : (b : Start) (i : ℕ) (x : Given) → withParts (partsOf p b i x) (takes p v) ≡ decided (givenRows p b i x none) (answered (takes p v (contributes p b x)))
   unfolding partsOf
-  rows b i (Reading z w) = by (b .plain) (leb w maxWeight)
+  rows b i (Reading z w) = by (b .plain) (leb w maxWeight) (inRange (b .version) z)
     where
-      by : (plain fits : Bool)
-          → withParts (require plain 10 (requireAt fits 5 i (answered (contributes p b (Reading z w))))) (takes p v)
-          ≡ decided (row plain 10 (rowAt fits 5 i none)) (answered (takes p v (contributes p b (Reading z w))))
-      by false fits = refl
-      by true false = refl
-      by true true = refl
+      by : (plain fits ranged : Bool)
+          → withParts (require plain 10 (requireAt fits 5 i (requireAt ranged 18 i (answered (contributes p b (Reading z w)))))) (takes p v)
+          ≡ decided (row plain 10 (rowAt fits 5 i (rowAt ranged 18 i none))) (answered (takes p v (contributes p b (Reading z w))))
+      by false fits ranged = refl
+      by true false ranged = refl
+      by true true false = refl
+      by true true true = refl
   rows b i (Numbers x y) = by (not (b .plain)) (ltb x p && ltb y p)
     where
       by : (twisted fine : Bool)

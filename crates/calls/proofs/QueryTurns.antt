@@ -46,7 +46,7 @@ module _ (p : ℕ) (a : VerifierState) (l : Shown) where
   own-rows : (x : Given) → givenRows p (a .start) (length (a .items)) x none ≡ none → Fine p (a .start .plain) x
   own-rows (Reading z w) e =
       let k = row-passed (a .start .plain) 10 _ e in
-      subst (λ b. Fine p b (Reading z w)) (sym (k .0)) (leb-true w maxWeight (row-at-passed (leb w maxWeight) 5 (length (a .items)) none (k .1) .0))
+      subst (λ b. Fine p b (Reading z w)) (sym (k .0)) (leb-true w maxWeight (row-at-passed (leb w maxWeight) 5 (length (a .items)) _ (k .1) .0))
   own-rows (Numbers x y) e =
       let k = row-passed (not (a .start .plain)) 10 _ e in
       let q = both (ltb x p) (ltb y p) (row-passed (ltb x p && ltb y p) 16 none (k .1) .0) in

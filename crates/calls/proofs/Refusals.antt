@@ -46,10 +46,10 @@ use Rattle.calls.specs.declared.Call.the-variants as call
 use Rattle.calls.specs.Step.{Lent, Result, isAnswered, step}
 use Rattle.calls.specs.State.{State, goesOn, follow}
 use Rattle.calls.specs.Table.{Refusal, refusedWith, levelNow, passLevel, taken, table}
-use Rattle.calls.specs.Statement.{Sized, Decides, Counted, CountsHold}
+use Rattle.calls.specs.Statement.{Decides, Counted, CountsHold}
 use Rattle.calls.specs.World.{Made, World, freshWorld, came, onward}
 use Rattle.calls.specs.Lists.{along, always}
-use Rattle.calls.specs.Demand3.{AllSized, AllDecided}
+use Rattle.calls.specs.Demand3.{AllDecided}
 use Rattle.calls.specs.Starts.{Startable}
 use Rattle.calls.proofs.Records.{Notes, noNotes, noted, refusal-noted, runOf, passOf}
 use Rattle.calls.proofs.Guards.{challengeDoes}
@@ -92,21 +92,21 @@ module _ (p : ℕ) (large : maxWeight < p) where
   never a l e = some-none e
 
   -- AN ANSWERED CALL
-  pub goes : (a : State) {past : Notes} → Fits p a past → (c : Call) → Sized c → (l : Lent) → table p a c l ≡ none → Goes a past c (does p (runOf a past) (passOf p a past) c l)
+  pub goes : (a : State) {past : Notes} → Fits p a past → (c : Call) → (l : Lent) → table p a c l ≡ none → Goes a past c (does p (runOf a past) (passOf p a past) c l)
   unfolding messageGiven openingGiven
-  goes a {past} h call.OpenPass z l e = (refl, open-follows p large a h l e)
-  goes a {past} h (call.OpenAt b) z l e = (refl, open-at-follows p large a h b l e)
-  goes a {past} h call.ToFull z l e = (refl, to-full-follows p large a h l e)
-  goes a {past} h call.ToSmall z l e = absurd (never a l e)
-  goes a {past} h (call.Give x) z l e =
+  goes a {past} h call.OpenPass l e = (refl, open-follows p large a h l e)
+  goes a {past} h (call.OpenAt b) l e = (refl, open-at-follows p large a h b l e)
+  goes a {past} h call.ToFull l e = (refl, to-full-follows p large a h l e)
+  goes a {past} h call.ToSmall l e = absurd (never a l e)
+  goes a {past} h (call.Give x) l e =
       take-noted p _ past _ (takes-answer p (runOf a past) (passOf p a past) (contributes p (a .start) x) (l .f) (l .g))
-      (item-follows p large a h x l (λ r w q. z r w (ap call.Give q)) e)
-  goes a {past} h call.Close z l e = (close-answered (runOf a past) (passOf p a past) (a .turn .next) (passOf p a past .kind), close-follows p large a h l e)
-  goes a {past} h call.Message z l e = (refl, message-follows p large a h l e)
-  goes a {past} h (call.Challenge c) z l e = (challenge-answered (runOf a past) (passOf p a past) c l (a .turn .mode), challenge-follows p large a h c l e)
-  goes a {past} h call.Ends z l e = (refl, ends-follows p large a h l e)
-  goes a {past} h (call.Opening b) z l e = (refl, record { run = refl; pass = refl; fits = h })
-  goes a {past} h call.WriteProof z l e = (refl, record { run = refl; pass = refl; fits = h })
+      (item-follows p large a h x l e)
+  goes a {past} h call.Close l e = (close-answered (runOf a past) (passOf p a past) (a .turn .next) (passOf p a past .kind), close-follows p large a h l e)
+  goes a {past} h call.Message l e = (refl, message-follows p large a h l e)
+  goes a {past} h (call.Challenge c) l e = (challenge-answered (runOf a past) (passOf p a past) c l (a .turn .mode), challenge-follows p large a h c l e)
+  goes a {past} h call.Ends l e = (refl, ends-follows p large a h l e)
+  goes a {past} h (call.Opening b) l e = (refl, record { run = refl; pass = refl; fits = h })
+  goes a {past} h call.WriteProof l e = (refl, record { run = refl; pass = refl; fits = h })
 
   -- THE RECORDS STAND FOR THE STATE
   pub record Inv (a : State) (past : Notes) (r : Run) (s : Pass) : Type 0 where
@@ -120,18 +120,18 @@ module _ (p : ℕ) (large : maxWeight < p) where
       steps p a past (few p a h) (passOf p a past) (formed p a h) (kind-is p a h) (taken-is p a h) (sum-is p a h) (h .pass .kind)
       (h .run .total) (messages-below p a h (positive p large)) (h .run .fend) (h .run .gend) c l
 
-  module _ (a : State) {past : Notes} (h : Fits p a past) (c : Call) (z : Sized c) (l : Lent) where
+  module _ (a : State) {past : Notes} (h : Fits p a past) (c : Call) (l : Lent) where
     abbrev did : Result
     did = does p (runOf a past) (passOf p a past) c l
 
     answered-so : (t : Option Refusal) → table p a c l ≡ t → Decides (runOf a past) (passOf p a past) l t (settled (runOf a past) (passOf p a past) l t did)
-    answered-so none e = goes a h c z l e .0
+    answered-so none e = goes a h c l e .0
     answered-so (some k) e = refl
 
     stands-so : (t : Option Refusal) → table p a c l ≡ t
         → (let o : Result = settled (runOf a past) (passOf p a past) l t did in Inv (follow a c o) (noted past (o .answer)) (o .run) (o .pass))
     stands-so none e =
-        let g = goes a h c z l e in
+        let g = goes a h c l e in
         subst (λ b. Inv (cond b (goesOn a c (did .lent)) a) (noted past (did .answer)) (did .run) (did .pass)) (sym (g .0))
         (record { run = g .1 .run; pass = g .1 .pass; fits = g .1 .fits })
     stands-so (some k) e =
@@ -139,18 +139,18 @@ module _ (p : ℕ) (large : maxWeight < p) where
         subst (λ b. Inv (cond b (goesOn a c (o .lent)) a) (noted past (o .answer)) (runOf a past) (passOf p a past)) (sym (refused-with _ (k .0) (k .1)))
         (subst (λ n. Inv a n (runOf a past) (passOf p a past)) (sym (refusal-noted past (k .0) (k .1))) (record { run = refl; pass = refl; fits = h }))
 
-  pub decide-step : (a : State) {past : Notes} (r : Run) (s : Pass) → Inv a past r s → (c : Call) → Sized c → (l : Lent) → Decides r s l (table p a c l) (step p r s c l)
-  decide-step a {past} r s i c z l =
+  pub decide-step : (a : State) {past : Notes} (r : Run) (s : Pass) → Inv a past r s → (c : Call) → (l : Lent) → Decides r s l (table p a c l) (step p r s c l)
+  decide-step a {past} r s i c l =
       subst (λ r. Decides r s l (table p a c l) (step p r s c l)) (sym (i .run))
       (subst (λ s. Decides (runOf a past) s l (table p a c l) (step p (runOf a past) s c l)) (sym (i .pass))
-      (subst (Decides (runOf a past) (passOf p a past) l (table p a c l)) (sym (step-is a (i .fits) c l)) (answered-so a (i .fits) c z l (table p a c l) refl)))
+      (subst (Decides (runOf a past) (passOf p a past) l (table p a c l)) (sym (step-is a (i .fits) c l)) (answered-so a (i .fits) c l (table p a c l) refl)))
 
-  pub inv-step : (a : State) {past : Notes} (r : Run) (s : Pass) → Inv a past r s → (c : Call) → Sized c → (l : Lent)
+  pub inv-step : (a : State) {past : Notes} (r : Run) (s : Pass) → Inv a past r s → (c : Call) → (l : Lent)
       → (let o : Result = step p r s c l in Inv (follow a c o) (noted past (o .answer)) (o .run) (o .pass))
-  inv-step a {past} r s i c z l =
+  inv-step a {past} r s i c l =
       subst (λ r. (let o : Result = step p r s c l in Inv (follow a c o) (noted past (o .answer)) (o .run) (o .pass))) (sym (i .run))
       (subst (λ s. (let o : Result = step p (runOf a past) s c l in Inv (follow a c o) (noted past (o .answer)) (o .run) (o .pass))) (sym (i .pass))
-      (subst (λ o. Inv (follow a c o) (noted past (o .answer)) (o .run) (o .pass)) (sym (step-is a (i .fits) c l)) (stands-so a (i .fits) c z l (table p a c l) refl)))
+      (subst (λ o. Inv (follow a c o) (noted past (o .answer)) (o .run) (o .pass)) (sym (step-is a (i .fits) c l)) (stands-so a (i .fits) c l (table p a c l) refl)))
 
   -- THE STACKS' LEVELS
   pub asked-level : (n i : ℕ) (t : Next) → levelAt n i t Asked ≡ levelNow n i n t
@@ -182,15 +182,15 @@ module _ (p : ℕ) (large : maxWeight < p) where
   abbrev pub Faithful : World → Notes → Type 0
   Faithful w past = Inv (w .state) past (w .run) (w .pass)
 
-  pub faithful-on : (w : World) {past : Notes} → Faithful w past → (m : Made) → Sized (m .call) → Faithful (onward p w m) (noted past (came p w m .answer))
-  faithful-on w i m z = inv-step (w .state) (w .run) (w .pass) i (m .call) z (m .lent)
+  pub faithful-on : (w : World) {past : Notes} → Faithful w past → (m : Made) → Faithful (onward p w m) (noted past (came p w m .answer))
+  faithful-on w i m = inv-step (w .state) (w .run) (w .pass) i (m .call) (m .lent)
 
-  pub all-decided : (w : World) {past : Notes} → Faithful w past → (ms : List Made) → AllSized p w ms → AllDecided p w ms
+  pub all-decided : (w : World) {past : Notes} → Faithful w past → (ms : List Made) → AllDecided p w ms
   unfolding along always
-  all-decided w i [] z = (tt, counts-hold (w .state) (w .run) (w .pass) i)
-  all-decided w i (m ∷ ms) z =
-      let rest = all-decided (onward p w m) (faithful-on w i m (z .0)) ms (z .1) in (
-        (decide-step (w .state) (w .run) (w .pass) i (m .call) (z .0) (m .lent), rest .0),
+  all-decided w i [] = (tt, counts-hold (w .state) (w .run) (w .pass) i)
+  all-decided w i (m ∷ ms) =
+      let rest = all-decided (onward p w m) (faithful-on w i m) ms in (
+        (decide-step (w .state) (w .run) (w .pass) i (m .call) (m .lent), rest .0),
         (counts-hold (w .state) (w .run) (w .pass) i, rest .1),
       )
 

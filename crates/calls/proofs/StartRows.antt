@@ -1,6 +1,6 @@
 -- THE STARTS: the checks of each are the rows of its table, and an answered one gives a record that a list begins with.
 use mathlib.Core.Path.{_≡_, refl, sym, ap, subst, _∙_}
-use mathlib.Core.Bool.{Bool, true, false, _&&_}
+use mathlib.Core.Bool.{Bool, true, false, _&&_, _||_}
 use mathlib.Core.List.{List}
 use mathlib.Core.Logic.{⊎-elim}
 use mathlib.Core.Option.{Option, none}
@@ -12,7 +12,7 @@ use lib.ListN.{length}
 use lib.Pow.{pow-pos, pow-mono}
 use borrow.Author.Tests.{leb-true, ltb-true, eqb-true}
 use Rattle.refusal.specs.Outcome.{Outcome, answered, refused, refusedAt, require, requireAll, andThen}
-use Rattle.wire.specs.Log.{readLog}
+use Rattle.wire.specs.Log.{Head, readLog}
 use Rattle.vector.specs.Rounds.{roundsOf}
 use Rattle.vector.specs.Slice.{isNonzero, allNonzero}
 use Rattle.vector.proofs.Rounds.{rounds-power}
@@ -23,7 +23,7 @@ use Rattle.item.specs.Start.{plainStart, twistedStart, untwistedStart, ruleStar
 use Rattle.batch.specs.Batch.{logAt, mostItems, sameRounds, requireLog, readLogs, begins, startBatch}
 use Rattle.batch.proofs.Together.{IsGood, AllGood, most-counted}
 use Rattle.calls.specs.Table.{Refusal, row}
-use Rattle.calls.specs.Starts.{Startable, Opens, countRow, listRow, ruleRows, openingsRows, fileRow, logRows, batchRows, Decided, StartsRun, StartsVerifier, StartsOpenings, Starts}
+use Rattle.calls.specs.Starts.{Startable, Opens, versionRow, countRow, listRow, ruleRows, openingsRows, fileRow, logRows, batchRows, Decided, StartsRun, StartsVerifier, StartsOpenings, Starts}
 use Rattle.calls.proofs.Steps.{some-none}
 use Rattle.calls.proofs.Turns.{both}
 
@@ -40,11 +40,11 @@ unfolding logRows requireAll
 files-row y Holds logs x f t zero k h = h (λ j a b. absurd (omega arith))
 files-row {A} y Holds logs x f t (suc m) k h = by (readLog (logAt logs k)) refl (λ further. files-row y Holds logs x f t m (suc k) further)
   where
-    by : (o : Outcome ℕ) → readLog (logAt logs k) ≡ o
+    by : (o : Outcome Head) → readLog (logAt logs k) ≡ o
         → ((((j : ℕ) → suc k ≤ j → j < suc k + m → IsGood logs j) → Decided t y Holds (f x))
         → Decided (logRows logs (suc k) m t) y Holds (andThen (requireAll (requireLog logs) (suc k) m (answered x)) f))
         → Decided (fileRow o (logRows logs (suc k) m t)) y Holds
-        (andThen (andThen o (λ items. requireAll (requireLog logs) (suc k) m (answered x))) f)
+        (andThen (andThen o (λ head. requireAll (requireLog logs) (suc k) m (answered x))) f)
     by (answered n) e rest =
         rest
         (λ good.
@@ -77,9 +77,12 @@ length-of : (p n : ℕ) (xs : List ℕ) → (eqb (length xs) n && allNonzero p n
 length-of p n xs e = eqb-true (length xs) n (both (eqb (length xs) n) (allNonzero p n xs) e .0)
 
 module _ (p : ℕ) where
-  plain-rows : (items : ℕ) → StartsRun (countRow items none) (plainStart items) (prover.startPlain items)
+  plain-rows : (items version : ℕ)
+      → StartsRun (versionRow version (countRow items none)) (plainStart items version) (prover.startPlain items version)
   unfolding prover.startPlain
-  plain-rows items = start-row _ _ _ 3 _ none (λ e. (refl, λ free. of-count items (plainStart items) e refl refl))
+  plain-rows items version =
+      start-row _ _ (eqb version 1 || eqb version 2) 2 _ _ (λ known.
+      start-row _ _ _ 3 _ none (λ e. (refl, λ free. of-count items (plainStart items version) e refl refl)))
 
   twisted-rows : (items : ℕ) (twists : List ℕ) → StartsRun (countRow items (listRow p (roundsOf items) twists none)) (twistedStart items twists) (prover.startTwisted p items twists)
   unfolding prover.startTwisted
@@ -141,12 +144,14 @@ module _ (p : ℕ) where
     batch-rows : StartsOpenings (batchRows p m logs z cs) (untwistedStart most) cs (startBatch p m logs z cs)
     batch-rows = (batch-decided .0, λ free. batch-free free .opens)
 
-  verifier-plain : (items : ℕ) (cs : List ℕ) → StartsVerifier (countRow items (listRow p (roundsOf items) cs none)) (plainStart items) cs (verifier.startPlain p items cs)
+  verifier-plain : (items version : ℕ) (cs : List ℕ)
+      → StartsVerifier (versionRow version (countRow items (listRow p (roundsOf items) cs none))) (plainStart items version) cs (verifier.startPlain p items version cs)
   unfolding verifier.startPlain
-  verifier-plain items cs =
+  verifier-plain items version cs =
+      start-row _ _ (eqb version 1 || eqb version 2) 2 _ _ (λ known.
       start-row _ _ _ 3 _ _ (λ e.
       start-row _ _ (eqb (length cs) (roundsOf items) && allNonzero p (roundsOf items) cs) 6 _ none (λ f.
-      (refl, λ free. (of-count items (plainStart items) e refl refl, length-of p (roundsOf items) cs f))))
+      (refl, λ free. (of-count items (plainStart items version) e refl refl, length-of p (roundsOf items) cs f)))))
 
   verifier-twisted : (items : ℕ) (twists cs : List ℕ)
       → StartsVerifier (countRow items (listRow p (roundsOf items) twists (listRow p (roundsOf items) cs none))) (twistedStart items twists) cs (verifier.startTwisted p items twists cs)

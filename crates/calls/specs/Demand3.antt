@@ -17,23 +17,20 @@ use Rattle.calls.specs.Step.{Lent, isAnswered}
 use Rattle.calls.specs.World.{Made, World, freshWorld, came, onward}
 use Rattle.calls.specs.Table.{table}
 use Rattle.calls.specs.Meaning.{question, Kept}
-use Rattle.calls.specs.Statement.{Sized, Decides, CountsHold, Holds, Right}
+use Rattle.calls.specs.Statement.{Decides, CountsHold, Holds, Right}
 use Rattle.calls.specs.QueryState.{verifierTable, Posed, Hearing, freshHearing, heard, hearsOn, DecidesHeard}
 use Rattle.calls.specs.Proper.{Valid, Brings, properRun}
 use Rattle.calls.specs.Given.{replyOf, BringsRun, OpeningsChecked, BatchChecked, agreed, OpensTrip}
 use Rattle.calls.specs.Carried.{byMessages, byFile, writesProof}
 use Rattle.calls.specs.WholeList.{wholeByMessages, wholeByFile}
 use Rattle.calls.specs.Verdict.{broughtWith, Judges, Account, freshAccount, accountOn}
-use Rattle.calls.specs.Blocks.{Wide, SizedWide, wideOn, WideDecided, expanded, WidePosed, wideHears, WideDecidedHeard, expandedHeard}
+use Rattle.calls.specs.Blocks.{Wide, wideOn, WideDecided, expanded, WidePosed, wideHears, WideDecidedHeard, expandedHeard}
 use Rattle.calls.specs.Starts.{Startable, Opens, Whole, batchRows, Starts}
 use Rattle.calls.specs.Begins.{Begin, CanBegin, begun, openingsWorld, batchRun}
 use Rattle.calls.specs.BatchTrip.{batchTrip}
 
 -- ALONG A RUN'S LIST
 module _ (p : ℕ) where
-  abbrev pub AllSized : World → List Made → Type 0
-  AllSized = along (onward p) (λ w m. Sized (m .call))
-
   abbrev pub AllAnswered : World → List Made → Type 0
   AllAnswered = along (onward p) (λ w m. isAnswered (came p w m .answer) ≡ true)
 
@@ -60,7 +57,7 @@ module _ (p : ℕ) where
 
   -- answered throughout, and what is asked below
   abbrev pub AllProper : List ℕ → Trip → World → List Made → Type 0
-  AllProper cs T w ms = AllAnswered w ms × AllSized w ms × ((through : Bool) → AllKept through T w ms) × AllTake cs w ms
+  AllProper cs T w ms = AllAnswered w ms × ((through : Bool) → AllKept through T w ms) × AllTake cs w ms
 
   -- ALONG A VERIFIER'S LIST, and one beside a run's
   abbrev pub AllDecidedHeard : Hearing → List Posed → Type 0
@@ -91,11 +88,11 @@ pub record Demand3 (p : ℕ) : Type 0 where
   -- WHATEVER THE LIST: refused exactly when, and with the number that, the table says, and then nothing changes; and every small pass
   -- for a round, the ends or openings holds exactly document 01's entries, level by level
   pub refusals : (s : Start) (b : Begin) → CanBegin s b → (f g : List ℕ) (ms : List Made)
-      → (let w : World = begun s b f g in AllSized p w ms → AllDecided p w ms)
+      → AllDecided p (begun s b f g) ms
   -- WHERE EVERY PASS GIVES THE TRIP'S ITEMS AND THE BUFFERS ARE KEPT: every answer is what is meant, every stack entry is the fold's item,
   -- every buffer and every proof file is as document 01 says, after every call
   pub answers : (through : Bool) (T : Trip) → Whole T → (b : Begin) → CanBegin (T .start) b → (f g : List ℕ) (ms : List Made)
-      → (let w : World = begun (T .start) b f g in AllSized p w ms → AllKept p through T w ms → AllRight p through T w ms)
+      → (let w : World = begun (T .start) b f g in AllKept p through T w ms → AllRight p through T w ms)
   -- A PROPER RUN IS ANSWERED THROUGHOUT, in small mode, in full mode and with a change at every place; it meets what is asked above, and
   -- takes the challenges that it is brought
   pub proper : (T : Trip) → Valid p T → (k : ℕ) (cs bs : List ℕ) (l : Lent) → Brings p T k cs bs l
@@ -111,7 +108,7 @@ pub record Demand3 (p : ℕ) : Type 0 where
       let v : World = begun (T .start) b′ f′ g′ in
       let x : World = after (onward p) w ms in
       let y : World = after (onward p) v ns in
-      AllSized p w (ms ++ m ∷ []) → AllSized p v (ns ++ n ∷ []) → AllKept p th T w (ms ++ m ∷ []) → AllKept p th′ T v (ns ++ n ∷ [])
+      AllKept p th T w (ms ++ m ∷ []) → AllKept p th′ T v (ns ++ n ∷ [])
       → x .state .turn .challenges ≡ y .state .turn .challenges → question (x .state) (m .call) ≡ question (y .state) (n .call)
       → isAnswered (came p x m .answer) ≡ true → isAnswered (came p y n .answer) ≡ true → replyOf (came p x m) ≡ replyOf (came p y n))
   -- A VERIFIER'S LIST, whatever it is: refused exactly when, and with the number that, the table says, and then nothing changes
@@ -120,12 +117,12 @@ pub record Demand3 (p : ℕ) : Type 0 where
   -- gave, every message passes and every verdict is yes
   pub verifierAnswers : (through : Bool) (T : Trip) → Whole T → (b : Begin) → CanBegin (T .start) b → (f g : List ℕ) (ms : List Made)
       → (let w : World = begun (T .start) b f g in
-      AllSized p w ms → AllKept p through T w ms → (cs : List ℕ) → length cs ≡ T .start .rounds → AllTake p cs w ms
+      AllKept p through T w ms → (cs : List ℕ) → length cs ≡ T .start .rounds → AllTake p cs w ms
       → (qs : List Posed) → AllBringRun p T w ms (freshHearing (T .start) cs) qs → AllSay p T (freshHearing (T .start) cs) qs)
   -- and "at any time", whatever the verifier was asked before, every check of the run's openings is yes
   pub openingsChecked : (through : Bool) (T : Trip) → Whole T → (b : Begin) → CanBegin (T .start) b → (f g : List ℕ) (ms : List Made)
       → (let w : World = begun (T .start) b f g in
-      AllSized p w ms → AllKept p through T w ms → (cs : List ℕ) → length cs ≡ T .start .rounds → AllTake p cs w ms
+      AllKept p through T w ms → (cs : List ℕ) → length cs ≡ T .start .rounds → AllTake p cs w ms
       → (qs : List Posed) → OpeningsChecked p T w ms (after (hearsOn p) (freshHearing (T .start) cs) qs))
   -- OF A BATCH whose start the table lets through: "at any time" a verifier with its n and its challenges says yes to what its run opened and
   -- to the logs' values
@@ -133,7 +130,7 @@ pub record Demand3 (p : ℕ) : Type 0 where
       (ms : List Made)
       → (let T : Trip = batchTrip p z m logs in
       let w : World = openingsWorld (T .start) cs f g in
-      AllSized p w ms → AllKept p through T w ms → (s : Start) → Startable s → s .rounds ≡ T .start .rounds → (qs : List Posed)
+      AllKept p through T w ms → (s : Start) → Startable s → s .rounds ≡ T .start .rounds → (qs : List Posed)
       → BatchChecked p T w ms z m logs (after (hearsOn p) (freshHearing s cs) qs))
   -- A PROPER RUN'S VERIFIER has for its own list the L items, the close, n messages, the verdict and a check of each opening, which bring
   -- what the run gave; it answers them throughout and agrees: every message passes, the verdict and every check are yes; and so with the proof
@@ -159,8 +156,7 @@ pub record Demand3 (p : ℕ) : Type 0 where
   -- list ends as the one in which each answered block stands as its single items, of which all the above is said
   pub blocks : (s : Start) (b : Begin) → CanBegin s b → (f g : List ℕ) (xs : List Wide)
       → (let w : World = begun s b f g in
-      along (wideOn p) (λ w x. SizedWide x) w xs
-      → along (wideOn p) (WideDecided p) w xs × (after (wideOn p) w xs ≡ after (onward p) w (expanded p w xs)) × AllSized p w (expanded p w xs))
+      along (wideOn p) (WideDecided p) w xs × (after (wideOn p) w xs ≡ after (onward p) w (expanded p w xs)))
   pub verifierBlocks : (s : Start) → Startable s → (cs : List ℕ) (xs : List WidePosed)
       → (let h : Hearing = freshHearing s cs in
       along (wideHears p) (WideDecidedHeard p) h xs × (after (wideHears p) h xs ≡ after (hearsOn p) h (expandedHeard p h xs)))

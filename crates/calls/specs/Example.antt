@@ -23,16 +23,16 @@ use Rattle.calls.specs.Meaning.{Answer, says}
 use Rattle.calls.specs.Lists.{each}
 use Rattle.calls.specs.World.{Made, World, came, onward}
 use Rattle.calls.specs.Given.{replyOf}
-use Rattle.calls.specs.Demand3.{AllSized, AllKept}
+use Rattle.calls.specs.Demand3.{AllKept}
 
 abbrev pub P : ℕ
 P = 2147483647
 
 abbrev pub tripStart : Start
-tripStart = record { items = 3; rounds = 2; plain = true; twists = replicate 15 0 }
+tripStart = record { items = 3; rounds = 2; plain = true; version = 1; twists = replicate 15 0 }
 
 -- the start is answered so
-pub trip-starts : startPlain 3 ≡ answered (started (freshRun tripStart))
+pub trip-starts : startPlain 3 1 ≡ answered (started (freshRun tripStart))
 unfolding startPlain powers firstFrom
 trip-starts = refl
 
@@ -137,7 +137,6 @@ lastOf file (x ∷ xs) = lastOf x xs
 -- a list of calls that brings the trip and keeps the buffers is answered so, its refusals are the table's, and it leaves the trip's
 -- proof file
 pub record TripList (xs : List Exchange) (w : World) : Type 0 where
-  pub sized : AllSized P w (callsOf xs)
   pub kept : AllKept P true trip w (callsOf xs)
   pub replies : repliesFrom w (callsOf xs) ≡ answersOf xs
   pub refusals : each (onward P) (λ w m. table P (w .state) (m .call) (m .lent)) w (callsOf xs) ≡ refusalsOf xs

@@ -5,7 +5,6 @@ use mathlib.Core.Path.{_≡_}
 use mathlib.Core.Bool.{Bool, true, false, cond, _&&_}
 use mathlib.Core.List.{List, [], _∷_, _++_}
 use lib.Dec.{eqb, leb, ltb}
-use lib.IntN.{natAbs}
 use lib.ListN.{length}
 use Rattle.refusal.specs.Limit.{maxWeight}
 use Rattle.field.specs.Total.{inLimits}
@@ -13,8 +12,10 @@ use Rattle.vector.specs.Vector.{at}
 use Rattle.vector.specs.Slice.{overwrite, isNonzero}
 use Rattle.phase.specs.declared.Next.the-variants as next
 use Rattle.phase.specs.Cases.{isFull, waits}
+use Rattle.item.specs.declared.Start.{Start}
 use Rattle.item.specs.declared.Given.{Given}
 use Rattle.item.specs.declared.Given.the-variants.{Reading, Numbers}
+use Rattle.item.specs.Version.{inRange}
 use Rattle.runs.specs.Trip.{Trip, tripItem, vectorF, vectorG, totalOf}
 use Rattle.calls.specs.declared.Call.{Call}
 use Rattle.calls.specs.declared.Call.the-variants as call
@@ -25,14 +26,14 @@ use Rattle.calls.specs.World.{Made, World, freshWorld, came, onward}
 use Rattle.calls.specs.Starts.{Whole}
 
 -- "An item of a plain run is a reading and a weight, of a twisted run two field numbers", within their limits
-abbrev pub ItemFits : ℕ → Bool → Given → Type 0
-ItemFits p plain (Reading r w) = (plain ≡ true) × (natAbs r ≤ 32768) × (w ≤ maxWeight)
-ItemFits p plain (Numbers a b) = (plain ≡ false) × (a < p) × (b < p)
+abbrev pub ItemFits : ℕ → Start → Given → Type 0
+ItemFits p s (Reading r w) = (s .plain ≡ true) × (inRange (s .version) r ≡ true) × (w ≤ maxWeight)
+ItemFits p s (Numbers a b) = (s .plain ≡ false) × (a < p) × (b < p)
 
 -- a trip that a run takes whole
 pub record Valid (p : ℕ) (T : Trip) : Type 0 where
   pub whole : Whole T
-  pub items : (i : ℕ) → i < T .start .items → ItemFits p (T .start .plain) (tripItem T i)
+  pub items : (i : ℕ) → i < T .start .items → ItemFits p (T .start) (tripItem T i)
   pub total : T .start .plain ≡ true → inLimits p (totalOf T) ≡ true
 
 -- challenges and points: each "1 to P-1"

@@ -1,14 +1,14 @@
 -- The starts of a run and of a verifier: each is refused exactly by its rows, and otherwise gives the record that a list begins with.
 use Prim.Native.Nat.{ℕ, zero, suc, _≤_, _<_}
 use mathlib.Core.Path.{_≡_}
-use mathlib.Core.Bool.{false, _&&_}
+use mathlib.Core.Bool.{false, _&&_, _||_}
 use mathlib.Core.List.{List}
 use mathlib.Core.Option.{Option, none, some}
 use lib.Dec.{eqb, leb, ltb}
 use lib.ListN.{length}
 use Rattle.refusal.specs.Limit.{maxItems, maxRounds, maxLogs}
 use Rattle.refusal.specs.Outcome.{Outcome, answered, refused, refusedAt}
-use Rattle.wire.specs.Log.{readLog}
+use Rattle.wire.specs.Log.{Head, readLog}
 use Rattle.vector.specs.Rounds.{roundsOf}
 use Rattle.vector.specs.Slice.{isNonzero, allNonzero}
 use Rattle.item.specs.declared.Start.{Start}
@@ -39,6 +39,10 @@ pub record Whole (T : Trip) : Type 0 where
   pub start : Startable (T .start)
   pub items : length (T .items) ≡ T .start .items
 
+-- document 02, (b): "Each plain start is told the version (neither 1 nor 2: 2)"
+abbrev pub versionRow : ℕ → Option Refusal → Option Refusal
+versionRow version rest = row (eqb version 1 || eqb version 2) 2 rest
+
 -- "L outside 1..32,768 .. at a run's start; n above 15"; "challenge, twist, v .. outside 1..P-1; a list .. not as long as n asks"
 abbrev pub countRow : ℕ → Option Refusal → Option Refusal
 countRow items rest = row (leb 1 items && leb items maxItems) 3 rest
@@ -54,8 +58,8 @@ abbrev pub openingsRows : ℕ → ℕ → List ℕ → Option Refusal
 openingsRows p items cs = countRow items (row (ltb 0 (roundsOf items)) 10 (listRow p (roundsOf items) cs none))
 
 -- "the files in order": the refusal of the first log that has one
-abbrev pub fileRow : Outcome ℕ → Option Refusal → Option Refusal
-fileRow (answered items) rest = rest
+abbrev pub fileRow : Outcome Head → Option Refusal → Option Refusal
+fileRow (answered head) rest = rest
 fileRow (refused k) rest = some (k, none)
 fileRow (refusedAt k i) rest = some (k, some i)
 
@@ -86,15 +90,17 @@ abbrev pub StartsOpenings : Option Refusal → Start → List ℕ → Outcome Ou
 StartsOpenings t s cs = Decided t (prover.started (prover.openingsRun s cs)) (Opens s cs)
 
 pub record Starts (p : ℕ) : Type 0 where
-  pub plain : (items : ℕ) → StartsRun (countRow items none) (plainStart items) (prover.startPlain items)
+  pub plain : (items version : ℕ)
+      → StartsRun (versionRow version (countRow items none)) (plainStart items version) (prover.startPlain items version)
   pub twisted : (items : ℕ) (twists : List ℕ)
       → StartsRun (countRow items (listRow p (roundsOf items) twists none)) (twistedStart items twists) (prover.startTwisted p items twists)
   pub rule : (n v : ℕ) → StartsRun (ruleRows p n v none) (ruleStart p n v) (prover.startRule p n v)
   pub openings : (items : ℕ) (cs : List ℕ) → StartsOpenings (openingsRows p items cs) (untwistedStart items) cs (prover.startOpenings p items cs)
   pub batch : (m : ℕ) (logs : List (List ℕ)) (z : ℕ) (cs : List ℕ)
       → StartsOpenings (batchRows p m logs z cs) (untwistedStart (mostItems logs m)) cs (startBatch p m logs z cs)
-  pub verifierPlain : (items : ℕ) (cs : List ℕ)
-      → StartsVerifier (countRow items (listRow p (roundsOf items) cs none)) (plainStart items) cs (verifier.startPlain p items cs)
+  pub verifierPlain : (items version : ℕ) (cs : List ℕ)
+      → StartsVerifier (versionRow version (countRow items (listRow p (roundsOf items) cs none))) (plainStart items version) cs
+      (verifier.startPlain p items version cs)
   pub verifierTwisted : (items : ℕ) (twists cs : List ℕ)
       → StartsVerifier (countRow items (listRow p (roundsOf items) twists (listRow p (roundsOf items) cs none))) (twistedStart items twists) cs (verifier.startTwisted p items twists cs)
   pub verifierRule : (n v : ℕ) (cs : List ℕ)

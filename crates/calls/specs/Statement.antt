@@ -29,10 +29,6 @@ use Rattle.calls.specs.State.{State, goesOn}
 use Rattle.calls.specs.Table.{Refusal, refusedWith, passLevel, long, taken, completed}
 use Rattle.calls.specs.Meaning.{meaning, proofOfTrip, foldF, foldG, bindsItem, writes}
 
--- "reading (signed 16-bit two's complement)": what the machine's type lets in
-abbrev pub Sized : Call → Type 0
-Sized c = (r : ℤ) (w : ℕ) → c ≡ call.Give (Reading r w) → natAbs r ≤ 32768
-
 -- REFUSED EXACTLY WHEN, AND WITH THE NUMBER THAT, THE TABLE SAYS: then "state and buffers are unchanged"
 abbrev pub Decides : Run → Pass → Lent → Option Refusal → Result → Type 0
 Decides r s l none o = isAnswered (o .answer) ≡ true

@@ -10,6 +10,7 @@ use Rattle.field.specs.Total.{inLimits}
 use Rattle.wire.specs.Proof.{proofSize}
 use Rattle.vector.specs.Rounds.{size}
 use Rattle.vector.specs.Slice.{allReduced, isNonzero}
+use Rattle.item.specs.Version.{inRange}
 use Rattle.item.specs.declared.Start.{Start}
 use Rattle.item.specs.declared.Given.{Given}
 use Rattle.item.specs.declared.Given.the-variants.{Reading, Numbers}
@@ -23,7 +24,7 @@ use Rattle.calls.specs.declared.Call.the-variants as call
 use Rattle.calls.specs.Step.{Lent}
 use Rattle.calls.specs.State.{State}
 
--- "It carries its number and, for 5 and 13 to 15, the index"
+-- "It carries its number and, for 5 and 13 to 15, the index"; so does 18
 abbrev pub Refusal : Type 0
 Refusal = ℕ × Option ℕ
 
@@ -91,9 +92,10 @@ bothLong a l = leb (long a) (length (l .f)) && leb (long a) (length (l .g))
 abbrev pub readRows : ℕ → State → Lent → Option Refusal
 readRows p a l = row (bothLong a l) 9 (row (allReduced p (long a) (l .f) && allReduced p (long a) (l .g)) 16 none)
 
--- an item of the other kind of run is not next; "weight above 1,440", with the index i; a number "P or more"
+-- an item of the other kind of run is not next; "weight above 1,440", then a reading "outside its version's range", with the index i; a
+-- number "P or more"
 abbrev pub givenRows : ℕ → Start → ℕ → Given → Option Refusal → Option Refusal
-givenRows p s i (Reading r w) rest = row (s .plain) 10 (rowAt (leb w maxWeight) 5 i rest)
+givenRows p s i (Reading r w) rest = row (s .plain) 10 (rowAt (leb w maxWeight) 5 i (rowAt (inRange (s .version) r) 18 i rest))
 givenRows p s i (Numbers x y) rest = row (not (s .plain)) 10 (row (ltb x p && ltb y p) 16 rest)
 
 -- only a change pass has the buffers

@@ -8,7 +8,7 @@ use lib.Dec.{leb, ltb}
 use lib.IntN.{ℤ, pos, negsuc, natAbs, negℤ, subℕ, _+ℤ_, _-ℤ_, _*ℤ_}
 use lib.Signed.{mag, ltZ}
 use borrow.Author.Tests.{le-leb, le-ltb, lt-leb, ltb-false, ltb-true}
-use mir.Syntax.{w16, w64}
+use mir.Syntax.{w16, w32, w64}
 use mir.Val.{Fits, SFits}
 
 pub mag-le : (z : ℤ) → mag z ≤ natAbs z
@@ -46,10 +46,10 @@ natAbs-mul (negsuc a) (negsuc b) = refl
 pub small-fits : (z : ℤ) → natAbs z < 2 ^ 63 → SFits w64 z
 small-fits z h = record { sfits = omega (arith, mag-le z) }
 
-pub natAbs-16 : (z : ℤ) → SFits w16 z → natAbs z ≤ 32768
-natAbs-16 z h = omega (arith, natAbs-le z, h .sfits)
+pub natAbs-32 : (z : ℤ) → SFits w32 z → natAbs z ≤ 2147483648
+natAbs-32 z h = omega (arith, natAbs-le z, h .sfits)
 
-pub widened : {z : ℤ} → SFits w16 z → SFits w64 z
+pub widened : {z : ℤ} → SFits w32 z → SFits w64 z
 widened h = record { sfits = omega (arith, h .sfits) }
 
 -- -1 less a negative number
@@ -65,10 +65,10 @@ pub nonnegative : (z : ℤ) → SFits w64 z → ltZ z (pos 0) ≡ false → (n :
 nonnegative (pos n) f h = (n, refl, omega (arith, f .sfits))
 nonnegative (negsuc n) f h = absurd (true≢false h)
 
-module _ (r : ℤ) (w : ℕ) (fr : SFits w16 r) (fw : Fits w16 w) where
-  product-abs : natAbs (r *ℤ pos w) ≤ 32768 * 65535
+module _ (r : ℤ) (w : ℕ) (fr : SFits w32 r) (fw : Fits w16 w) where
+  product-abs : natAbs (r *ℤ pos w) ≤ 2147483648 * 65535
   product-abs =
-      let b : natAbs r ≤ 32768 = natAbs-16 r fr in
+      let b : natAbs r ≤ 2147483648 = natAbs-32 r fr in
       let d : w ≤ 65535 = omega arith in
       rw (natAbs-mul r (pos w)) (mul-le-mul b d)
 

@@ -11,15 +11,15 @@ use lib.ListN.{length}
 use borrow.Author.Tests.{le-leb, leb-true}
 use Rattle.algebra.specs.Mod.{base, residue, addMod, negMod, mulMod}
 use Rattle.algebra.proofs.Congruence.{residue-small, residue-zero}
-use Rattle.refusal.specs.Limit.{maxItems, maxWeight, maxWorth}
+use Rattle.refusal.specs.Limit.{maxItems, maxWeight, maxFine, maxWorth}
 use Rattle.field.specs.Integer.{image}
 use Rattle.field.specs.Total.{Item, product, plainTotal, plus, limit, inLimits}
 use Rattle.field.proofs.Integers.{image-step, neg-small}
 use Rattle.field.proofs.Signed.{natAbs-add, natAbs-mul}
 
--- an item of a log that reads well
+-- an item of a log that reads well, of either version
 pub record Good (i : Item) : Type 0 where
-  pub reading : natAbs (i .reading) ≤ 32768
+  pub reading : natAbs (i .reading) ≤ maxFine
   pub weight : i .weight ≤ maxWeight
 
 pub data AllGood : List Item → Type 0 where

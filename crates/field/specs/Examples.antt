@@ -28,6 +28,20 @@ pub reading-minus-180 : image P (negsuc 179) ≡ 2147483467
 unfolding image negMod residue
 reading-minus-180 = refl
 
+-- the same in thousandths
+pub reading-minus-18000 : image P (negsuc 17999) ≡ 2147465647
+unfolding image negMod residue
+reading-minus-18000 = refl
+
+-- the ends of 32 bits, where a reading is not its own sign: P is 0, and -2^31 is -1
+pub greatest-word : image P (pos 2147483647) ≡ 0
+unfolding image residue
+greatest-word = refl
+
+pub least-word : image P (negsuc 2147483647) ≡ P - 1
+unfolding image negMod residue
+least-word = refl
+
 -- the limit over any modulus, at P
 pub limit-of-total : limit P ≡ maxTotal
 limit-of-total = refl

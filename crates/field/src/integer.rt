@@ -6,14 +6,14 @@ ghost use lib.IntN.{ℤ, pos, natAbs, _+ℤ_, _*ℤ_};
 ghost use lib.Signed.{ltZ};
 ghost use Rattle.field.specs.Integer.{image};
 
-pub fn widen(x: i16) -> i64
+pub fn widen(x: i32) -> i64
     ensures { λ r. ⌜ r ≡ x ⌝ }
 {
     x as i64
 }
 
 // A reading times its weight.
-pub fn product(reading: i16, weight: u16) -> i64
+pub fn product(reading: i32, weight: u16) -> i64
     ensures { λ r. ⌜ r ≡ reading *ℤ pos weight ⌝ }
 {
     widen(reading) * (weight as i64)

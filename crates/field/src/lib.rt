@@ -1,6 +1,7 @@
 // The field of document 01: numbers modulo P = 2^31 - 1. The arithmetic is in `modular`, over any modulus; `Field` passes its own.
 ghost use mathlib.Core.Path.{_≡_};
-ghost use lib.IntN.{pos};
+ghost use Prim.Native.Nat.{_<_};
+ghost use lib.IntN.{pos, natAbs};
 ghost use Rattle.algebra.specs.Mod.{addMod, subMod, negMod, mulMod, halfMod, inverseMod};
 ghost use Rattle.field.specs.Integer.{image, bySign};
 ghost use Rattle.field.specs.Modulus.{modulus};
@@ -59,14 +60,14 @@ impl Field {
         self.value
     }
 
-    // A reading, by its sign.
-    pub fn from_reading(r: i16) -> Field
-        ensures { λ x. ⌜ pos (x .value) ≡ bySign 2147483647 r ⌝ }
+    // A reading as its image modulo P: by its sign wherever it is less than P in absolute value, so over either version's range.
+    pub fn from_reading(r: i32) -> Field
+        ensures { λ x. ⌜ (x .value ≡ image 2147483647 r) × (natAbs r < 2147483647 → pos (x .value) ≡ bySign 2147483647 r) ⌝ }
     {
         Field::from_reading_in(Field::MODULUS, r)
     }
 
-    pub fn from_reading_in(p: u32, r: i16) -> Field
+    pub fn from_reading_in(p: u32, r: i32) -> Field
         ensures { λ x. ⌜ x .value ≡ image p r ⌝ }
     {
         Field {

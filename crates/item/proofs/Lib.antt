@@ -1,3 +1,4 @@
 pub mod PartsRows
 pub mod Sizes
 pub mod Untwisted
+pub mod Versions

@@ -1,4 +1,4 @@
--- What an answered start fixes: L, n, the kind of the run, and its twists in fifteen places.
+-- What an answered start fixes: L, n, the kind of the run, the version of its readings, and its twists in fifteen places.
 use Prim.Native.Nat.{ℕ, _^_}
 use mathlib.Core.Bool.{Bool, true, false, cond, _&&_}
 use mathlib.Core.List.{List}
@@ -31,24 +31,25 @@ listFits p n xs = eqb (length xs) n && allNonzero p n xs
 abbrev pub logsFit : ℕ → Bool
 logsFit m = leb 1 m && leb m maxLogs
 
--- a plain run, which reads no twists
-abbrev pub plainStart : ℕ → Start
-plainStart items = record { items = items; rounds = roundsOf items; plain = true; twists = replicate 15 0 }
+-- a plain run, which is told the version and reads no twists; the others have no readings, and version 0
+abbrev pub plainStart : ℕ → ℕ → Start
+plainStart items version =
+    record { items = items; rounds = roundsOf items; plain = true; version = version; twists = replicate 15 0 }
 
 abbrev pub twistedStart : ℕ → List ℕ → Start
-twistedStart items twists = record { items = items; rounds = roundsOf items; plain = false; twists = fifteen (roundsOf items) twists }
+twistedStart items twists = record { items = items; rounds = roundsOf items; plain = false; version = 0; twists = fifteen (roundsOf items) twists }
 
 -- field numbers that enter as they are: the twists are 1
 abbrev pub untwistedStart : ℕ → Start
-untwistedStart items = record { items = items; rounds = roundsOf items; plain = false; twists = replicate 15 1 }
+untwistedStart items = record { items = items; rounds = roundsOf items; plain = false; version = 0; twists = replicate 15 1 }
 
 -- "a twisted run .., L = 2^n, with v_j = v^(2^j), v from 1 to P-1"
 abbrev pub ruleStart : ℕ → ℕ → ℕ → Start
-ruleStart p n v = record { items = 2 ^ n; rounds = n; plain = false; twists = twistsOf p v n }
+ruleStart p n v = record { items = 2 ^ n; rounds = n; plain = false; version = 0; twists = twistsOf p v n }
 
 -- beside a refused start, and for a rule check of more rounds than there are: all zero
 abbrev pub noStart : Start
-noStart = record { items = 0; rounds = 0; plain = false; twists = replicate 15 0 }
+noStart = record { items = 0; rounds = 0; plain = false; version = 0; twists = replicate 15 0 }
 
 abbrev pub ruleOrNone : ℕ → ℕ → ℕ → Start
 ruleOrNone p n v = cond (roundsFit n) (ruleStart p n v) noStart

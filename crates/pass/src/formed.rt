@@ -11,8 +11,8 @@ use phase::order;
 use refusal::Check;
 use refusal::pass_if;
 
-// The largest product of a reading and a weight.
-const MAX_WORTH: u64 = 47185920;
+// The largest product of a reading and a weight, of either version.
+const MAX_WORTH: u64 = 1440000000;
 
 // Of a run: what its start fixed, what is next, the round and the kept total.
 pub fn turn_formed(p: u32, start: Start, next: Next, round: u32, total: i64) -> bool

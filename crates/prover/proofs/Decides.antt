@@ -1,11 +1,12 @@
 -- What a test says: a statement, both ways.
-use mathlib.Core.Path.{_≡_, ap₂}
-use mathlib.Core.Bool.{Bool, true, false, _&&_}
+use mathlib.Core.Path.{_≡_, refl, sym, subst, ap₂}
+use mathlib.Core.Bool.{Bool, true, false, _&&_, _||_}
 use Prim.Native.Nat.{ℕ, _≤_, _<_}
-use lib.Dec.{leb, ltb}
-use borrow.Author.Tests.{le-leb, leb-true, lt-ltb, ltb-true}
+use lib.Dec.{leb, ltb, eqb}
+use borrow.Author.Tests.{le-leb, leb-true, lt-ltb, ltb-true, eqb-true}
 use Rattle.refusal.proofs.Outcome.{both, failed}
 use Rattle.vector.specs.Slice.{isNonzero}
+use Rattle.item.specs.Version.{versionFits}
 
 pub record Decides (test : Bool) (A : Type 0) : Type 0 where
   pub so : test ≡ true → A
@@ -34,3 +35,19 @@ Nonzero p x = (0 < x) × (x < p)
 
 pub nonzero : (p x : ℕ) → Decides (isNonzero p x) (Nonzero p x)
 nonzero p x = decide-both (below 0 x) (below x p)
+
+-- version 1 or 2
+pub data IsVersion : ℕ → Type 0 where
+  one : IsVersion 1
+  two : IsVersion 2
+
+pub version-fits : (version : ℕ) → Decides (versionFits version) (IsVersion version)
+version-fits version = record { so = by (eqb version 1) refl; back = back version }
+  where
+    by : (t : Bool) → eqb version 1 ≡ t → (t || eqb version 2) ≡ true → IsVersion version
+    by true e h = subst IsVersion (sym (eqb-true version 1 e)) one
+    by false e h = subst IsVersion (sym (eqb-true version 2 h)) two
+
+    back : (v : ℕ) → IsVersion v → versionFits v ≡ true
+    back v one = refl
+    back v two = refl

@@ -8,22 +8,27 @@ use Rattle.refusal.specs.Number as number
 use Rattle.refusal.specs.Outcome.{Outcome, answered, refused, require}
 use Rattle.field.specs.Number.{isNonzero}
 use Rattle.vector.specs.Rounds.{roundsOf}
+use Rattle.item.specs.Version.{versionFits}
 use Rattle.item.specs.Start.{countFits, roundsFit, listFits, plainStart, twistedStart, untwistedStart, ruleStart, ruleOrNone, noStart}
 use Rattle.prover.specs.declared.Run.{Run}
 use Rattle.prover.specs.Records.{Out}
 use Rattle.prover.specs.Start.{freshRun, openingsRun, started, startPlain, startTwisted, startRule, startOpenings}
 
-module _ (items : ℕ) where
+module _ (items version : ℕ) where
   abbrev pub plainRun : Run
-  plainRun = freshRun (plainStart items)
+  plainRun = freshRun (plainStart items version)
 
-  pub plain-count : countFits items ≡ false → startPlain items ≡ refused number.count
+  pub plain-version : versionFits version ≡ false → startPlain items version ≡ refused number.version
   unfolding startPlain
-  plain-count a = ap (λ t. require t number.count (answered (started plainRun))) a
+  plain-version v = rw v
 
-  pub plain-answered : countFits items ≡ true → startPlain items ≡ answered (started plainRun)
+  pub plain-count : versionFits version ≡ true → countFits items ≡ false → startPlain items version ≡ refused number.count
   unfolding startPlain
-  plain-answered a = ap (λ t. require t number.count (answered (started plainRun))) a
+  plain-count v a = rw (v, a)
+
+  pub plain-answered : versionFits version ≡ true → countFits items ≡ true → startPlain items version ≡ answered (started plainRun)
+  unfolding startPlain
+  plain-answered v a = rw (v, a)
 
 module _ (p items : ℕ) (twists : List ℕ) where
   abbrev pub twistedRun : Run

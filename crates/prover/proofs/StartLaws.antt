@@ -24,9 +24,10 @@ use Rattle.prover.specs.Records.{Out}
 use Rattle.pass.specs.Formed.{passFormed, turnFormed}
 use Rattle.prover.specs.WellFormed.{wellFormed}
 use Rattle.item.specs.declared.Start.{Start}
+use Rattle.item.specs.Version.{versionFits}
 use Rattle.item.specs.Start.{countFits, listFits, plainStart, twistedStart, ruleStart}
 use Rattle.prover.specs.Start.{freshRun, zeroPass, started, startPlain, startTwisted, startRule, startOpenings}
-use Rattle.prover.proofs.Decides.{Decides, decide-both, not-so, at-most, below, Nonzero, nonzero}
+use Rattle.prover.proofs.Decides.{Decides, decide-both, not-so, at-most, below, Nonzero, nonzero, IsVersion, version-fits}
 use Rattle.prover.proofs.StartFacts.{plainRun, twistedRun, ruleRun, opensRun, plain-answered, twisted-answered, rule-answered}
 
 -- L from 1 to 32,768
@@ -56,12 +57,24 @@ StartSays Count Argument r (answered o) = Count × Argument × (o ≡ started r)
 StartSays Count Argument r (refused k) = StartRefused Count Argument k
 StartSays Count Argument r (refusedAt k i) = ⊥
 
-pub plain-says : (items : ℕ) → StartSays (InCount items) (Unit {0}) (plainRun items) (startPlain items)
+-- the rows of a plain start: 2, then 3
+pub data PlainRefused (items version : ℕ) : ℕ → Type 0 where
+  other-version : (IsVersion version → ⊥) → PlainRefused items version number.version
+  other-count : IsVersion version → (InCount items → ⊥) → PlainRefused items version number.count
+
+abbrev pub PlainSays : ℕ → ℕ → Outcome Out → Type 0
+PlainSays items version (answered o) = IsVersion version × InCount items × (o ≡ started (plainRun items version))
+PlainSays items version (refused k) = PlainRefused items version k
+PlainSays items version (refusedAt k i) = ⊥
+
+pub plain-says : (items version : ℕ) → PlainSays items version (startPlain items version)
 unfolding startPlain
-plain-says items =
+plain-says items version =
+    let v = version-fits version in
     let d = count-fits items in
-    require-says (StartSays (InCount items) (Unit {0}) (plainRun items)) (countFits items) _ _ (λ bad. by-count (not-so d bad)) λ good.
-    (d .so good, tt, refl)
+    let Says = PlainSays items version in
+    require-says Says (versionFits version) _ _ (λ bad. other-version (not-so v bad)) λ known.
+    require-says Says (countFits items) _ _ (λ bad. other-count (v .so known) (not-so d bad)) λ good. (v .so known, d .so good, refl)
 
 pub twisted-says : (p items : ℕ) (twists : List ℕ)
     → StartSays (InCount items) (Twists p (roundsOf items) twists) (twistedRun p items twists) (startTwisted p items twists)
@@ -109,8 +122,8 @@ openings-says p items cs =
     (d .so good, s .so some, e .so fit, refl)
 
 -- a proper start is answered
-pub plain-starts : (items : ℕ) → InCount items → startPlain items ≡ answered (started (plainRun items))
-plain-starts items h = plain-answered items (count-fits items .back h)
+pub plain-starts : (items version : ℕ) → IsVersion version → InCount items → startPlain items version ≡ answered (started (plainRun items version))
+plain-starts items version v h = plain-answered items version (version-fits version .back v) (count-fits items .back h)
 
 pub twisted-starts : (p items : ℕ) (twists : List ℕ) → InCount items → Twists p (roundsOf items) twists
     → startTwisted p items twists ≡ answered (started (twistedRun p items twists))
@@ -152,10 +165,10 @@ of-answer Count Argument r got o says e = let h = subst (StartSays Count Argumen
 as-started : (p : ℕ) (o : Out) (r : Run) → o ≡ started r → wellFormed p r zeroPass ≡ true → wellFormed p (o .run) (o .pass) ≡ true
 as-started p o r e h = ap (λ x. wellFormed p (x .run) (x .pass)) e ∙ h
 
-pub plain-formed : (p items : ℕ) (o : Out) → startPlain items ≡ answered o → wellFormed p (o .run) (o .pass) ≡ true
-plain-formed p items o e =
-    let h = of-answer (InCount items) (Unit {0}) (plainRun items) (startPlain items) o (plain-says items) e in
-    as-started p o (plainRun items) (h .1) (fresh-formed p (plainStart items) (h .0) refl)
+pub plain-formed : (p items version : ℕ) (o : Out) → startPlain items version ≡ answered o → wellFormed p (o .run) (o .pass) ≡ true
+plain-formed p items version o e =
+    let h = subst (PlainSays items version) e (plain-says items version) in
+    as-started p o (plainRun items version) (h .2) (fresh-formed p (plainStart items version) (h .1) refl)
 
 pub twisted-formed : (p items : ℕ) (twists : List ℕ) (o : Out) → startTwisted p items twists ≡ answered o → wellFormed p (o .run) (o .pass) ≡ true
 twisted-formed p items twists o e =

@@ -11,6 +11,7 @@ use Rattle.kernel.specs.Kernel.{emptyKernel}
 use Rattle.vector.specs.Rounds.{roundsOf}
 use Rattle.vector.specs.Slice.{fifteen}
 use Rattle.item.specs.declared.Start.{Start}
+use Rattle.item.specs.Version.{versionFits}
 use Rattle.item.specs.Start.{countFits, roundsFit, listFits, plainStart, twistedStart, untwistedStart, ruleStart, noStart}
 use Rattle.phase.specs.declared.Mode.the-variants.{Small}
 use Rattle.phase.specs.declared.Next.the-variants.{Total, Openings}
@@ -64,8 +65,11 @@ started r = out (answeredStep r zeroPass answer.Started) [] []
 abbrev pub startLeaves : Outcome Out → Out
 startLeaves o = leaves zeroRun zeroPass [] [] o
 
-unfoldable pub startPlain : ℕ → Outcome Out
-startPlain items = require (countFits items) number.count (answered (started (freshRun (plainStart items))))
+-- "Each plain start is told the version (neither 1 nor 2: 2)"; 2 before 3, as in a file's header
+unfoldable pub startPlain : ℕ → ℕ → Outcome Out
+startPlain items version =
+    require (versionFits version) number.version
+    (require (countFits items) number.count (answered (started (freshRun (plainStart items version)))))
 
 unfoldable pub startTwisted : ℕ → ℕ → List ℕ → Outcome Out
 startTwisted p items twists =

@@ -34,7 +34,7 @@ fn give(p: u32, run: Run, pass: Pass, given: Given, f: &mut [u32], g: &mut [u32]
 
 impl Run {
     // A reading and a weight of a plain run.
-    pub fn item(self, pass: Pass, reading: i16, weight: u16, f: &mut [u32], g: &mut [u32]) -> Step
+    pub fn item(self, pass: Pass, reading: i32, weight: u16, f: &mut [u32], g: &mut [u32]) -> Step
         ensures { λ r. ⌜ out r (now (f .exit)) (now (g .exit)) ≡ leaves self pass (now (f .entry)) (now (g .entry)) (giveCall (modulusOf (self .start)) self pass (Given.Reading reading weight) (now (f .entry)) (now (g .entry))) ⌝ }
     {
         let p = item::modulus_of(self.start);

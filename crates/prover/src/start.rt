@@ -15,6 +15,7 @@ use field::Checked;
 use field::Field;
 use item::Start;
 use item::starts;
+use item::version::version_fits;
 use pass::open::empty_pass;
 use phase::Kind;
 use phase::Mode;
@@ -80,13 +81,17 @@ pub fn no_run_at(number: u8, index: u32) -> Step
 }
 
 impl Run {
-    pub fn start_plain(items: u32) -> Step
-        ensures { λ r. ⌜ out r [] [] ≡ startLeaves (startPlain items) ⌝ }
+    // The version is that of the readings to come.
+    pub fn start_plain(items: u32, version: u32) -> Step
+        ensures { λ r. ⌜ out r [] [] ≡ startLeaves (startPlain items version) ⌝ }
     {
+        let Check::Passed = version_fits(version) else {
+            return no_run(refusal::VERSION);
+        };
         let Check::Passed = starts::count_fits(items) else {
             return no_run(refusal::COUNT);
         };
-        answer(starts::plain(items))
+        answer(starts::plain(items, version))
     }
 
     pub fn start_twisted(items: u32, twists: &[u32]) -> Step

@@ -1,13 +1,13 @@
 // Numbers in two's complement: a cast would ask that the number is in the lower half.
 ghost use mathlib.Core.Path.{_≡_};
-ghost use Prim.Native.Nat.{_+_, _*_, _<_};
+ghost use Prim.Native.Nat.{_+_, _*_};
 ghost use Rattle.wire.specs.Number.{signed};
 ghost use Rattle.records.specs.Signs.{plainItem};
 use item::Given;
 
 pub enum Plain {
     Item(Given),
-    // A number takes more than sixteen bits.
+    // The weight takes more than sixteen bits.
     Bad,
 }
 
@@ -15,24 +15,10 @@ pub enum Plain {
 pub fn item(reading: u32, weight: u32) -> Plain
     ensures { λ r. ⌜ r ≡ plainItem reading weight ⌝ }
 {
-    if reading > 65535 {
-        return Plain::Bad;
-    }
     if weight > 65535 {
         return Plain::Bad;
     }
-    Plain::Item(Given::Reading(signed16(reading), weight as u16))
-}
-
-fn signed16(v: u32) -> i16
-    requires { ⌜ v < 65536 ⌝ }
-    ensures { λ r. ⌜ r ≡ signed 2 v ⌝ }
-{
-    if v < 32768 {
-        v as i16
-    } else {
-        -1 - ((65535 - v) as i16)
-    }
+    Plain::Item(Given::Reading(wire::words::signed_word(reading), weight as u16))
 }
 
 pub fn signed64(low: u32, high: u32) -> i64

@@ -14,9 +14,13 @@ maxRounds = 15
 abbrev pub maxWeight : ℕ
 maxWeight = 1440
 
--- the largest product of a reading and a weight: 32,768 times 1,440
+-- document 02, (b): "a signed 32-bit reading from -1,000,000 to 1,000,000"
+abbrev pub maxFine : ℕ
+maxFine = 1000000
+
+-- the largest product of a reading and a weight, of either version: 1,000,000 times 1,440
 abbrev pub maxWorth : ℕ
-maxWorth = 47185920
+maxWorth = 1440000000
 
 -- "A plain total is a signed whole number from -1,073,741,823 to 1,073,741,823"
 abbrev pub maxTotal : ℕ
@@ -27,4 +31,4 @@ abbrev pub maxLogs : ℕ
 maxLogs = 8
 
 abbrev pub limits : List ℕ
-limits = maxItems ∷ maxRounds ∷ maxWeight ∷ maxTotal ∷ maxLogs ∷ []
+limits = maxItems ∷ maxRounds ∷ maxWeight ∷ maxTotal ∷ maxLogs ∷ maxFine ∷ []

@@ -6,7 +6,7 @@ use mathlib.Core.List.{List, [], _∷_}
 abbrev pub header : ℕ
 header = 1
 
--- version not 1
+-- version not 1; of a log, and at a plain start, neither 1 nor 2 (document 02, (b))
 abbrev pub version : ℕ
 version = 2
 
@@ -70,8 +70,12 @@ vector = 16
 abbrev pub logs : ℕ
 logs = 17
 
+-- document 02, (b): "reading outside its version's range" (with the index)
+abbrev pub reading : ℕ
+reading = 18
+
 -- every number, in the table's order
 abbrev pub numbers : List ℕ
 numbers =
     header ∷ version ∷ count ∷ size ∷ weight ∷ argument ∷ total ∷ items ∷ buffer ∷ order ∷ number ∷ turn ∷ place ∷ sorted ∷ value ∷ vector
-    ∷ logs ∷ []
+    ∷ logs ∷ reading ∷ []

@@ -1,4 +1,4 @@
--- What a call answers, in document 01's terms: "A refusal carries its number and, for 5 and 13 to 15, the index".
+-- What a call answers, in document 01's terms: "A refusal carries its number and, for 5 and 13 to 15, the index"; so does 18.
 -- Each enum of the code has a definition that maps its cases to this type, and the contracts use that definition.
 use Prim.Native.Nat.{ℕ, zero, suc}
 use mathlib.Core.Bool.{Bool, cond}

@@ -38,6 +38,8 @@ pub const VECTOR: u8 = 16;
 
 pub const LOGS: u8 = 17;
 
+pub const READING: u8 = 18;
+
 pub const MAX_ITEMS: u32 = 32768;
 
 pub const MAX_ROUNDS: u32 = 15;
@@ -46,11 +48,14 @@ pub const MAX_WEIGHT: u32 = 1440;
 
 pub const MAX_LOGS: u32 = 8;
 
+// Of a reading of version 2; the least is its negative.
+pub const MAX_FINE: u32 = 1000000;
+
 // The least total is its negative.
 pub const MAX_TOTAL: u32 = 1073741823;
 
 // Every refusal number, in the table's order.
-pub fn numbers() -> [u8; 17]
+pub fn numbers() -> [u8; 18]
     ensures { λ r. ⌜ r ≡ number.numbers ⌝ }
 {
     [
@@ -71,13 +76,21 @@ pub fn numbers() -> [u8; 17]
         VALUE,
         VECTOR,
         LOGS,
+        READING,
     ]
 }
 
-pub fn limits() -> [u32; 5]
+pub fn limits() -> [u32; 6]
     ensures { λ r. ⌜ r ≡ limit.limits ⌝ }
 {
-    [MAX_ITEMS, MAX_ROUNDS, MAX_WEIGHT, MAX_TOTAL, MAX_LOGS]
+    [
+        MAX_ITEMS,
+        MAX_ROUNDS,
+        MAX_WEIGHT,
+        MAX_TOTAL,
+        MAX_LOGS,
+        MAX_FINE,
+    ]
 }
 
 // The answer of one check, taken by `let else`.

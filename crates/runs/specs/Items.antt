@@ -3,7 +3,7 @@ use Prim.Native.Nat.{ℕ, _-_, _≤_}
 use mathlib.Core.List.{List, [], _∷_, _++_}
 use lib.IntN.{natAbs}
 use lib.ListN.{length, replicate}
-use Rattle.refusal.specs.Limit.{maxWeight}
+use Rattle.refusal.specs.Limit.{maxWeight, maxFine}
 use Rattle.vector.specs.Fold.{Pair}
 use Rattle.prover.specs.declared.Run.{Run}
 use Rattle.item.specs.declared.Given.{Given}
@@ -16,9 +16,9 @@ unfoldable pub pairsOf : ℕ → Run → List Given → List Pair
 pairsOf p r [] = []
 pairsOf p r (x ∷ xs) = (entersAs p (r .start) (r .start .items - 1 - length xs) (contributes p (r .start) x .f), contributes p (r .start) x .g) ∷ pairsOf p r xs
 
--- "reading (signed 16-bit ..), weight (unsigned 16-bit, minutes, 0 to 1,440)"
+-- a reading of either version, "weight (unsigned 16-bit, minutes, 0 to 1,440)"
 abbrev pub Within : Given → Type 0
-Within (Reading z w) = (natAbs z ≤ 32768) × (w ≤ maxWeight)
+Within (Reading z w) = (natAbs z ≤ maxFine) × (w ≤ maxWeight)
 Within (Numbers a b) = Unit {0}
 
 unfoldable pub AllWithin : List Given → Type 0

@@ -13,6 +13,7 @@ use Rattle.field.specs.Total.{inLimits}
 use Rattle.field.proofs.Totals.{limits-apart}
 use Rattle.vector.specs.Rounds.{roundsOf}
 use Rattle.field.specs.Number.{isNonzero}
+use Rattle.item.specs.Version.{versionFits}
 use Rattle.item.specs.Start.{countFits, roundsFit, listFits}
 use Rattle.verifier.specs.declared.Verifier.{Verifier}
 use Rattle.verifier.specs.Records.{Replied}
@@ -27,13 +28,17 @@ require-answered false k rest h = absurd (let z : _≡_ {A = ℕ} 0 1 = cc in om
 pub answered-same : {A : Type 0} {x y : A} → answered x ≡ answered y → x ≡ y
 answered-same e = cc
 
-pub start-plain-says : (p items : ℕ) (cs : List ℕ) {s : Replied} → startPlain p items cs ≡ answered s
-    → (countFits items ≡ true) × (listFits p (roundsOf items) cs ≡ true) × (s ≡ startedWith (plainVerifier items cs))
+pub start-plain-says : (p items version : ℕ) (cs : List ℕ) {s : Replied} → startPlain p items version cs ≡ answered s
+    → (versionFits version ≡ true)
+    × (countFits items ≡ true)
+    × (listFits p (roundsOf items) cs ≡ true)
+    × (s ≡ startedWith (plainVerifier items version cs))
 unfolding startPlain
-start-plain-says p items cs h =
-    let a = require-answered (countFits items) number.count _ h in
+start-plain-says p items version cs h =
+    let v = require-answered (versionFits version) number.version _ h in
+    let a = require-answered (countFits items) number.count _ (v .1) in
     let b = require-answered (listFits p (roundsOf items) cs) number.argument _ (a .1) in
-    (a .0, b .0, sym (answered-same (b .1)))
+    (v .0, a .0, b .0, sym (answered-same (b .1)))
 
 pub start-twisted-says : (p items : ℕ) (vs cs : List ℕ) {s : Replied} → startTwisted p items vs cs ≡ answered s
     → (countFits items ≡ true)

@@ -25,6 +25,7 @@ use Rattle.vector.proofs.Rounds.{rounds-enough}
 use Rattle.vector.proofs.Sums.{running-product}
 use Rattle.vector.proofs.Overwrite.{fifteen-at}
 use Rattle.vector.proofs.Messages.{dot-padded}
+use Rattle.item.specs.Version.{inRange}
 use Rattle.item.specs.Start.{countFits, listFits, plainStart}
 use Rattle.item.proofs.PartsRows.{reading-taken}
 use Rattle.verifier.specs.declared.Verifier.{Verifier}
@@ -51,7 +52,7 @@ trip-image p readings weights (suc m) =
     ∙ ap (λ x. addMod p x (mulMod p (image p (readings m)) (weights m))) (trip-image p readings weights m)
     ∙ running-product p (sum m (λ i. image p (readings i) * weights i)) (image p (readings m)) (weights m)
 
-module _ (p items : ℕ) (cs : List ℕ) (readings : ℕ → ℤ) (weights : Vector) where
+module _ (p items version : ℕ) (cs : List ℕ) (readings : ℕ → ℤ) (weights : Vector) where
   -- document 01's f and g: readings and weights, then zeros
   abbrev pub readingVector : Vector
   readingVector = padded items (λ i. image p (readings i))
@@ -61,34 +62,35 @@ module _ (p items : ℕ) (cs : List ℕ) (readings : ℕ → ℤ) (weights : Vec
 
   -- the verifier after the items
   abbrev pub afterPlain : Verifier
-  afterPlain = afterCalls (givenItems p (readingItems readings weights)) (plainVerifier items cs) items
+  afterPlain = afterCalls (givenItems p (readingItems readings weights)) (plainVerifier items version cs) items
 
   module _ (large : maxWeight < p) (count : countFits items ≡ true) (list : listFits p (roundsOf items) cs ≡ true)
-      (fine : (i : ℕ) → i < items → weights i ≤ maxWeight) where
+      (fine : (i : ℕ) → i < items → weights i ≤ maxWeight)
+      (ranged : (i : ℕ) → i < items → inRange version (readings i) ≡ true) where
     abbrev pub kept : List ℕ
     kept = fifteen (roundsOf items) cs
 
     abbrev pub plainState : ℕ → Verifier
-    plainState = state p (plainStart items) (readingItems readings weights) kept
+    plainState = state p (plainStart items version) (readingItems readings weights) kept
 
     pub plain-agree : (k : ℕ) → k < roundsOf items → at kept k ≡ at cs k
     plain-agree = fifteen-at (roundsOf items) cs (few items count) (omega (arith, list-length p (roundsOf items) cs list))
 
-    plain-same : (i : ℕ) → i < items → entering p (plainStart items) i (image p (readings i)) ≡ image p (readings i)
+    plain-same : (i : ℕ) → i < items → entering p (plainStart items version) i (image p (readings i)) ≡ image p (readings i)
     unfolding entering
     plain-same i h = refl
 
     abbrev plain-run : Run p
     plain-run =
         record {
-          start = plainStart items;
+          start = plainStart items version;
           count = count;
           own = refl;
           challenges = kept;
           c = at cs;
           agree = plain-agree;
           given = readingItems readings weights;
-          fits = λ i h. reading-taken p (plainStart items) i (readings i) (weights i) refl (le-leb (weights i) maxWeight (fine i h));
+          fits = λ i h. reading-taken p (plainStart items version) i (readings i) (weights i) refl (le-leb (weights i) maxWeight (fine i h)) (ranged i h);
           F = λ i. image p (readings i);
           same = plain-same;
           reduced-f = λ i h. image-residue p (readings i);

@@ -1,4 +1,4 @@
--- The starts: refused by 3 and 6 only, and otherwise a fresh verifier, its pass "open from its start".
+-- The starts: refused by 2, 3 and 6 only, and otherwise a fresh verifier, its pass "open from its start".
 use Prim.Native.Nat.{ℕ}
 use mathlib.Core.Bool.{false}
 use mathlib.Core.List.{List}
@@ -8,6 +8,7 @@ use Rattle.field.specs.Number.{isNonzero}
 use Rattle.vector.specs.Rounds.{roundsOf}
 use Rattle.vector.specs.Slice.{fifteen}
 use Rattle.item.specs.declared.Start.{Start}
+use Rattle.item.specs.Version.{versionFits}
 use Rattle.item.specs.Start.{countFits, roundsFit, listFits, plainStart, twistedStart, ruleStart}
 use Rattle.verifier.specs.declared.Verifier.{Verifier}
 use Rattle.verifier.specs.Reply as reply
@@ -35,8 +36,8 @@ abbrev pub startedWith : Verifier → Replied
 startedWith v = record { verifier = v; reply = reply.started }
 
 -- the verifier of a plain run, which reads no twists
-abbrev pub plainVerifier : ℕ → List ℕ → Verifier
-plainVerifier items challenges = verifierOf (plainStart items) challenges
+abbrev pub plainVerifier : ℕ → ℕ → List ℕ → Verifier
+plainVerifier items version challenges = verifierOf (plainStart items version) challenges
 
 abbrev pub twistedVerifier : ℕ → List ℕ → List ℕ → Verifier
 twistedVerifier items twists challenges = verifierOf (twistedStart items twists) challenges
@@ -44,11 +45,13 @@ twistedVerifier items twists challenges = verifierOf (twistedStart items twists)
 abbrev pub ruleVerifier : ℕ → ℕ → ℕ → List ℕ → Verifier
 ruleVerifier p rounds v challenges = verifierOf (ruleStart p rounds v) challenges
 
-unfoldable pub startPlain : ℕ → ℕ → List ℕ → Outcome Replied
-startPlain p items challenges =
-    require (countFits items) number.count
+-- "Each plain start is told the version (neither 1 nor 2: 2)"; 2 before 3, as in a file's header
+unfoldable pub startPlain : ℕ → ℕ → ℕ → List ℕ → Outcome Replied
+startPlain p items version challenges =
+    require (versionFits version) number.version
+    (require (countFits items) number.count
     (require (listFits p (roundsOf items) challenges) number.argument
-    (answered (startedWith (plainVerifier items challenges))))
+    (answered (startedWith (plainVerifier items version challenges)))))
 
 unfoldable pub startTwisted : ℕ → ℕ → List ℕ → List ℕ → Outcome Replied
 startTwisted p items twists challenges =

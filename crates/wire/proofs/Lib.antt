@@ -1,6 +1,7 @@
 pub mod Numbers
 pub mod Told
 pub mod Marks
+pub mod Layouts
 pub mod Blocks
 pub mod LogSays
 pub mod Below
@@ -12,3 +13,4 @@ pub mod MatrixSays
 pub mod Codes
 pub mod Parts
 pub mod RoundTrip
+pub mod VersionOne

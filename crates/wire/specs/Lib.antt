@@ -1,6 +1,7 @@
 pub mod Number
 pub mod Found
 pub mod Header
+pub mod Layout
 pub mod Log
 pub mod Block
 pub mod Proof

@@ -47,24 +47,24 @@ pub(crate) fn put32(s: &mut [u8], at: usize, v: u32)
 }
 
 // Two's complement: a cast would ask that the number is in the lower half.
-pub(crate) fn signed16(v: u32) -> i16
+pub(crate) fn signed16(v: u32) -> i32
     requires { ⌜ v < 65536 ⌝ }
     ensures { λ r. ⌜ r ≡ signed 2 v ⌝ }
 {
     if v < 32768 {
-        v as i16
+        v as i32
     } else {
-        -1 - ((65535 - v) as i16)
+        -1 - ((65535 - v) as i32)
     }
 }
 
-pub(crate) fn signed32(v: u32) -> i64
+pub(crate) fn signed32(v: u32) -> i32
     ensures { λ r. ⌜ r ≡ signed 4 v ⌝ }
 {
     if v < 2147483648 {
-        v as i64
+        v as i32
     } else {
-        -1 - ((4294967295 - v) as i64)
+        -1 - ((4294967295 - v) as i32)
     }
 }
 

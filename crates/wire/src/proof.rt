@@ -66,7 +66,7 @@ pub fn read_proof_in(p: u32, file: &[u8]) -> ProofRead
     let Check::Passed = pass_if(file.len() == proof_size(rounds)) else {
         return ProofRead::Refused(refusal::SIZE);
     };
-    let total = signed32(get32(file, 6));
+    let total = field::integer::widen(signed32(get32(file, 6)));
     let Check::Passed = pass_if(field::total::within(p, total)) else {
         return ProofRead::Refused(refusal::TOTAL);
     };

@@ -1,6 +1,6 @@
-// A number of four bytes at any place of any bytes.
+// Numbers of four bytes: at any place of any bytes, and by their sign.
 ghost use mathlib.Core.Path.{_≡_};
-ghost use Rattle.wire.specs.Number.{wordAt};
+ghost use Rattle.wire.specs.Number.{signed, wordAt};
 
 // Zero where the four bytes are not there.
 pub fn word_at(s: &[u8], at: usize) -> u32
@@ -13,4 +13,11 @@ pub fn word_at(s: &[u8], at: usize) -> u32
         return 0;
     }
     super::number::get32(s, at)
+}
+
+// A number of 32 bits as two's complement.
+pub fn signed_word(v: u32) -> i32
+    ensures { λ r. ⌜ r ≡ signed 4 v ⌝ }
+{
+    super::number::signed32(v)
 }

@@ -1,20 +1,27 @@
 //! Batches: logs of equal n and of their own lengths, whole and damaged, their run in either mode, and
 //! the check of what it opened; true, or with one thing wrong.
 
-use super::file_list::damage;
+use super::file_list::{damage, spoil_log};
 use super::noise;
 use super::plan::{Kind, Plan};
 use super::prover_list::{go_on, numbers, Openings};
 use super::script::Script;
 use crate::field::P;
-use crate::files::write_log;
+use crate::files::{item_size, write_log};
 use crate::random::Random;
 use crate::replay::SLOT;
 use crate::state::Next;
 use crate::vector::rounds_of;
 
 /// As many items as a log in a slot can have.
-const MOST: u64 = (SLOT as u64 - 7) / 4;
+fn most(version: u64) -> u64 {
+    (SLOT - 7) as u64 / item_size(version) as u64
+}
+
+fn log(random: &mut Random, version: u64, items: u64) -> Vec<u8> {
+    let item = |random: &mut Random| (random.reading(version), random.weight(version));
+    write_log(version, &(0..items).map(|_| item(random)).collect::<Vec<_>>())
+}
 
 struct Logs {
     /// The eight slots.
@@ -47,10 +54,12 @@ impl Logs {
     fn random(random: &mut Random) -> Logs {
         let rounds = random.pick(&[0, 1, 1, 2, 2, 3, 3, 4, 5, 6]);
         let count = random.between(1, 8);
+        // Each of its own version and length.
         let log = |random: &mut Random| {
+            let version = random.version();
             let least = if rounds == 0 { 1 } else { (1 << (rounds - 1)) + 1 };
-            let items = random.between(least, (1 << rounds).min(MOST));
-            write_log(&(0..items).map(|_| (random.reading(), random.weight())).collect::<Vec<_>>())
+            let items = random.between(least, most(version).min(1 << rounds));
+            log(random, version, items)
         };
         // Slots past the number told hold anything.
         let bytes = (0..8).map(|k| match k < count || random.chance(300) {
@@ -97,12 +106,11 @@ fn refused(script: &mut Script, logs: &Logs) {
                 damage(random, &mut wrong.bytes[slot]);
                 wrong.bytes[slot].truncate(SLOT);
             }
-            3 => spoil_weight(random, &mut wrong.bytes[slot]),
+            3 => spoil_log(random, &mut wrong.bytes[slot]),
             4 => {
-                let items = random.between(1, MOST);
-                let item = |random: &mut Random| (random.reading(), random.weight());
-                wrong.bytes[slot] =
-                    write_log(&(0..items).map(|_| item(random)).collect::<Vec<_>>());
+                let version = random.version();
+                let items = random.between(1, most(version));
+                wrong.bytes[slot] = log(random, version, items);
             }
             5 => wrong.z = random.pick(&[0, P, P + 1, u32::MAX as u64]),
             6 => match wrong.challenges.pop() {
@@ -116,14 +124,6 @@ fn refused(script: &mut Script, logs: &Logs) {
     for k in 0..logs.count {
         let point = script.random.any();
         script.call(64, k, point);
-    }
-}
-
-fn spoil_weight(random: &mut Random, log: &mut [u8]) {
-    if log.len() > 10 {
-        let item = random.below((log.len() as u64 - 7) / 4) as usize;
-        let weight: u16 = random.pick(&[1_441, 32_768, 65_535]);
-        log[9 + 4 * item..11 + 4 * item].copy_from_slice(&weight.to_le_bytes());
     }
 }
 
@@ -159,7 +159,8 @@ fn check(script: &mut Script, logs: &Logs, openings: &Openings) {
     assert!(rounds_of(items as usize) == rounds);
     if script.random.chance(500) {
         script.fill_scratch(&logs.challenges);
-        script.call(30, items, 0);
+        let version = script.random.version();
+        script.call(30, items, version);
     } else {
         script.fill_scratch(&[vec![1; rounds], logs.challenges.clone()].concat());
         script.call(31, items, rounds as u64);

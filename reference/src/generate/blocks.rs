@@ -1,15 +1,21 @@
 //! Blocks of items: those of the trip, in cuts of any length, and those with something wrong in them.
 
-use super::plan::{field_items, plain_items, Plan};
+use super::file_list::spoil_items;
+use super::plan::{field_items, from_record, plain_items, Plan};
 use super::script::Script;
 use crate::field::P;
-use crate::files::write_items;
+use crate::files::{item_size, write_items};
 use crate::replay::{PLACES, SCRATCH, SLOT};
 use crate::state::{Aim, Mode, Next};
 use crate::table::fold_size;
 
-/// As many items as a slot holds.
-pub const LONGEST: usize = SLOT / 4;
+/// As many items of a version as a slot holds; of version 0, as many pairs as the scratch list.
+pub fn longest(version: u64) -> usize {
+    match version {
+        0 => SCRATCH / 2,
+        _ => SLOT / item_size(version),
+    }
+}
 
 /// Where a block can be handed in; in the last three it is always refused.
 pub const WHERE: [&str; 11] = [
@@ -50,22 +56,32 @@ enum Fault {
     Kind,
     /// No whole number of items, or slices of unequal length.
     Torn,
-    /// One or two weights over the limit, or numbers P or more.
+    /// In the other version's layout.
+    Layout,
+    /// A few weights or readings past their limits, or numbers P or more.
     Numbers,
     /// A lent buffer shorter than the fold: of use in a change pass.
     Short,
 }
 
-const FAULTS: [Fault; 6] =
-    [Fault::Many, Fault::Empty, Fault::Kind, Fault::Torn, Fault::Numbers, Fault::Short];
+const FAULTS: [Fault; 7] = [
+    Fault::Many,
+    Fault::Empty,
+    Fault::Kind,
+    Fault::Torn,
+    Fault::Layout,
+    Fault::Numbers,
+    Fault::Short,
+];
 
 /// The next items of the trip: all that are wanted, or some of them.
 pub fn give(script: &mut Script, plan: &Plan, taker: Taker) {
     let (taken, wanted) = turn(script, plan, taker);
-    let most = wanted.min(LONGEST) as u64;
+    let longest = longest(plan.version());
+    let most = wanted.min(longest) as u64;
     let count = match (plan.aligned, taker) {
-        (true, Taker::Run) => (wanted - 1) % LONGEST + 1,
-        (true, Taker::Verifier) => wanted.min(LONGEST - taken % LONGEST),
+        (true, Taker::Run) => (wanted - 1) % longest + 1,
+        (true, Taker::Verifier) => wanted.min(longest - taken % longest),
         _ => match script.random.below(4) {
             0 => most as usize,
             1 => script.random.between(1, most.min(4)) as usize,
@@ -73,20 +89,24 @@ pub fn give(script: &mut Script, plan: &Plan, taker: Taker) {
         },
     };
     let items = match taker == Taker::Run && script.random.chance(plan.strays) {
-        true => random_items(script, plan.plain(), count),
+        true => random_items(script, plan.version(), count),
         false => next_items(plan, taker, (taken, wanted), count).to_vec(),
     };
     if taker == Taker::Run {
         lend_for_change(script);
     }
-    hand_over(script, taker, block_of(plan.plain(), &items));
+    hand_over(script, taker, block_of(plan.version(), &items));
 }
 
 /// The next items with one or more faults. Where none of these counts, they are taken.
 pub fn faulty(script: &mut Script, plan: &Plan, taker: Taker) {
     let mut faults = FAULTS.to_vec();
     faults.retain(|_| script.random.chance(200));
-    faults.push(script.random.pick(&FAULTS));
+    // Numbers go wrong in the most ways.
+    faults.push(match script.random.chance(200) {
+        true => Fault::Numbers,
+        false => script.random.pick(&FAULTS),
+    });
     let has = |fault| faults.contains(&fault);
     let (taken, wanted) = turn(script, plan, taker);
     let random = &mut script.random;
@@ -96,31 +116,37 @@ pub fn faulty(script: &mut Script, plan: &Plan, taker: Taker) {
         wanted if random.chance(300) => wanted,
         wanted => random.between(wanted.min(1), wanted),
     };
-    let plain = plan.plain() != has(Fault::Kind);
-    let count = (count as usize).min(LONGEST);
-    let mut items = match has(Fault::Kind) {
-        true => random_items(script, plain, count),
+    let version = match plan.version() {
+        0 if has(Fault::Kind) => random.version(),
+        _ if has(Fault::Kind) => 0,
+        version if version != 0 && has(Fault::Layout) => 3 - version,
+        version => version,
+    };
+    let count = (count as usize).min(longest(version));
+    let items = match has(Fault::Kind) {
+        true => random_items(script, version, count),
         false => {
             let proper = next_items(plan, taker, (taken, wanted), count.min(wanted));
-            let beyond = random_items(script, plain, count - proper.len());
+            let beyond = random_items(script, version, count - proper.len());
             match taker {
                 Taker::Run => [&beyond, proper].concat(),
                 Taker::Verifier => [proper, &beyond].concat(),
             }
         }
     };
+    let mut block = block_of(version, &items);
     if has(Fault::Numbers) {
-        spoil_numbers(script, plain, &mut items);
+        spoil_numbers(script, version, &mut block);
     }
-    let mut block = block_of(plain, &items);
-    if has(Fault::Many) && wanted >= LONGEST {
+    if has(Fault::Many) && wanted >= longest(0) {
         lengthen(script, &mut block, wanted);
     }
     if has(Fault::Torn) {
-        tear(script, &mut block);
+        tear(script, &mut block, item_size(version));
     }
+    let short = has(Fault::Short) || has(Fault::Numbers) && script.random.chance(300);
     match taker {
-        Taker::Run if has(Fault::Short) => lend_short(script),
+        Taker::Run if short => lend_short(script),
         Taker::Run => lend_for_change(script),
         Taker::Verifier => {}
     }
@@ -165,35 +191,33 @@ fn next_items(
     }
 }
 
-fn random_items(script: &mut Script, plain: bool, count: usize) -> Vec<(u64, u64)> {
-    match plain {
-        true => plain_items(&mut script.random, count),
-        false => field_items(&mut script.random, count),
+fn random_items(script: &mut Script, version: u64, count: usize) -> Vec<(u64, u64)> {
+    match version {
+        0 => field_items(&mut script.random, count),
+        _ => plain_items(&mut script.random, version, count),
     }
 }
 
-fn block_of(plain: bool, items: &[(u64, u64)]) -> Block {
-    if plain {
-        let item = |&(reading, weight): &(u64, u64)| (reading as u16 as i16, weight as u16);
-        Block::Bytes(write_items(&items.iter().map(item).collect::<Vec<_>>()))
-    } else {
+fn block_of(version: u64, items: &[(u64, u64)]) -> Block {
+    if version == 0 {
         let (first, second) = items.iter().copied().unzip();
-        Block::Slices(first, second)
+        return Block::Slices(first, second);
     }
+    Block::Bytes(write_items(version, &items.iter().map(from_record).collect::<Vec<_>>()))
 }
 
-fn spoil_numbers(script: &mut Script, plain: bool, items: &mut [(u64, u64)]) {
-    if items.is_empty() {
-        return;
-    }
+fn spoil_numbers(script: &mut Script, version: u64, block: &mut Block) {
     let random = &mut script.random;
-    for _ in 0..random.between(1, 2) {
-        let item = &mut items[random.below(items.len() as u64) as usize];
-        let over = random.pick(&[P, P + 1, u32::MAX as u64]);
-        match random.below(2) {
-            _ if plain => item.1 = random.pick(&[1_441, 1_442, 32_768, 65_535]),
-            0 => item.0 = over,
-            _ => item.1 = over,
+    match block {
+        Block::Bytes(bytes) => spoil_items(random, version, bytes),
+        Block::Slices(first, second) => {
+            for _ in 0..random.between(1, 2) {
+                let slice = if random.chance(500) { &mut *first } else { &mut *second };
+                if !slice.is_empty() {
+                    let place = random.below(slice.len() as u64) as usize;
+                    slice[place] = random.pick(&[P, P + 1, u32::MAX as u64]);
+                }
+            }
         }
     }
 }
@@ -207,11 +231,12 @@ fn lengthen(script: &mut Script, block: &mut Block, wanted: usize) {
     }
 }
 
-fn tear(script: &mut Script, block: &mut Block) {
+fn tear(script: &mut Script, block: &mut Block, size: usize) {
     let random = &mut script.random;
-    let (way, part) = (random.below(4), random.between(1, 3) as usize);
+    let (way, part) = (random.below(4), random.between(1, size as u64 - 1) as usize);
     match block {
         Block::Bytes(bytes) if bytes.is_empty() || way < 2 && bytes.len() < SLOT => {
+            let part = part.min(SLOT - bytes.len());
             bytes.extend((0..part).map(|_| random.below(256) as u8));
         }
         Block::Bytes(bytes) if way == 2 => drop(bytes.drain(..part)),

@@ -4,13 +4,13 @@ use super::noise::{foreign, RUN_OPS};
 use super::rule_list::random_matrix;
 use super::script::Script;
 use crate::field::P;
-use crate::files::{write_log, write_matrix, write_proof, Proof};
+use crate::files::{item_size, layout_named, write_log, write_matrix, write_proof, Proof};
 use crate::random::Random;
 
 pub fn files(script: &mut Script) {
     script.begin_list();
     for _ in 0..script.random.between(2, 5) {
-        let kind = script.random.below(3);
+        let kind = script.random.pick(&[0, 0, 1, 2]);
         let random = &mut script.random;
         let mut bytes = match kind {
             0 => log(random),
@@ -19,6 +19,9 @@ pub fn files(script: &mut Script) {
         };
         if random.chance(350) {
             damage(random, &mut bytes);
+        }
+        if random.chance(200) {
+            rename(random, &mut bytes);
         }
         if random.chance(50) {
             damage(random, &mut bytes);
@@ -36,14 +39,49 @@ pub fn files(script: &mut Script) {
 }
 
 fn log(random: &mut Random) -> Vec<u8> {
-    let count = random.below(13);
-    let mut items: Vec<_> = (0..count).map(|_| (random.reading(), random.weight())).collect();
-    if count > 0 && random.chance(250) {
-        for _ in 0..random.between(1, 2) {
-            items[random.below(count) as usize].1 = random.pick(&[1_441, 1_442, 32_768, 65_535]);
-        }
+    let (count, version) = (random.below(13), random.version());
+    let item = |random: &mut Random| (random.reading(version), random.weight(version));
+    let items: Vec<_> = (0..count).map(|_| item(random)).collect();
+    let mut bytes = write_log(version, &items);
+    if count > 0 && random.chance(350) {
+        (0..random.between(1, 2)).for_each(|_| spoil_log(random, &mut bytes));
     }
-    write_log(&items)
+    bytes
+}
+
+pub fn spoil_log(random: &mut Random, log: &mut [u8]) {
+    let version = layout_named(log);
+    spoil_items(random, version, log.get_mut(7..).unwrap_or_default());
+}
+
+/// Weights and readings of one item, or of two next to each other, past their limits.
+pub fn spoil_items(random: &mut Random, version: u64, bytes: &mut [u8]) {
+    let items = bytes.chunks_exact_mut(item_size(version));
+    let first = random.below(items.len().max(1) as u64) as usize;
+    for item in items.skip(first).take(random.between(1, 2) as usize) {
+        spoil_item(random, version, item);
+    }
+}
+
+/// Two bytes of a version 1 reading hold none past its limits.
+fn spoil_item(random: &mut Random, version: u64, item: &mut [u8]) {
+    let weight_at = item.len() - 2;
+    let which = random.below(3);
+    if which != 0 || version == 1 {
+        item[weight_at..].copy_from_slice(&random.weight_over().to_le_bytes());
+    }
+    if which != 1 && version == 2 {
+        item[..4].copy_from_slice(&random.reading_outside(2).to_le_bytes());
+    }
+}
+
+/// Another version in the header, known or not: a log of versions 1 and 2 then has the length of the
+/// other.
+pub fn rename(random: &mut Random, bytes: &mut [u8]) {
+    let version: u16 = random.pick(&[0, 1, 1, 2, 2, 3, 257, 258, 512, 65_535]);
+    if let Some(named) = bytes.get_mut(3..5) {
+        named.copy_from_slice(&version.to_le_bytes());
+    }
 }
 
 fn proof(random: &mut Random) -> Vec<u8> {
@@ -89,6 +127,9 @@ fn matrix(random: &mut Random) -> Vec<u8> {
 /// One change of a file's header, length or any byte.
 pub fn damage(random: &mut Random, bytes: &mut Vec<u8>) {
     let length = bytes.len() as u64;
+    if random.chance(100) {
+        return rename(random, bytes);
+    }
     let mut set = |place: u64, value: u64| {
         if let Some(byte) = bytes.get_mut(place as usize) {
             *byte = value as u8;
@@ -116,10 +157,11 @@ fn index(script: &mut Script, size: u64) -> u64 {
     }
 }
 
-fn read_log(script: &mut Script) {
+pub fn read_log(script: &mut Script) {
     script.call(52, 0, 0);
     for _ in 0..4 {
-        let item = index(script, 4);
+        let size = item_size(layout_named(&script.tool.file)) as u64;
+        let item = index(script, size);
         script.call(53, item, 0);
     }
 }
@@ -183,9 +225,14 @@ pub fn file_limits(script: &mut Script) {
     script.fill_scratch(&vec![1; length as usize]);
     script.call(59, 7, 1);
     if script.random.chance(200) {
-        let bytes: Vec<u8> = (0..1_026).map(|k| k as u8).collect();
+        let mut bytes: Vec<u8> = (0..1_026).map(|k| k as u8).collect();
+        if script.random.chance(500) {
+            bytes[3..5].copy_from_slice(&[2, 0]);
+        }
         script.fill_file(&bytes);
-        script.call(53, 254, 0);
+        for item in [168, 169, 253, 254] {
+            script.call(53, item, 0);
+        }
         script.call(57, 126, 0);
         script.call(57, 127, 0);
     }

@@ -1,7 +1,9 @@
 //! Random calls: out of turn, with numbers at and over their limits, with short buffers.
 
+use super::plan::in_record;
 use super::script::Script;
 use crate::field::TOTAL_LIMIT;
+use crate::random::Random;
 use crate::replay::PLACES;
 
 pub fn only(script: &mut Script, calls: usize) {
@@ -26,7 +28,7 @@ pub fn prover_call(script: &mut Script) {
     let (a, b) = match op {
         26 => (slot(script), script.random.any()),
         27 => slices(script),
-        15 => plain_item(script),
+        15 => plain_item(&mut script.random),
         16 => (script.random.any(), script.random.any()),
         24 => (proof_room(script), 0),
         _ => (script.random.any(), 0),
@@ -34,15 +36,29 @@ pub fn prover_call(script: &mut Script) {
     script.call(op, a, b);
 }
 
-fn plain_item(script: &mut Script) -> (u64, u64) {
-    let random = &mut script.random;
-    let reading = random.reading() as u16 as u64;
-    match random.below(8) {
-        0 => (random.pick(&[65_536, u32::MAX as u64]), 1),
-        1 => (reading, random.pick(&[1_441, 65_535, 65_536])),
-        2 => (reading, random.below(1 << 16)),
-        _ => (reading, random.weight() as u64),
-    }
+/// Of either version, whatever the run's is.
+fn plain_item(random: &mut Random) -> (u64, u64) {
+    let version = random.version();
+    let (reading, weight) = match random.below(8) {
+        0..=1 => near_item(random, version),
+        2 => (random.reading(version), random.pick(&[65_536, u32::MAX as u64])),
+        3 => (random.reading(version), random.below(1 << 16)),
+        _ => (random.reading(version), random.weight(version) as u64),
+    };
+    (in_record(reading), weight)
+}
+
+/// At its limits or past them: the reading, the weight or both.
+pub fn near_item(random: &mut Random, version: u64) -> (i32, u64) {
+    let reading = match random.chance(600) {
+        true => random.reading_outside(version),
+        false => random.reading(version),
+    };
+    let weight = match random.chance(400) {
+        true => random.weight_over(),
+        false => random.pick(&[1, 1_440]),
+    };
+    (reading, weight as u64)
 }
 
 /// Whatever the slot holds; the one after the last is bad.
@@ -80,7 +96,7 @@ pub fn verifier_call(script: &mut Script) {
     let any = [script.random.any(), script.random.any(), script.random.any()];
     let [a, b, c] = match op {
         33 => {
-            let (reading, weight) = plain_item(script);
+            let (reading, weight) = plain_item(&mut script.random);
             [reading, weight, 0]
         }
         35 => {
@@ -159,11 +175,18 @@ pub fn refused_start(script: &mut Script) {
     let items = random.pick(&[0, 2, 3, 4, 5, 40, 32_768, 32_769, u32::MAX as u64]);
     let rounds = random.pick(&[1, 2, 15, 16, u32::MAX as u64]);
     let number = random.pick(&[0, 1, 2, 3, 2_147_483_646, 2_147_483_647, u32::MAX as u64]);
+    let version = match random.chance(400) {
+        true => random.other_version(),
+        false => random.version(),
+    };
     script.fill_scratch(&list);
     match op {
-        // Whatever the list, a plain start is refused for its count alone.
-        10 => script.call(op, if items < 32_769 { 0 } else { items }, 0),
-        11 | 30 => script.call(op, items, 0),
+        // Whatever the list, a plain start is refused for its version or its count alone.
+        10 if version == 1 || version == 2 => {
+            script.call(op, if items < 32_769 { 0 } else { items }, version)
+        }
+        10 | 30 => script.call(op, items, version),
+        11 => script.call(op, items, 0),
         31 => script.call(op, items, length / 2),
         _ => script.call(op, rounds, number),
     };
@@ -192,8 +215,10 @@ pub fn run_limits(script: &mut Script) {
             script.call(op, if op == 5 { a.max(4_097) } else { a }, 0);
         }
     }
-    script.call(15, 65_536, 0);
-    script.call(33, 0, 65_536);
+    for op in [15, 33] {
+        script.call(op, 0, 65_536);
+        script.call(op, u32::MAX as u64, u32::MAX as u64);
+    }
     let slot = script.random.below(8);
     let length = script.random.between(254, 258);
     script.call(60, slot, 0);

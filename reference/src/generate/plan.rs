@@ -1,12 +1,14 @@
 //! What one run is meant to be: its trip, its challenges, when it changes mode, how unruly it is.
 
-use super::blocks::LONGEST;
-use crate::random::Random;
+use super::blocks::longest;
+use crate::files::{readings, Item};
+use crate::random::{usual_weight, Random};
 use crate::vector::{rounds_of, rule_twists};
 
 #[derive(Clone, Copy, Debug, PartialEq)]
 pub enum Kind {
-    Plain,
+    /// With its version.
+    Plain(u64),
     Twisted,
     /// With v.
     Rule(u64),
@@ -14,7 +16,7 @@ pub enum Kind {
 
 pub struct Plan {
     pub kind: Kind,
-    /// As a record gives them: a reading in 16 bits and a weight, or two field numbers.
+    /// As a record gives them: a reading in 32 bits and a weight, or two field numbers.
     pub items: Vec<(u64, u64)>,
     pub twists: Vec<u64>,
     pub challenges: Vec<u64>,
@@ -49,18 +51,18 @@ impl Plan {
                 Plan::of(random, Kind::Twisted, trip)
             }
             _ => {
-                let trip = plain_items(random, items);
-                Plan::of(random, Kind::Plain, trip)
+                let version = random.version();
+                let trip = plain_items(random, version, items);
+                Plan::of(random, Kind::Plain(version), trip)
             }
         }
     }
 
     /// A run of many items, with nothing random inserted: it changes mode at the first round whose
     /// fold fits the tool's buffers.
-    pub fn large(random: &mut Random, items: usize) -> Plan {
-        let trip = (0..items).map(|_| (random.below(1 << 16), random.below(30)));
-        let trip = trip.collect();
-        let mut plan = Plan::of(random, Kind::Plain, trip);
+    pub fn large(random: &mut Random, items: usize, version: u64) -> Plan {
+        let trip = light_items(random, version, items);
+        let mut plan = Plan::of(random, Kind::Plain(version), trip);
         plan.change_before = rounds_of(items).saturating_sub(12);
         plan.openings = 0;
         plan.calmed()
@@ -70,16 +72,14 @@ impl Plan {
     /// list. A plain one changes mode as the one above, a twisted one never.
     pub fn large_in_blocks(random: &mut Random, items: usize, kind: Kind) -> Plan {
         let repeated = match kind {
-            Kind::Plain => {
-                (0..7 * LONGEST).map(|_| (random.below(1 << 16), random.below(10))).collect()
-            }
-            _ => field_items(random, LONGEST),
+            Kind::Plain(version) => light_items(random, version, 7 * longest(version)),
+            _ => field_items(random, longest(0)),
         };
         let trip = (0..items).map(|i| repeated[i % repeated.len()]).collect();
         let mut plan = Plan::of(random, kind, trip);
         let rounds = rounds_of(items);
         (plan.change_before, plan.openings) = match kind {
-            Kind::Plain => (rounds.saturating_sub(12), 0),
+            Kind::Plain(_) => (rounds.saturating_sub(12), 0),
             _ => (rounds + 2, 1),
         };
         let mut plan = plan.calmed();
@@ -95,7 +95,7 @@ impl Plan {
     pub fn of(random: &mut Random, kind: Kind, items: Vec<(u64, u64)>) -> Plan {
         let rounds = rounds_of(items.len());
         let twists = match kind {
-            Kind::Plain => vec![1; rounds],
+            Kind::Plain(_) => vec![1; rounds],
             Kind::Twisted => (0..rounds).map(|_| random.usable()).collect(),
             Kind::Rule(v) => rule_twists(rounds, v),
         };
@@ -121,7 +121,15 @@ impl Plan {
     }
 
     pub fn plain(&self) -> bool {
-        self.kind == Kind::Plain
+        self.version() != 0
+    }
+
+    /// 0 for a run that is told none.
+    pub fn version(&self) -> u64 {
+        match self.kind {
+            Kind::Plain(version) => version,
+            _ => 0,
+        }
     }
 
     /// A trip whose total is out of its limits is made small enough.
@@ -133,14 +141,31 @@ impl Plan {
     }
 }
 
-pub fn plain_items(random: &mut Random, count: usize) -> Vec<(u64, u64)> {
+pub fn plain_items(random: &mut Random, version: u64, count: usize) -> Vec<(u64, u64)> {
     let extreme = count > 16 && random.chance(400);
-    let reading = random.pick(&[i16::MIN, i16::MAX]);
+    let reading = random.pick(&[*readings(version).start(), *readings(version).end()]);
     let item = |random: &mut Random| match extreme && !random.chance(20) {
-        true => (reading as u16 as u64, 1_440),
-        false => (random.reading() as u16 as u64, random.weight() as u64),
+        true => (in_record(reading), usual_weight(version) as u64),
+        false => (in_record(random.reading(version)), random.weight(version) as u64),
     };
     (0..count).map(|_| item(random)).collect()
+}
+
+/// So light that thousands of them, or hundreds many times, stay within the total's limits.
+pub fn light_items(random: &mut Random, version: u64, count: usize) -> Vec<(u64, u64)> {
+    let most = if version == 2 { 1 } else { 9 };
+    let item = |random: &mut Random| (in_record(random.reading(version)), random.between(0, most));
+    (0..count).map(|_| item(random)).collect()
+}
+
+/// A reading as two's complement in 32 bits.
+pub fn in_record(reading: i32) -> u64 {
+    reading as u32 as u64
+}
+
+/// A record's reading and weight.
+pub fn from_record(&(reading, weight): &(u64, u64)) -> Item {
+    (reading as u32 as i32, weight as u16)
 }
 
 pub fn field_items(random: &mut Random, count: usize) -> Vec<(u64, u64)> {

@@ -3,9 +3,9 @@
 
 use super::blocks::{self, Taker};
 use super::noise;
-use super::plan::{field_items, plain_items, Kind, Plan};
+use super::plan::{field_items, from_record, in_record, plain_items, Kind, Plan};
 use super::script::Script;
-use crate::field::{is_reduced, mul};
+use crate::field::{from_signed, is_reduced, mul};
 use crate::replay::PLACES;
 use crate::state::{Aim, Mode, Next, Run};
 use crate::table::{change_level, fold_size};
@@ -38,7 +38,7 @@ pub fn go_on(script: &mut Script, plan: &mut Plan) -> Openings {
         }
         let run = script.tool.run.as_ref().unwrap();
         // A random start may have replaced the run.
-        let replaced = run.plain != plan.plain() || run.items != plan.items.len();
+        let replaced = run.version != plan.version() || run.items != plan.items.len();
         let openings_next = run.next == Next::Openings && run.pass.is_none();
         let all_given = run.rounds == 0 || openings.len() >= plan.openings;
         if replaced || openings_next && all_given {
@@ -61,7 +61,7 @@ fn start(script: &mut Script, plan: &Plan) {
         noise::refused_start(script);
     }
     match plan.kind {
-        Kind::Plain => script.call(10, items, 0),
+        Kind::Plain(version) => script.call(10, items, version),
         Kind::Twisted => {
             script.fill_scratch(&plan.twists);
             script.call(11, items, 0)
@@ -111,7 +111,7 @@ fn near_miss(script: &mut Script) {
     let random = &mut script.random;
     let (short, last) = (random.below(size as u64), size as u64 - random.below(2));
     let (vector, value, second) = (random.below(2), random.any(), random.any());
-    let weight = random.pick(&[1_440, 1_441, 65_535]);
+    let (reading, weight) = noise::near_item(random, run.version);
     let (lends, writes) = (random.chance(500), random.chance(300));
     if lends && size <= PLACES {
         let full = size as u64;
@@ -122,7 +122,7 @@ fn near_miss(script: &mut Script) {
         script.call3(4, vector, last, second);
     }
     match op {
-        15 => script.call(15, value % (1 << 16), weight),
+        15 => script.call(15, in_record(reading), weight),
         _ => script.call(op, value, second),
     };
 }
@@ -131,7 +131,7 @@ fn give_item(script: &mut Script, plan: &Plan, index: usize) {
     blocks::lend_for_change(script);
     let stray = script.random.chance(plan.strays);
     let (op, item) = match plan.plain() {
-        true if stray => (15, plain_items(&mut script.random, 1)[0]),
+        true if stray => (15, plain_items(&mut script.random, plan.version(), 1)[0]),
         false if stray => (16, field_items(&mut script.random, 1)[0]),
         plain => (if plain { 15 } else { 16 }, plan.items[index]),
     };
@@ -214,7 +214,7 @@ fn lend_fold_0(script: &mut Script, plan: &Plan) {
     for i in 0..size.min(PLACES) {
         let (a, g) = *plan.items.get(i).unwrap_or(&(0, 0));
         let a = match plan.plain() {
-            true => crate::field::from_signed(a as u16 as i16 as i64),
+            true => from_signed(from_record(&(a, g)).0 as i64),
             false => a,
         };
         let f = mul(twist_of(&twists, i), a);

@@ -1,6 +1,7 @@
 //! Records as they are written, with the reference's answer to each.
 
 use super::blocks::Counts;
+use super::reached::Reached;
 use crate::random::Random;
 use crate::replay::{Program, Record, Tool, PLACES};
 
@@ -12,6 +13,7 @@ pub struct Script {
     /// Where each list begins.
     pub lists: Vec<usize>,
     pub blocks: Counts,
+    pub reached: Reached,
     /// The slot that is filled next.
     slot: usize,
 }
@@ -25,6 +27,7 @@ impl Script {
             answers: Vec::new(),
             lists: Vec::new(),
             blocks: Counts::default(),
+            reached: Reached::default(),
             slot: 0,
         }
     }
@@ -36,6 +39,7 @@ impl Script {
     pub fn call3(&mut self, op: u32, a: u64, b: u64, c: u64) -> &str {
         let record = [op, a as u32, b as u32, c as u32];
         let answer = self.tool.step(record);
+        self.reached.note(&self.tool, record, &answer);
         self.records.push(record);
         self.answers.push(answer);
         self.answers.last().unwrap().trim_end()

@@ -1,9 +1,9 @@
 //! The two files of `trip`, whole and damaged.
 
-use super::file_list::damage;
-use super::plan::plain_items;
+use super::file_list::{damage, spoil_log};
+use super::plan::{from_record, light_items, plain_items};
 use crate::field::{within_limits, P};
-use crate::files::write_log;
+use crate::files::{write_log, Item};
 use crate::random::Random;
 use crate::vector::{plain_vectors, rounds_of};
 
@@ -23,17 +23,13 @@ pub fn trip_files(random: &mut Random) -> TripFiles {
         _ => random.pick(&[4_095, 4_096, 4_097, 5_000, 32_768, 32_769]),
     };
     let damaged = random.chance(450);
-    let mut trip: Vec<(i16, u16)> = match items > 100 {
+    let version = random.version();
+    let trip = match items > 100 {
         // Long trips would leave the total's limits with large products.
-        true => (0..items).map(|_| (random.reading(), random.below(20) as u16)).collect(),
-        false => {
-            let trip = plain_items(random, items as usize);
-            trip.iter().map(|&(reading, weight)| (reading as u16 as i16, weight as u16)).collect()
-        }
+        true => light_items(random, version, items as usize),
+        false => plain_items(random, version, items as usize),
     };
-    if damaged && random.chance(150) {
-        trip[random.below(items) as usize].1 = random.pick(&[1_441, 65_535]);
-    }
+    let mut trip: Vec<Item> = trip.iter().map(from_record).collect();
     let rounds = rounds_of(trip.len());
     let mut numbers: Vec<u32> = (0..=rounds).map(|_| random.usable() as u32).collect();
     let large = !within_limits(plain_vectors(&trip).2);
@@ -44,7 +40,10 @@ pub fn trip_files(random: &mut Random) -> TripFiles {
     if damaged && random.chance(30) {
         trip.clear();
     }
-    let mut log = write_log(&trip);
+    let mut log = write_log(version, &trip);
+    if damaged && random.chance(if version == 2 { 450 } else { 200 }) {
+        spoil_log(random, &mut log);
+    }
     let mut numbers: Vec<u8> = numbers.iter().flat_map(|number| number.to_le_bytes()).collect();
     if damaged && random.chance(400) {
         damage(random, &mut log);

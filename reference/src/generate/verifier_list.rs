@@ -3,7 +3,7 @@
 
 use super::blocks::{self, Taker};
 use super::noise;
-use super::plan::{Kind, Plan};
+use super::plan::{in_record, Kind, Plan};
 use super::prover_list::Openings;
 use super::script::Script;
 use crate::field::{from_signed, inverse, mul, P};
@@ -20,7 +20,7 @@ struct Given {
 
 pub fn drive(script: &mut Script, plan: &Plan, openings: &Openings) {
     let run: &Run = script.tool.run.as_ref().unwrap();
-    if run.plain != plan.plain() || run.items != plan.items.len() {
+    if run.version != plan.version() || run.items != plan.items.len() {
         return;
     }
     let complete = run.challenges.len() == run.rounds;
@@ -76,9 +76,9 @@ fn start(script: &mut Script, plan: &Plan, given: &Given) {
         noise::refused_start(script);
     }
     match plan.kind {
-        Kind::Plain => {
+        Kind::Plain(version) => {
             script.fill_scratch(&given.challenges);
-            script.call(30, items, 0);
+            script.call(30, items, version);
         }
         Kind::Twisted => {
             script.fill_scratch(&[&given.twists[..], &given.challenges[..]].concat());
@@ -97,7 +97,7 @@ fn step(script: &mut Script, plan: &Plan, given: &Given) -> bool {
         return true;
     };
     let (taken, passed) = (verifier.taken, verifier.passed);
-    if verifier.plain != plan.plain() || verifier.items != plan.items.len() {
+    if verifier.version != plan.version() || verifier.items != plan.items.len() {
         return true;
     }
     let closed = verifier.claim.is_some();
@@ -120,18 +120,25 @@ fn step(script: &mut Script, plan: &Plan, given: &Given) -> bool {
         blocks::give(script, plan, Taker::Verifier);
     } else if taken < plan.items.len() {
         let (a, b) = plan.items[taken];
-        if script.random.chance(15) {
+        if script.random.chance(if plan.plain() { 60 } else { 15 }) {
             let over = script.random.pick(&[P, P + 1, u32::MAX as u64]);
-            let weight = script.random.pick(&[1_441, 65_535]);
-            match script.random.below(4) {
-                0 => script.call(33, a % (1 << 16), b % 1_441),
-                1 => script.call(33, a % (1 << 16), weight),
-                2 => script.call(34, over, b),
+            let weight = script.random.weight_over() as u64;
+            let reading = in_record(script.random.reading_outside(plan.version()));
+            match script.random.below(6) {
+                0 => script.call(33, a, b % 1_441),
+                1 => script.call(33, a, weight),
+                2 => script.call(33, reading, b % 1_441),
+                3 => script.call(33, reading, weight),
+                4 => script.call(34, over, b),
                 _ => script.call(34, a, over),
             };
             return false;
         }
         script.call(if plan.plain() { 33 } else { 34 }, a, b);
+    } else if script.random.chance(60) {
+        // One item more than it wants.
+        let (reading, weight) = noise::near_item(&mut script.random, plan.version());
+        script.call(33, in_record(reading), weight);
     } else if given.has_file && script.random.chance(500) {
         proof_file(script);
     } else {

@@ -23,7 +23,7 @@ impl Tool {
         match op {
             52 => {
                 let log = files::read_log(file, files::MOST_ITEMS);
-                answered(log.map(|items| format!("log {}", items.len())))
+                answered(log.map(|log| format!("log {} {}", log.items.len(), log.version)))
             }
             53 => {
                 let item = files::log_item(file, index);

@@ -1,4 +1,4 @@
-use mir.Syntax.{w16}
+use mir.Syntax.{w32}
 use mir.Facts.{toZ-ofZ}
 use denote.Ref.{now}
 use mathlib.Core.List.{[]}
@@ -29,7 +29,7 @@ same-length-2 c = search needs
 returns : tie.Need-returns
 returns c =
     let s = c .before .before .before .before .before .before .before .before .before .before .before .before .args in
-    give-reading (modulusOf (s .run .start)) (s .run) (s .pass) (now (s .f)) (now (s .g)) [] _ (s .given) _ _ _ (c .before .before .before .before .before .before .before .before .given .given .1) (toZ-ofZ {w = w16} (record { sfits = c .before .before .before .before .before .before .before .known-told .given .0 .1 })) (c .before .before .before .before .item .ensures)
+    give-reading (modulusOf (s .run .start)) (s .run) (s .pass) (now (s .f)) (now (s .g)) [] _ (s .given) _ _ _ (c .before .before .before .before .before .before .before .before .given .given .1) (toZ-ofZ {w = w32} (record { sfits = c .before .before .before .before .before .before .before .known-told .given .0 .1 })) (c .before .before .before .before .item .ensures)
 
 same-length-3 : tie.Need-same-length-3
 same-length-3 c = search needs

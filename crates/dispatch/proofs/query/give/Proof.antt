@@ -1,6 +1,6 @@
 use lib.IntN.{ℤ}
 use mir.Val.{toZ, ofZ}
-use mir.Syntax.{w16}
+use mir.Syntax.{w32}
 use mir.Facts.{toZ-ofZ}
 use mathlib.Core.Path.{_≡_, sym, ap, _∙_}
 use Rattle.item.specs.declared.Given.the-variants.{Reading}
@@ -27,7 +27,7 @@ returns : tie.Need-returns
 returns c =
     let v = c .before .before .before .before .args .verifier in
     let z : ℤ = c .before .before .given .given .0 .0 in
-    let u : toZ w16 (ofZ w16 z) ≡ z = toZ-ofZ {w = w16} (record { sfits = c .before .known-told .given .0 .1 }) in
+    let u : toZ w32 (ofZ w32 z) ≡ z = toZ-ofZ {w = w32} (record { sfits = c .before .known-told .given .0 .1 }) in
     c .item .ensures ∙ ap (λ x. leaves v (give (modulusOf (v .start)) v x)) (ap (λ z. Reading z (c .before .before .given .given .0 .1 .0)) u ∙ sym (c .before .before .given .given .1))
 
 returns-2 : tie.Need-returns-2

@@ -1,4 +1,4 @@
-use mir.Syntax.{w16, w64}
+use mir.Syntax.{w32, w64}
 use mir.Val.{toZ, ofZ}
 use mir.Facts.{toZ-ofZ}
 use mathlib.Core.Path.{_≡_, sym, ap, _∙_}
@@ -17,7 +17,7 @@ image-requires c κs = search needs
 returns : tie.Need-returns
 returns c =
     let s = c .before .before in
-    let w : c .before .widen .result ≡ s .args .r = simp (toZ-ofZ {w = w16} (s .fits .r)) at (c .before .widen .ensures) in
+    let w : c .before .widen .result ≡ s .args .r = simp (toZ-ofZ {w = w32} (s .fits .r)) at (c .before .widen .ensures) in
     c .image .ensures ∙ ap (image (s .args .p)) (ap (λ z. toZ w64 (ofZ w64 z)) w ∙ toZ-ofZ (widened (s .fits .r)))
 
 pub from-reading-in-spec : {M : Type 1} → statement M

@@ -1,7 +1,7 @@
 use mathlib.Core.Path.{_≡_, ap, _∙_}
 use native.Mathlib.Omega.{arith}
 use lib.IntN.{pos, _*ℤ_}
-use mir.Syntax.{w16, w64}
+use mir.Syntax.{w32, w64}
 use mir.Val.{toZ, ofZ}
 use mir.Facts.{toZ-ofZ, toZ-pos}
 use Rattle.field.proofs.Signed.{widened, product-fits}
@@ -19,7 +19,7 @@ cast-result c = search needs
 factor : (c : tie.After-widen) → toZ w64 (ofZ w64 (c .widen .result)) ≡ c .before .args .reading
 factor c =
     let s = c .before in
-    let w : c .widen .result ≡ s .args .reading = simp (toZ-ofZ {w = w16} (s .fits .reading)) at (c .widen .ensures) in
+    let w : c .widen .result ≡ s .args .reading = simp (toZ-ofZ {w = w32} (s .fits .reading)) at (c .widen .ensures) in
     ap (λ z. toZ w64 (ofZ w64 z)) w ∙ toZ-ofZ (widened (s .fits .reading))
 
 mul-result : tie.Need-mul-result

@@ -1,6 +1,6 @@
 use mathlib.Core.Path.{_≡_, ap₂, _∙_}
 use denote.Ref.{now}
-use mir.Syntax.{w16}
+use mir.Syntax.{w32}
 use mir.Val.{toZ, ofZ}
 use mir.Facts.{toZ-ofZ}
 use Rattle.item.specs.declared.Given.the-variants.{Reading}
@@ -25,7 +25,7 @@ same-length-2 c = search needs
 returns : tie.Need-returns
 returns c =
     let s = c .before .before .before .before .before .before .before .before .before .before .args in
-    let u : toZ w16 (ofZ w16 (s .reading)) ≡ s .reading = toZ-ofZ {w = w16} (c .before .before .before .before .before .before .before .before .before .before .fits .reading) in
+    let u : toZ w32 (ofZ w32 (s .reading)) ≡ s .reading = toZ-ofZ {w = w32} (c .before .before .before .before .before .before .before .before .before .before .fits .reading) in
     c .before .before .before .before .give .ensures ∙ ap₂ (λ p z. leaves (s .self) (s .pass) (now (s .f)) (now (s .g)) (giveCall p (s .self) (s .pass) (Reading z (s .weight)) (now (s .f)) (now (s .g)))) (c .before .before .before .before .before .before .before .modulus-of .ensures) u
 
 pub item-spec : {M : Type 1} → statement M

@@ -7,7 +7,7 @@ use Rattle.refusal.specs.Outcome.{answered}
 use Rattle.field.specs.Total.{inLimits}
 use borrow.Author.Tests.{eqb-true}
 use mir.Val.{toZ, ofZ}
-use mir.Syntax.{w64}
+use mir.Syntax.{w32, w64}
 use lib.Dec.{eqb}
 use lib.ListN.{length}
 use lib.IntN.{ℤ}
@@ -84,6 +84,9 @@ get32-requires c κs = omega (arith, mark-of 80 10 (c .before .before .before .b
 signed32-requires : tie.Need-signed32-requires
 signed32-requires c κs = search needs
 
+widen-requires : tie.Need-widen-requires
+widen-requires c κs = search needs
+
 within-requires : tie.Need-within-requires
 within-requires c κs = search needs
 
@@ -99,9 +102,10 @@ enum-told-10 c = search needs
 returns-5 : tie.Need-returns-5
 unfolding readProof
 returns-5 c =
-    let t : toZ w64 (ofZ w64 (c .before .before .before .before .signed32 .result)) ≡ c .before .before .before .before .signed32 .result = search needs in
-    let e : c .before .before .before .before .signed32 .result ≡ proofTotal (c .before .before .before .before .before .before .before .before .before .before .before .before .before .before .before .before .before .before .before .before .before .args .file .now) = c .before .before .before .before .signed32 .ensures ∙ ap (signed 4) (c .before .before .before .before .before .get32 .ensures) in
-    simp (told (c .before .before .before .before .before .before .before .before .before .before .before .before .before .before .before .before .before .enum-told .given .1) (c .before .before .before .before .before .before .before .before .before .before .before .before .before .before .before .before .before .before .before .marked .ensures), told (c .before .before .before .before .before .before .before .before .before .before .before .before .before .before .enum-told3 .given .1) (c .before .before .before .before .before .before .before .before .before .before .before .before .before .before .before .before .versioned .ensures), told (c .before .before .before .before .before .before .before .before .before .before .enum-told5 .given .1) (c .before .before .before .before .before .before .before .before .before .before .before .before .pass-if .ensures), told (c .before .before .before .before .before .before .enum-told7 .given .1) (c .before .before .before .before .before .before .before .before .pass-if2 .ensures ∙ ap (eqb (length (c .before .before .before .before .before .before .before .before .before .before .before .before .before .before .before .before .before .before .before .before .before .args .file .now))) (c .before .before .before .before .before .before .before .before .before .proof-size .ensures)), told (c .enum-told10 .given .1) (c .before .before .pass-if3 .ensures ∙ c .before .before .before .within .ensures ∙ ap (inLimits (c .before .before .before .before .before .before .before .before .before .before .before .before .before .before .before .before .before .before .before .before .before .args .p)) (t ∙ e)))
+    let t : toZ w64 (ofZ w64 (c .before .before .before .before .widen .result)) ≡ c .before .before .before .before .widen .result = search needs in
+    let u : toZ w32 (ofZ w32 (c .before .before .before .before .before .signed32 .result)) ≡ c .before .before .before .before .before .signed32 .result = search needs in
+    let e : c .before .before .before .before .widen .result ≡ proofTotal (c .before .before .before .before .before .before .before .before .before .before .before .before .before .before .before .before .before .before .before .before .before .before .args .file .now) = c .before .before .before .before .widen .ensures ∙ u ∙ c .before .before .before .before .before .signed32 .ensures ∙ ap (signed 4) (c .before .before .before .before .before .before .get32 .ensures) in
+    simp (told (c .before .before .before .before .before .before .before .before .before .before .before .before .before .before .before .before .before .before .enum-told .given .1) (c .before .before .before .before .before .before .before .before .before .before .before .before .before .before .before .before .before .before .before .before .marked .ensures), told (c .before .before .before .before .before .before .before .before .before .before .before .before .before .before .before .enum-told3 .given .1) (c .before .before .before .before .before .before .before .before .before .before .before .before .before .before .before .before .before .versioned .ensures), told (c .before .before .before .before .before .before .before .before .before .before .before .enum-told5 .given .1) (c .before .before .before .before .before .before .before .before .before .before .before .before .before .pass-if .ensures), told (c .before .before .before .before .before .before .before .enum-told7 .given .1) (c .before .before .before .before .before .before .before .before .before .pass-if2 .ensures ∙ ap (eqb (length (c .before .before .before .before .before .before .before .before .before .before .before .before .before .before .before .before .before .before .before .before .before .before .args .file .now))) (c .before .before .before .before .before .before .before .before .before .before .proof-size .ensures)), told (c .enum-told10 .given .1) (c .before .before .pass-if3 .ensures ∙ c .before .before .before .within .ensures ∙ ap (inLimits (c .before .before .before .before .before .before .before .before .before .before .before .before .before .before .before .before .before .before .before .before .before .before .args .p)) (t ∙ e)))
 
 cast-file-reduced : tie.Need-cast-file-reduced
 cast-file-reduced c = search needs
@@ -114,7 +118,7 @@ add-file-reduced c = search needs
 
 file-reduced-requires : tie.Need-file-reduced-requires
 file-reduced-requires c κs =
-    let e : length (c .before .before .before .before .before .before .before .before .before .before .before .before .before .before .before .before .before .before .before .before .before .args .file .now) ≡ proofSize (proofRounds (c .before .before .before .before .before .before .before .before .before .before .before .before .before .before .before .before .before .before .before .before .before .args .file .now)) = eqb-true (length (c .before .before .before .before .before .before .before .before .before .before .before .before .before .before .before .before .before .before .before .before .before .args .file .now)) (proofSize (proofRounds (c .before .before .before .before .before .before .before .before .before .before .before .before .before .before .before .before .before .before .before .before .before .args .file .now))) (told (c .before .before .before .before .before .before .enum-told7 .given .1) (c .before .before .before .before .before .before .before .before .pass-if2 .ensures ∙ ap (eqb (length (c .before .before .before .before .before .before .before .before .before .before .before .before .before .before .before .before .before .before .before .before .before .args .file .now))) (c .before .before .before .before .before .before .before .before .before .proof-size .ensures))) in
+    let e : length (c .before .before .before .before .before .before .before .before .before .before .before .before .before .before .before .before .before .before .before .before .before .before .args .file .now) ≡ proofSize (proofRounds (c .before .before .before .before .before .before .before .before .before .before .before .before .before .before .before .before .before .before .before .before .before .before .args .file .now)) = eqb-true (length (c .before .before .before .before .before .before .before .before .before .before .before .before .before .before .before .before .before .before .before .before .before .before .args .file .now)) (proofSize (proofRounds (c .before .before .before .before .before .before .before .before .before .before .before .before .before .before .before .before .before .before .before .before .before .before .args .file .now))) (told (c .before .before .before .before .before .before .before .enum-told7 .given .1) (c .before .before .before .before .before .before .before .before .before .pass-if2 .ensures ∙ ap (eqb (length (c .before .before .before .before .before .before .before .before .before .before .before .before .before .before .before .before .before .before .before .before .before .before .args .file .now))) (c .before .before .before .before .before .before .before .before .before .before .proof-size .ensures))) in
     omega (arith, e)
 
 enum-told-11 : tie.Need-enum-told-11
@@ -126,17 +130,19 @@ enum-told-12 c = search needs
 returns-6 : tie.Need-returns-6
 unfolding readProof
 returns-6 c =
-    let t : toZ w64 (ofZ w64 (c .before .before .before .before .before .before .before .signed32 .result)) ≡ c .before .before .before .before .before .before .before .signed32 .result = search needs in
-    let e : c .before .before .before .before .before .before .before .signed32 .result ≡ proofTotal (c .before .before .before .before .before .before .before .before .before .before .before .before .before .before .before .before .before .before .before .before .before .before .before .before .args .file .now) = c .before .before .before .before .before .before .before .signed32 .ensures ∙ ap (signed 4) (c .before .before .before .before .before .before .before .before .get32 .ensures) in
-    simp (told (c .before .before .before .before .before .before .before .before .before .before .before .before .before .before .before .before .before .before .before .before .enum-told .given .1) (c .before .before .before .before .before .before .before .before .before .before .before .before .before .before .before .before .before .before .before .before .before .before .marked .ensures), told (c .before .before .before .before .before .before .before .before .before .before .before .before .before .before .before .before .before .enum-told3 .given .1) (c .before .before .before .before .before .before .before .before .before .before .before .before .before .before .before .before .before .before .before .versioned .ensures), told (c .before .before .before .before .before .before .before .before .before .before .before .before .before .enum-told5 .given .1) (c .before .before .before .before .before .before .before .before .before .before .before .before .before .before .before .pass-if .ensures), told (c .before .before .before .before .before .before .before .before .before .enum-told7 .given .1) (c .before .before .before .before .before .before .before .before .before .before .before .pass-if2 .ensures ∙ ap (eqb (length (c .before .before .before .before .before .before .before .before .before .before .before .before .before .before .before .before .before .before .before .before .before .before .before .before .args .file .now))) (c .before .before .before .before .before .before .before .before .before .before .before .before .proof-size .ensures)), told (c .before .before .before .enum-told9 .given .1) (c .before .before .before .before .before .pass-if3 .ensures ∙ c .before .before .before .before .before .before .within .ensures ∙ ap (inLimits (c .before .before .before .before .before .before .before .before .before .before .before .before .before .before .before .before .before .before .before .before .before .before .before .before .args .p)) (t ∙ e)), told (c .enum-told12 .given .1) (c .before .before .file-reduced .ensures))
+    let t : toZ w64 (ofZ w64 (c .before .before .before .before .before .before .before .widen .result)) ≡ c .before .before .before .before .before .before .before .widen .result = search needs in
+    let u : toZ w32 (ofZ w32 (c .before .before .before .before .before .before .before .before .signed32 .result)) ≡ c .before .before .before .before .before .before .before .before .signed32 .result = search needs in
+    let e : c .before .before .before .before .before .before .before .widen .result ≡ proofTotal (c .before .before .before .before .before .before .before .before .before .before .before .before .before .before .before .before .before .before .before .before .before .before .before .before .before .args .file .now) = c .before .before .before .before .before .before .before .widen .ensures ∙ u ∙ c .before .before .before .before .before .before .before .before .signed32 .ensures ∙ ap (signed 4) (c .before .before .before .before .before .before .before .before .before .get32 .ensures) in
+    simp (told (c .before .before .before .before .before .before .before .before .before .before .before .before .before .before .before .before .before .before .before .before .before .enum-told .given .1) (c .before .before .before .before .before .before .before .before .before .before .before .before .before .before .before .before .before .before .before .before .before .before .before .marked .ensures), told (c .before .before .before .before .before .before .before .before .before .before .before .before .before .before .before .before .before .before .enum-told3 .given .1) (c .before .before .before .before .before .before .before .before .before .before .before .before .before .before .before .before .before .before .before .before .versioned .ensures), told (c .before .before .before .before .before .before .before .before .before .before .before .before .before .before .enum-told5 .given .1) (c .before .before .before .before .before .before .before .before .before .before .before .before .before .before .before .before .pass-if .ensures), told (c .before .before .before .before .before .before .before .before .before .before .enum-told7 .given .1) (c .before .before .before .before .before .before .before .before .before .before .before .before .pass-if2 .ensures ∙ ap (eqb (length (c .before .before .before .before .before .before .before .before .before .before .before .before .before .before .before .before .before .before .before .before .before .before .before .before .before .args .file .now))) (c .before .before .before .before .before .before .before .before .before .before .before .before .before .proof-size .ensures)), told (c .before .before .before .enum-told9 .given .1) (c .before .before .before .before .before .pass-if3 .ensures ∙ c .before .before .before .before .before .before .within .ensures ∙ ap (inLimits (c .before .before .before .before .before .before .before .before .before .before .before .before .before .before .before .before .before .before .before .before .before .before .before .before .before .args .p)) (t ∙ e)), told (c .enum-told12 .given .1) (c .before .before .file-reduced .ensures))
 
 returns-7 : tie.Need-returns-7
 unfolding readProof
 returns-7 c =
-    let t : toZ w64 (ofZ w64 (c .before .before .before .before .before .before .before .signed32 .result)) ≡ c .before .before .before .before .before .before .before .signed32 .result = search needs in
-    let e : c .before .before .before .before .before .before .before .signed32 .result ≡ proofTotal (c .before .before .before .before .before .before .before .before .before .before .before .before .before .before .before .before .before .before .before .before .before .before .before .before .args .file .now) = c .before .before .before .before .before .before .before .signed32 .ensures ∙ ap (signed 4) (c .before .before .before .before .before .before .before .before .get32 .ensures) in
-    simp (told (c .before .before .before .before .before .before .before .before .before .before .before .before .before .before .before .before .before .before .before .before .enum-told .given .1) (c .before .before .before .before .before .before .before .before .before .before .before .before .before .before .before .before .before .before .before .before .before .before .marked .ensures), told (c .before .before .before .before .before .before .before .before .before .before .before .before .before .before .before .before .before .enum-told3 .given .1) (c .before .before .before .before .before .before .before .before .before .before .before .before .before .before .before .before .before .before .before .versioned .ensures), told (c .before .before .before .before .before .before .before .before .before .before .before .before .before .enum-told5 .given .1) (c .before .before .before .before .before .before .before .before .before .before .before .before .before .before .before .pass-if .ensures), told (c .before .before .before .before .before .before .before .before .before .enum-told7 .given .1) (c .before .before .before .before .before .before .before .before .before .before .before .pass-if2 .ensures ∙ ap (eqb (length (c .before .before .before .before .before .before .before .before .before .before .before .before .before .before .before .before .before .before .before .before .before .before .before .before .args .file .now))) (c .before .before .before .before .before .before .before .before .before .before .before .before .proof-size .ensures)), told (c .before .before .before .enum-told9 .given .1) (c .before .before .before .before .before .pass-if3 .ensures ∙ c .before .before .before .before .before .before .within .ensures ∙ ap (inLimits (c .before .before .before .before .before .before .before .before .before .before .before .before .before .before .before .before .before .before .before .before .before .before .before .before .args .p)) (t ∙ e)), told (c .enum-told11 .given .1) (c .before .before .file-reduced .ensures))
-    (ap (λ (z : ℤ). answered (record { rounds = proofRounds (c .before .before .before .before .before .before .before .before .before .before .before .before .before .before .before .before .before .before .before .before .before .before .before .before .args .file .now); total = z })) (t ∙ e))
+    let t : toZ w64 (ofZ w64 (c .before .before .before .before .before .before .before .widen .result)) ≡ c .before .before .before .before .before .before .before .widen .result = search needs in
+    let u : toZ w32 (ofZ w32 (c .before .before .before .before .before .before .before .before .signed32 .result)) ≡ c .before .before .before .before .before .before .before .before .signed32 .result = search needs in
+    let e : c .before .before .before .before .before .before .before .widen .result ≡ proofTotal (c .before .before .before .before .before .before .before .before .before .before .before .before .before .before .before .before .before .before .before .before .before .before .before .before .before .args .file .now) = c .before .before .before .before .before .before .before .widen .ensures ∙ u ∙ c .before .before .before .before .before .before .before .before .signed32 .ensures ∙ ap (signed 4) (c .before .before .before .before .before .before .before .before .before .get32 .ensures) in
+    simp (told (c .before .before .before .before .before .before .before .before .before .before .before .before .before .before .before .before .before .before .before .before .before .enum-told .given .1) (c .before .before .before .before .before .before .before .before .before .before .before .before .before .before .before .before .before .before .before .before .before .before .before .marked .ensures), told (c .before .before .before .before .before .before .before .before .before .before .before .before .before .before .before .before .before .before .enum-told3 .given .1) (c .before .before .before .before .before .before .before .before .before .before .before .before .before .before .before .before .before .before .before .before .versioned .ensures), told (c .before .before .before .before .before .before .before .before .before .before .before .before .before .before .enum-told5 .given .1) (c .before .before .before .before .before .before .before .before .before .before .before .before .before .before .before .before .pass-if .ensures), told (c .before .before .before .before .before .before .before .before .before .before .enum-told7 .given .1) (c .before .before .before .before .before .before .before .before .before .before .before .before .pass-if2 .ensures ∙ ap (eqb (length (c .before .before .before .before .before .before .before .before .before .before .before .before .before .before .before .before .before .before .before .before .before .before .before .before .before .args .file .now))) (c .before .before .before .before .before .before .before .before .before .before .before .before .before .proof-size .ensures)), told (c .before .before .before .enum-told9 .given .1) (c .before .before .before .before .before .pass-if3 .ensures ∙ c .before .before .before .before .before .before .within .ensures ∙ ap (inLimits (c .before .before .before .before .before .before .before .before .before .before .before .before .before .before .before .before .before .before .before .before .before .before .before .before .before .args .p)) (t ∙ e)), told (c .enum-told11 .given .1) (c .before .before .file-reduced .ensures))
+    (ap (λ (z : ℤ). answered (record { rounds = proofRounds (c .before .before .before .before .before .before .before .before .before .before .before .before .before .before .before .before .before .before .before .before .before .before .before .before .before .args .file .now); total = z })) (t ∙ e))
 
 pub read-proof-in-spec : {M : Type 1} → statement M
 read-proof-in-spec =
@@ -163,6 +169,7 @@ read-proof-in-spec =
     returns-4
     get32-requires
     signed32-requires
+    widen-requires
     within-requires
     pass-if-requires-3
     enum-told-9
