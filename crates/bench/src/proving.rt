@@ -10,7 +10,7 @@ pub(crate) fn prove(items: u32, block: &[u8], full: bool, f: &mut [u32], g: &mut
 }
 
 fn begin(items: u32, block: &[u8], full: bool, f: &mut [u32], g: &mut [u32]) -> Step {
-    let total = pass(Run::start_plain(items), block, f, g);
+    let total = pass(Run::start_plain(items, 1), block, f, g);
     if full {
         return change(total, block, f, g);
     }
@@ -87,11 +87,11 @@ fn give(opened: Step, block: &[u8], f: &mut [u32], g: &mut [u32]) -> Step {
 
 // Fold 0, lent again for the openings.
 fn lend(run: Run, block: &[u8], f: &mut [u32], g: &mut [u32]) {
-    let items = wire::block::items_in(block);
+    let items = wire::block::items_in(run.start.version, block);
     let n = within(items, f);
     let m = within(items, g);
     let p = item::modulus_of(run.start);
-    wire::block::pairs(p, block, 0, &mut f[..n], &mut g[..m]);
+    wire::block::pairs(p, run.start.version, block, 0, &mut f[..n], &mut g[..m]);
     pad(
         items,
         vector::sizes::size_of(run.start.rounds, 0) as usize,

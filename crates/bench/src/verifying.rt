@@ -8,7 +8,7 @@ use verifier::Verifier;
 pub(crate) fn end_values(items: u32, block: &[u8]) -> u64 {
     let challenges = challenges();
     let n = within(vector::sizes::rounds_of(items) as usize, &challenges);
-    let v = Verifier::start_plain(items, &challenges[..n]).verifier;
+    let v = Verifier::start_plain(items, 1, &challenges[..n]).verifier;
     let taken = v.items(block).verifier;
     (taken.fsum as u64) + (taken.gsum as u64)
 }

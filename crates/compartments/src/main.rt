@@ -49,7 +49,7 @@ fn changing(f: &mut [u32; 4], g: &mut [u32; 4]) -> [u32; 6] {
 
 fn check(values: [u32; 6], own: [u32; 3]) -> Verdict {
     let challenges = [logs::FIRST, logs::SECOND];
-    let v = Verifier::start_plain(4, &challenges).verifier;
+    let v = Verifier::start_plain(4, 1, &challenges).verifier;
     v.check_batch(logs::LOGS, logs::Z, logs::POINT, &values, &own)
 }
 

@@ -89,9 +89,9 @@ left (c is stated) = computed c
 abbrev pub right : Row → List ℕ
 right (c is stated) = stated
 
--- the trip of a plain run with these items
+-- the trip of a plain run of version 1 with these items
 abbrev pub tripOf : List Given → Trip
-tripOf items = record { start = plainStart (length items); items = items }
+tripOf items = record { start = plainStart (length items) 1; items = items }
 
 -- "Readings -180, -175, 40, weights 10, 20, 5; challenges 2, 3; point 2."
 abbrev pub trip : Trip

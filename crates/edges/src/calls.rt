@@ -11,7 +11,7 @@ pub(crate) fn opened_at(s: Step, point: u32) -> Step {
     s.run.open_at(pass, point)
 }
 
-pub(crate) fn given(s: Step, reading: i16, weight: u16) -> Step {
+pub(crate) fn given(s: Step, reading: i32, weight: u16) -> Step {
     let pass = s.pass;
     let mut f = [0u32; 1];
     let mut g = [0u32; 1];
@@ -19,7 +19,7 @@ pub(crate) fn given(s: Step, reading: i16, weight: u16) -> Step {
 }
 
 // The same item again and again.
-pub(crate) fn repeated(first: Step, reading: i16, weight: u16, count: u32) -> Step {
+pub(crate) fn repeated(first: Step, reading: i32, weight: u16, count: u32) -> Step {
     let mut s = first;
     let mut left = count;
     while left > 0 {

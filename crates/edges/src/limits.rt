@@ -30,12 +30,12 @@ pub(crate) fn lines() {
 fn weight(w: u16) {
     text(b"- weight");
     number(w as u32);
-    answered(given(opened(Run::start_plain(1)), 1, w));
+    answered(given(opened(Run::start_plain(1, 1)), 1, w));
 }
 
 // 32,767 times 32,769 minutes is the limit; one item more goes past it.
-fn computed(reading: i16, last: i16) {
-    let s = opened(Run::start_plain(24));
+fn computed(reading: i32, last: i32) {
+    let s = opened(Run::start_plain(24, 1));
     let s = given(s, last, 1);
     let s = given(s, reading, 1089);
     let s = repeated(s, reading, 1440, 22);
@@ -61,7 +61,7 @@ fn answered(s: Step) {
 
 fn claimed(total: i64) {
     let challenges = [0u32; 1];
-    let v = Verifier::start_plain(1, &challenges[..0]).verifier;
+    let v = Verifier::start_plain(1, 1, &challenges[..0]).verifier;
     let v = v.item(0, 0).verifier;
     text(b"- total-claimed");
     signed(total);

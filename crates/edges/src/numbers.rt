@@ -22,7 +22,7 @@ pub(crate) fn lines() {
     rounds(b"- rounds", 32768);
 }
 
-fn reading(r: i16) {
+fn reading(r: i32) {
     text(b"* reading");
     signed(field::integer::widen(r));
     number(Field::from_reading(r).to_u32());
@@ -40,13 +40,13 @@ fn half(x: Field) {
 fn rounds(label: &[u8], items: u32) {
     text(label);
     number(items);
-    number(Run::start_plain(items).run.start.rounds);
+    number(Run::start_plain(items, 1).run.start.rounds);
     text(b"\n");
 }
 
 // A run of one item: after its total the next pass answers the ends, and it has taken as many challenges as it gave messages.
 fn messages_of_one() {
-    let s = passed(passed(Run::start_plain(1)));
+    let s = passed(passed(Run::start_plain(1, 1)));
     text(b"* messages");
     number(s.run.start.items);
     let answer = s.answer;

@@ -20,7 +20,7 @@ const SECOND: u32 = 3;
 const POINT: u32 = 2;
 
 pub(crate) fn lines() {
-    let total = passed(opened(Run::start_plain(3)));
+    let total = passed(opened(Run::start_plain(3, 1)));
     let first = passed(opened(total));
     message(0, first);
     let second = passed(opened(challenged(first, FIRST)));
@@ -72,14 +72,14 @@ fn claim(round: u32, v: Verifier) {
 // A verifier that has the items, first to last, and the total.
 fn closed_with(total: i64) -> Verifier {
     let challenges = [FIRST, SECOND];
-    let v = Verifier::start_plain(3, &challenges).verifier;
+    let v = Verifier::start_plain(3, 1, &challenges).verifier;
     let v = taken(v, -180, 10);
     let v = taken(v, -175, 20);
     let v = taken(v, 40, 5);
     v.close(total).verifier
 }
 
-fn taken(v: Verifier, reading: i16, weight: u16) -> Verifier {
+fn taken(v: Verifier, reading: i32, weight: u16) -> Verifier {
     v.item(reading, weight).verifier
 }
 

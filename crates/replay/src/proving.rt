@@ -55,7 +55,7 @@ fn start(p: Prover, l: Lists, s: Slots, r: Record) -> Prover {
 fn start_of(r: Record, s: Slots, values: &[u32]) -> Step {
     let op = r.op;
     match op {
-        10 => Run::start_plain(r.a),
+        10 => Run::start_plain(r.a, r.b),
         11 => Run::start_twisted(r.a, values),
         12 => Run::start_rule(r.a, r.b),
         _ => batches::start(s, r, values),

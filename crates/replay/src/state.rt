@@ -40,7 +40,7 @@ pub(crate) fn none() -> Held {
 
 // A refused start hands back zeros.
 pub(crate) fn no_prover() -> Prover {
-    let step = Run::start_plain(0);
+    let step = Run::start_plain(0, 1);
     let run = step.run;
     let pass = step.pass;
     Prover {
@@ -53,7 +53,7 @@ pub(crate) fn no_prover() -> Prover {
 
 pub(crate) fn no_judge() -> Judge {
     let none = [0u32; 1];
-    let verifier = Verifier::start_plain(0, &none).verifier;
+    let verifier = Verifier::start_plain(0, 1, &none).verifier;
     Judge {
         on: false,
         verifier,

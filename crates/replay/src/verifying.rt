@@ -53,7 +53,7 @@ fn has_twists(r: Record, values: &[u32]) -> bool {
 fn start_of(r: Record, values: &[u32]) -> Step {
     let op = r.op;
     match op {
-        30 => Verifier::start_plain(r.a, values),
+        30 => Verifier::start_plain(r.a, r.b, values),
         31 => {
             let n = r.b as usize;
             Verifier::start_twisted(r.a, first(n, values), rest(n, values))

@@ -68,7 +68,7 @@ fn read(op: u32, a: u32, file: &[u8]) {
 
 fn log(file: &[u8]) {
     match wire::log::read_log(file) {
-        LogRead::Log(items) => print::one(b"log", items),
+        LogRead::Log(items, version) => print::two(b"log", items, version),
         LogRead::Refused(k) => print::refused(k),
         LogRead::RefusedAt(k, i) => print::refused_at(k, i),
     }
@@ -81,7 +81,7 @@ fn log_item(file: &[u8], i: u32) {
     }
 }
 
-fn item(reading: i16, weight: u16) {
+fn item(reading: i32, weight: u16) {
     print::text(b"item");
     print::signed(field::integer::widen(reading));
     print::number(weight as u64);

@@ -5,13 +5,15 @@ use mathlib.Core.Bool.{Bool, true, _&&_}
 use lib.ListN.{length}
 use lib.Dec.{leb, ltb, eqb}
 use Rattle.refusal.specs.Number as number
-use Rattle.refusal.specs.Outcome.{Outcome, answered, refused, refusedAt, require, requireAll}
+use Rattle.refusal.specs.Outcome.{Outcome, answered, refused, refusedAt, require}
 use Rattle.field.specs.Modulus.{modulus}
 use Rattle.vector.specs.Rounds.{roundsOf}
 use Rattle.vector.specs.Slice.{every, isNonzero}
 use Rattle.wire.specs.Number.{numAt}
-use Rattle.wire.specs.Header.{requireHeader}
-use Rattle.wire.specs.Log.{logCount, itemStart, requireItem}
+use Rattle.item.specs.Version.{versionFits}
+use Rattle.wire.specs.Header.{marked, versionOf}
+use Rattle.wire.specs.Layout.{requireItems}
+use Rattle.wire.specs.Log.{Head, headOf, logCount, itemStart}
 use Rattle.trip.specs.declared.input.Input.{Input}
 use Rattle.trip.specs.declared.input.Input.the-variants.{Items, Refused}
 
@@ -20,17 +22,18 @@ abbrev pub limit : ℕ
 limit = 4096
 
 -- the log as the program takes it: "over 4,096 items is 3", in the place of the format's own limit
-unfoldable pub readLimited : List ℕ → Outcome ℕ
+unfoldable pub readLimited : List ℕ → Outcome Head
 readLimited file =
-    requireHeader 76 7 file
+    require (marked 76 7 file) number.header
+    (require (versionFits (versionOf file)) number.version
     (require (leb 1 (logCount file) && leb (logCount file) limit) number.count
-    (require (eqb (length file) (itemStart (logCount file))) number.size
-    (requireAll (requireItem file) 0 (logCount file)
-    (answered (logCount file)))))
+    (require (eqb (length file) (itemStart file (logCount file))) number.size
+    (requireItems (versionOf file) file 7 (logCount file)
+    (answered (headOf file))))))
 
 -- 1 and 2 are passed
-abbrev pub headedIn : Outcome ℕ → Bool
-headedIn (answered items) = true
+abbrev pub headedIn : Outcome Head → Bool
+headedIn (answered head) = true
 headedIn (refused k) = ltb number.version k
 headedIn (refusedAt k i) = true
 
@@ -39,18 +42,21 @@ abbrev pub numberAt : List ℕ → ℕ → ℕ
 numberAt file k = numAt 4 file (4 * k)
 
 -- "trip.rvc of another length is 4, tested after the log, then its numbers (6)"
-unfoldable pub readNumbers : ℕ → List ℕ → Outcome ℕ
-readNumbers items file =
-    require (eqb (length file) (4 * (roundsOf items + 1))) number.size
-    (require (every (roundsOf items + 1) (λ k. isNonzero modulus (numberAt file k))) number.argument
-    (answered items))
+unfoldable pub readNumbers : Head → List ℕ → Outcome Head
+readNumbers head file =
+    require (eqb (length file) (4 * (roundsOf (head .count) + 1))) number.size
+    (require (every (roundsOf (head .count) + 1) (λ k. isNonzero modulus (numberAt file k))) number.argument
+    (answered head))
 
 -- "A refused input prints only `refused` and the number"
-abbrev pub readTrip : Outcome ℕ → List ℕ → Outcome ℕ
-readTrip (answered items) numbers = readNumbers items numbers
+abbrev pub readTrip : Outcome Head → List ℕ → Outcome Head
+readTrip (answered head) numbers = readNumbers head numbers
 readTrip (refused k) numbers = refused k
 readTrip (refusedAt k i) numbers = refused k
 
-abbrev pub inputOf : Input → Outcome ℕ
-inputOf (Items items) = answered items
+abbrev pub headWith : ℕ → ℕ → Head
+headWith items version = record { count = items; version = version }
+
+abbrev pub inputOf : Input → Outcome Head
+inputOf (Items items version) = answered (headWith items version)
 inputOf (Refused k) = refused k

@@ -9,7 +9,7 @@ ghost use Rattle.field.specs.Modulus.{modulus};
 ghost use Rattle.vector.specs.Slice.{every, isNonzero};
 ghost use Rattle.wire.specs.Number.{wordAt};
 ghost use Rattle.wire.specs.Log.{logCount, logOf};
-ghost use Rattle.trip.specs.Input.{limit, headedIn, readLimited, readNumbers, readTrip, inputOf, numberAt};
+ghost use Rattle.trip.specs.Input.{limit, headedIn, headWith, readLimited, readNumbers, readTrip, inputOf, numberAt};
 use field::Checked;
 use field::Field;
 use wire::log::LogRead;
@@ -19,8 +19,8 @@ use wire::words::word_at;
 const LIMIT: u32 = 4096;
 
 pub enum Input {
-    // Good files, with L.
-    Items(u32),
+    // Good files, with L and the version of the readings.
+    Items(u32, u32),
     Refused(u8),
 }
 
@@ -41,7 +41,7 @@ pub(crate) fn check(log: &[u8], numbers: &[u8]) -> Input
     ensures { λ r. ⌜ inputOf r ≡ readTrip (readLimited (now (log .entry))) (now (numbers .entry)) ⌝ }
 {
     match read_log(log) {
-        LogRead::Log(items) => check_numbers(items, numbers),
+        LogRead::Log(items, version) => check_numbers(items, version, numbers),
         LogRead::Refused(number) => Input::Refused(number),
         LogRead::RefusedAt(number, _) => Input::Refused(number),
     }
@@ -66,7 +66,7 @@ fn headed(answer: LogRead) -> bool
     ensures { λ r. ⌜ r ≡ headedIn (logOf answer) ⌝ }
 {
     match answer {
-        LogRead::Log(_) => true,
+        LogRead::Log(_, _) => true,
         LogRead::Refused(number) => number > refusal::VERSION,
         LogRead::RefusedAt(_, _) => true,
     }
@@ -82,15 +82,15 @@ fn over_limit(log: &[u8]) -> bool
 }
 
 // n challenges and a point.
-fn check_numbers(items: u32, numbers: &[u8]) -> Input
-    ensures { λ r. ⌜ inputOf r ≡ readNumbers items (now (numbers .entry)) ⌝ }
+fn check_numbers(items: u32, version: u32, numbers: &[u8]) -> Input
+    ensures { λ r. ⌜ inputOf r ≡ readNumbers (headWith items version) (now (numbers .entry)) ⌝ }
 {
     let count = vector::sizes::rounds_of(items) as usize + 1;
     if numbers.len() != 4 * count {
         return Input::Refused(refusal::SIZE);
     }
     if all_nonzero(numbers, count) {
-        return Input::Items(items);
+        return Input::Items(items, version);
     }
     Input::Refused(refusal::ARGUMENT)
 }

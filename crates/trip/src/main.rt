@@ -8,6 +8,7 @@ mod verifying;
 use arguments::Plan;
 use input::Input;
 use prover::Answer;
+use prover::Run;
 use prover::Step;
 use verifier::Verdict;
 
@@ -20,7 +21,7 @@ fn main() {
 
 // Each buffer is longer than the longest good file, so that no file is cut to a good one.
 fn trip(change: u64) {
-    let mut log = [0u8; 16392];
+    let mut log = [0u8; 24584];
     let log_size = input::read_file(b"trip.rvl", &mut log);
     let mut numbers = [0u8; 64];
     let numbers_size = input::read_file(b"trip.rvc", &mut numbers);
@@ -29,16 +30,23 @@ fn trip(change: u64) {
 
 fn judge(log: &[u8], numbers: &[u8], change: u64) {
     match input::check(log, numbers) {
-        Input::Items(items) => prove(log, numbers, items, change),
+        Input::Items(items, version) => prove(log, numbers, items, version, change),
         Input::Refused(number) => output::refused(number),
     }
 }
 
 // The last call of a run is answered only where all before it were; nothing is printed before.
-fn prove(log: &[u8], numbers: &[u8], items: u32, change: u64) {
+fn prove(log: &[u8], numbers: &[u8], items: u32, version: u32, change: u64) {
     let mut f = [0u32; 4096];
     let mut g = [0u32; 4096];
-    let step = proving::prove(items, log, numbers, change, &mut f, &mut g);
+    let step = proving::prove(
+        Run::start_plain(items, version),
+        log,
+        numbers,
+        change,
+        &mut f,
+        &mut g,
+    );
     let answer = step.answer;
     match answer {
         Answer::Refused(number) => output::refused(number),

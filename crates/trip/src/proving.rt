@@ -21,14 +21,14 @@ use wire::log::ItemRead;
 
 // Answers as the last call of the run does: the opening, or the ends where n is 0; or as the close of a total that is refused.
 pub(crate) fn prove(
-    items: u32,
+    started: Step,
     log: &[u8],
     numbers: &[u8],
     change: u64,
     f: &mut [u32],
     g: &mut [u32],
 ) -> Step {
-    let first = pass(Run::start_plain(items), log, f, g);
+    let first = pass(started, log, f, g);
     let answer = first.answer;
     let Answer::Total(_) = answer else {
         return first;
@@ -207,7 +207,7 @@ fn item_at(start: Start, log: &[u8], i: u32) -> Item
     }
 }
 
-fn pair(start: Start, i: u32, reading: i16, weight: u16) -> Item
+fn pair(start: Start, i: u32, reading: i32, weight: u16) -> Item
     ensures { λ r. ⌜ r ≡ orZero (partsOf modulus start i (Given.Reading reading weight)) ⌝ }
 {
     match item::parts_of(field::modulus(), start, i, Given::Reading(reading, weight)) {

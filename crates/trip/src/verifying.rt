@@ -8,16 +8,21 @@ use verifier::Verdict;
 use verifier::Verifier;
 
 pub(crate) fn verify(run: Run, log: &[u8], numbers: &[u8]) -> Verdict {
-    let v = start(run.start.items, run.start.rounds, numbers);
+    let v = start(
+        run.start.items,
+        run.start.version,
+        run.start.rounds,
+        numbers,
+    );
     let taken = v.items(input::items_of(log)).verifier;
     let closed = taken.close(run.total).verifier;
     hear(closed, run).verdict()
 }
 
-fn start(items: u32, rounds: u32, numbers: &[u8]) -> Verifier {
+fn start(items: u32, version: u32, rounds: u32, numbers: &[u8]) -> Verifier {
     let challenges = challenges(numbers);
     let n = count(rounds);
-    Verifier::start_plain(items, &challenges[..n]).verifier
+    Verifier::start_plain(items, version, &challenges[..n]).verifier
 }
 
 // A run has at most fifteen rounds.

@@ -32,6 +32,35 @@ const TRIP: [u8; 19] = [
     0,
 ];
 
+// The same trip in thousandths of a degree, version 2.
+const FINE: [u8; 25] = [
+    82,
+    86,
+    76,
+    2,
+    0,
+    3,
+    0,
+    176,
+    185,
+    255,
+    255,
+    10,
+    0,
+    164,
+    187,
+    255,
+    255,
+    20,
+    0,
+    160,
+    15,
+    0,
+    0,
+    5,
+    0,
+];
+
 // Readings -32,768 and 32,767, weights 1,440 and 0.
 const EDGE: [u8; 15] = [82, 86, 76, 1, 0, 2, 0, 0, 128, 160, 5, 255, 127, 0, 0];
 
@@ -198,7 +227,10 @@ fn log(label: &[u8], file: &[u8]) {
     text(label);
     text(b":");
     match wire::log::read_log(file) {
-        LogRead::Log(count) => number(count as u64),
+        LogRead::Log(count, version) => {
+            number(count as u64);
+            number(version as u64);
+        }
         LogRead::Refused(k) => refused(k),
         LogRead::RefusedAt(k, i) => refused_at(k, i),
     }
@@ -305,6 +337,12 @@ fn trip(label: &[u8], at: usize, byte: u8) {
     log(label, &file);
 }
 
+fn fine(label: &[u8], at: usize, byte: u8) {
+    let mut file = FINE;
+    put(&mut file, at, byte);
+    log(label, &file);
+}
+
 fn edge(label: &[u8], at: usize, byte: u8) {
     let mut file = EDGE;
     put(&mut file, at, byte);
@@ -336,7 +374,7 @@ fn logs() {
     log(b"log empty", &file[..0]);
     log(b"log 6 bytes", &file[..6]);
     trip(b"log RVP", 2, b'P');
-    trip(b"log version 2", 3, 2);
+    trip(b"log as version 2", 3, 2);
     trip(b"log version 257", 4, 1);
     trip(b"log count 0", 5, 0);
     trip(b"log count 32771", 6, 128);
@@ -344,6 +382,21 @@ fn logs() {
     log(b"log 18 bytes", &file[..18]);
     edge(b"log weight 1441", 9, 161);
     trip(b"log weight 1556", 14, 6);
+}
+
+fn fine_logs() {
+    let file = FINE;
+    fine(b"fine log", 25, 0);
+    item(&file[..], 0);
+    item(&file[..], 2);
+    item(&file[..], 3);
+    fine(b"fine log as version 1", 3, 1);
+    fine(b"fine log version 3", 3, 3);
+    fine(b"fine log version 258", 4, 1);
+    log(b"fine log 24 bytes", &file[..24]);
+    fine(b"fine log reading 1052576", 21, 16);
+    fine(b"fine log reading -1066076", 15, 239);
+    fine(b"fine log weight 1556", 18, 6);
 }
 
 fn proofs() {
@@ -446,6 +499,7 @@ fn matrices() {
 
 fn main() {
     logs();
+    fine_logs();
     proofs();
     writes();
     matrices();

@@ -15,8 +15,8 @@ returns c = rw (lt-leb _ _ (c .if1 .taken))
 signed-word-requires : tie.Need-signed-word-requires
 signed-word-requires c κs = search needs
 
-cast-t4 : tie.Need-cast-t4
-cast-t4 c = search needs
+cast-t5 : tie.Need-cast-t5
+cast-t5 c = search needs
 
 returns-2 : tie.Need-returns-2
 returns-2 c =
@@ -25,4 +25,4 @@ returns-2 c =
     rw (le-leb _ _ (c .before .if1 .left)) (ap (λ (r : ℤ). Item (Reading r (c .before .before .args .weight))) (t ∙ c .signed-word .ensures))
 
 pub item-spec : {M : Type 1} → statement M
-item-spec = tie.close (tie.spec returns signed-word-requires cast-t4 returns-2)
+item-spec = tie.close (tie.spec returns signed-word-requires cast-t5 returns-2)

@@ -1,7 +1,7 @@
 use mathlib.Core.Path.{ap, _∙_}
 use borrow.Author.Needs.{needs}
 use mir.Facts.{toZ-ofZ}
-use mir.Syntax.{w16}
+use mir.Syntax.{w32}
 use Rattle.trip.specs.Items.{pairAt, orZero}
 use Rattle.field.specs.Modulus.{modulus}
 use Rattle.item.specs.declared.Given.the-variants.{Reading}
@@ -27,7 +27,7 @@ no-item-requires c κs = search needs
 returns : tie.Need-returns
 unfolding pairAt
 returns c = let r = c .before .before .reading .given in
-    let u = toZ-ofZ {w = w16} {z = r .0 .0} (search needs) in
+    let u = toZ-ofZ {w = w32} {z = r .0 .0} (search needs) in
     rw (← c .before .before .before .before .log-item .ensures, r .1) (c .pair .ensures ∙ ap (λ z. orZero (partsOf modulus (c .before .before .before .before .before .before .args .start) (c .before .before .before .before .before .before .args .i) (Reading z (r .0 .1 .0)))) u)
 
 returns-2 : tie.Need-returns-2

@@ -1,7 +1,7 @@
 use mathlib.Core.Path.{_≡_, sym, ap, _∙_}
 use borrow.Author.Needs.{needs}
 use mir.Facts.{toZ-ofZ}
-use mir.Syntax.{w16}
+use mir.Syntax.{w32}
 use Rattle.field.specs.Modulus.{modulus}
 use Rattle.item.specs.declared.Given.the-variants.{Reading}
 use Rattle.item.specs.Item.{partsIn, partsOf}
@@ -34,7 +34,7 @@ no-item-requires-2 c κs = search needs
 parts : (c : tie.After-parts-of) → partsIn (c .parts-of .result) ≡ partsOf modulus (c .before .before .args .start) (c .before .before .args .i) (Reading (c .before .before .args .reading) (c .before .before .args .weight))
 parts c =
     let s = c .before .before in
-    (simp (toZ-ofZ {w = w16} (s .fits .reading)) at (c .parts-of .ensures))
+    (simp (toZ-ofZ {w = w32} (s .fits .reading)) at (c .parts-of .ensures))
     ∙ ap (λ m. partsOf m (s .args .start) (s .args .i) (Reading (s .args .reading) (s .args .weight))) (c .before .modulus .ensures)
 
 returns : tie.Need-returns
