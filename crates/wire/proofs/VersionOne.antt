@@ -1,23 +1,22 @@
 -- "A version 1 log answers as before": document 01's reader and accessor, and that they answer for every file that is not of version 2.
 use mathlib.Core.Path.{_≡_, refl, ap, _∙_}
-use mathlib.Core.Bool.{Bool, true, false, cond, _&&_, _||_}
+use mathlib.Core.Bool.{Bool, true, false, _&&_, _||_}
 use mathlib.Core.List.{List}
-use Prim.Native.Nat.{ℕ, zero, suc, _+_, _*_, _-_}
-use native.Mathlib.Omega.{arith}
-use lib.Dec.{leb, eqb, ltb}
-use lib.IntN.{ℤ, pos, negsuc}
+use Prim.Native.Nat.{ℕ, zero, suc, _+_, _*_}
+use lib.Dec.{leb, eqb}
 use lib.ListN.{length}
-use borrow.Author.Tests.{le-leb, ltb-true, ltb-false, eqb-true, ne-eqb}
+use borrow.Author.Tests.{eqb-true, ne-eqb}
 use Rattle.refusal.specs.Number as number
 use Rattle.refusal.specs.Limit.{maxItems, maxWeight}
 use Rattle.refusal.specs.Outcome.{Outcome, answered, require, requireAt, requireAll, andThen}
 use Rattle.field.specs.Total.{Item}
-use Rattle.item.specs.Version.{isFine, inRange}
+use Rattle.item.specs.Version.{isFine}
 use Rattle.wire.specs.Number.{numAt, signed}
 use Rattle.wire.specs.Found.{Found, foundIf}
 use Rattle.wire.specs.Header.{marked, versionOf, requireHeader}
 use Rattle.wire.specs.Layout.{requireItem}
 use Rattle.wire.specs.Log.{Head, logCount, readLog, logItem}
+use Rattle.wire.proofs.Layouts.{two-bytes}
 
 -- document 01's log: version 1, "then L items of four bytes", "Length 7 + 4L", and 5 alone
 abbrev pub requireItemOne : {A : Type 0} → List ℕ → ℕ → Outcome A → Outcome A
@@ -34,15 +33,6 @@ readLogOne file =
 abbrev pub logItemOne : List ℕ → ℕ → Found Item
 logItemOne file i =
     foundIf (leb (7 + 4 * (i + 1)) (length file)) (record { reading = signed 2 (numAt 2 file (7 + 4 * i)); weight = numAt 2 file (7 + 4 * i + 2) })
-
--- every reading of two bytes is in version 1's range
-two-bytes : (version x : ℕ) → isFine version ≡ false → inRange version (signed 2 x) ≡ true
-unfolding signed inRange
-two-bytes version x h = by (ltb x 32768) refl
-  where
-    by : (t : Bool) → ltb x 32768 ≡ t → inRange version (cond t (pos x) (negsuc (65535 - x))) ≡ true
-    by true e = rw h (le-leb x 32767 (omega (arith, ltb-true x 32768 e)))
-    by false e = rw h (le-leb (suc (65535 - x)) 32768 (omega (arith, ltb-false x 32768 e)))
 
 -- a good log of version 1
 abbrev one : ℕ → Outcome Head
