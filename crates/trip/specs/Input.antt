@@ -1,19 +1,15 @@
 -- The program's files: document 01, "One trip, whole".
 use Prim.Native.Nat.{ℕ, _+_, _*_}
 use mathlib.Core.List.{List}
-use mathlib.Core.Bool.{Bool, true, _&&_}
 use lib.ListN.{length}
-use lib.Dec.{leb, ltb, eqb}
+use lib.Dec.{eqb}
 use Rattle.refusal.specs.Number as number
 use Rattle.refusal.specs.Outcome.{Outcome, answered, refused, refusedAt, require}
 use Rattle.field.specs.Modulus.{modulus}
 use Rattle.vector.specs.Rounds.{roundsOf}
 use Rattle.vector.specs.Slice.{every, isNonzero}
 use Rattle.wire.specs.Number.{numAt}
-use Rattle.item.specs.Version.{versionFits}
-use Rattle.wire.specs.Header.{marked, versionOf}
-use Rattle.wire.specs.Layout.{requireItems}
-use Rattle.wire.specs.Log.{Head, headOf, logCount, itemStart}
+use Rattle.wire.specs.Log.{Head, readLogWithin}
 use Rattle.trip.specs.declared.input.Input.{Input}
 use Rattle.trip.specs.declared.input.Input.the-variants.{Items, Refused}
 
@@ -22,20 +18,8 @@ abbrev pub limit : ℕ
 limit = 4096
 
 -- the log as the program takes it: "over 4,096 items is 3", in the place of the format's own limit
-unfoldable pub readLimited : List ℕ → Outcome Head
-readLimited file =
-    require (marked 76 7 file) number.header
-    (require (versionFits (versionOf file)) number.version
-    (require (leb 1 (logCount file) && leb (logCount file) limit) number.count
-    (require (eqb (length file) (itemStart file (logCount file))) number.size
-    (requireItems (versionOf file) file 7 (logCount file)
-    (answered (headOf file))))))
-
--- 1 and 2 are passed
-abbrev pub headedIn : Outcome Head → Bool
-headedIn (answered head) = true
-headedIn (refused k) = ltb number.version k
-headedIn (refusedAt k i) = true
+abbrev pub readLimited : List ℕ → Outcome Head
+readLimited file = readLogWithin limit file
 
 -- "n challenges, then one point, four bytes each": number k of trip.rvc
 abbrev pub numberAt : List ℕ → ℕ → ℕ

@@ -1,15 +1,12 @@
-// The two files, and which of the refusals 1 to 6 they deserve.
+// The two files, and which of the refusals 1 to 6 and 18 they deserve.
 ghost use mathlib.Core.Path.{_≡_};
-ghost use mathlib.Core.Bool.{cond, _&&_};
-ghost use Prim.Native.Nat.{_+_, _*_, _<_, _≤_};
-ghost use lib.Dec.{leb, ltb};
+ghost use Prim.Native.Nat.{_*_, _≤_};
 ghost use lib.ListN.{length};
 ghost use Rattle.io.specs.Counts.{Counts};
 ghost use Rattle.field.specs.Modulus.{modulus};
 ghost use Rattle.vector.specs.Slice.{every, isNonzero};
 ghost use Rattle.wire.specs.Number.{wordAt};
-ghost use Rattle.wire.specs.Log.{logCount, logOf};
-ghost use Rattle.trip.specs.Input.{limit, headedIn, headWith, readLimited, readNumbers, readTrip, inputOf, numberAt};
+ghost use Rattle.trip.specs.Input.{headWith, readLimited, readNumbers, readTrip, inputOf, numberAt};
 use field::Checked;
 use field::Field;
 use wire::log::LogRead;
@@ -40,45 +37,11 @@ pub(crate) fn read_file(path: &[u8], bytes: &mut [u8]) -> usize
 pub(crate) fn check(log: &[u8], numbers: &[u8]) -> Input
     ensures { λ r. ⌜ inputOf r ≡ readTrip (readLimited (now (log .entry))) (now (numbers .entry)) ⌝ }
 {
-    match read_log(log) {
+    match wire::log::read_log_within(LIMIT, log) {
         LogRead::Log(items, version) => check_numbers(items, version, numbers),
         LogRead::Refused(number) => Input::Refused(number),
         LogRead::RefusedAt(number, _) => Input::Refused(number),
     }
-}
-
-// The log, held to the program's limit where the format's own limit stands.
-fn read_log(log: &[u8]) -> LogRead
-    ensures { λ r. ⌜ logOf r ≡ readLimited (now (log .entry)) ⌝ }
-{
-    let answer = wire::log::read_log(log);
-    if headed(answer) {} else {
-        return answer;
-    }
-    if over_limit(log) {
-        return LogRead::Refused(refusal::COUNT);
-    }
-    answer
-}
-
-// Whether 1 and 2 are passed.
-fn headed(answer: LogRead) -> bool
-    ensures { λ r. ⌜ r ≡ headedIn (logOf answer) ⌝ }
-{
-    match answer {
-        LogRead::Log(_, _) => true,
-        LogRead::Refused(number) => number > refusal::VERSION,
-        LogRead::RefusedAt(_, _) => true,
-    }
-}
-
-fn over_limit(log: &[u8]) -> bool
-    ensures { λ r. ⌜ r ≡ (leb 7 (length (now (log .entry))) && ltb limit (logCount (now (log .entry)))) ⌝ }
-{
-    if log.len() < 7 {
-        return false;
-    }
-    wide(log[5]) + 256 * wide(log[6]) > LIMIT
 }
 
 // n challenges and a point.
@@ -114,12 +77,6 @@ pub(crate) fn number(numbers: &[u8], k: u32) -> u32
     ensures { λ r. ⌜ r ≡ wordAt (now (numbers .entry)) (4 * k) ⌝ }
 {
     word_at(numbers, 4 * (k as usize))
-}
-
-fn wide(x: u8) -> u32
-    ensures { λ r. ⌜ (r ≡ x) × (r < 256) ⌝ }
-{
-    x as u32
 }
 
 // The items of a log as one block: what follows its header.

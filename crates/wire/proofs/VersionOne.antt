@@ -15,7 +15,7 @@ use Rattle.wire.specs.Number.{numAt, signed}
 use Rattle.wire.specs.Found.{Found, foundIf}
 use Rattle.wire.specs.Header.{marked, versionOf, requireHeader}
 use Rattle.wire.specs.Layout.{requireItem}
-use Rattle.wire.specs.Log.{Head, logCount, readLog, logItem}
+use Rattle.wire.specs.Log.{Head, logCount, readLogWithin, readLog, logItem}
 use Rattle.wire.proofs.Layouts.{two-bytes}
 
 -- document 01's log: version 1, "then L items of four bytes", "Length 7 + 4L", and 5 alone
@@ -68,7 +68,7 @@ module _ (file : List ℕ) (other : versionOf file ≡ 2 → ⊥) where
   rows false a c d its itsOne e = refl
 
   pub version-one : readLog file ≡ andThen (readLogOne file) one
-  unfolding readLog readLogOne
+  unfolding readLogWithin readLogOne
   version-one =
       rw old
       (rows (marked 76 7 file) (eqb (versionOf file) 1) (leb 1 (logCount file) && leb (logCount file) maxItems)
