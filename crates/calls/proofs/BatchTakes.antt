@@ -2,7 +2,7 @@
 -- point from 1 to p - 1.
 use mathlib.Core.Path.{_≡_, refl, sym, ap, subst, _∙_}
 use mathlib.Core.Bool.{Bool, true, false, cond, true≢false, _&&_}
-use mathlib.Core.List.{List, [], _∷_, _++_}
+use mathlib.Core.List.{List, [], _∷_}
 use mathlib.Core.Option.{none}
 use Prim.Native.Nat.{ℕ, _<_}
 use lib.Dec.{ltb}
@@ -34,7 +34,7 @@ use Rattle.calls.proofs.Refusals.{Faithful, faithful-on, decide-step}
 use Rattle.calls.proofs.Begins.{opens-faithful, begun-faithful}
 use Rattle.calls.proofs.Alike.{answered-none}
 use Rattle.calls.proofs.LiveWorld.{buffers-same}
-use Rattle.calls.proofs.Longer.{along-first, always-so, always-last}
+use Rattle.calls.proofs.Longer.{always-so, always-last}
 use Rattle.calls.proofs.Pointed.{gave-pointed}
 
 -- what is next, and the challenges

@@ -5,19 +5,17 @@ use mathlib.Core.Bool.{Bool, true, false, cond}
 use mathlib.Core.List.{List, [], _∷_, _++_}
 use mathlib.Core.Logic.{_⊎_, inl, inr, ⊎-elim}
 use mathlib.Core.Option.{Option, none, some}
-use Prim.Native.Nat.{ℕ, zero, suc, _<_}
-use native.Mathlib.Omega.{arith}
+use Prim.Native.Nat.{ℕ, _<_}
 use Rattle.refusal.specs.Limit.{maxWeight}
 use Rattle.refusal.specs.Outcome.{Outcome, answered}
 use Rattle.item.specs.declared.Start.{Start}
-use Rattle.block.specs.Block.{Block, count, itemAt, isWhole}
+use Rattle.block.specs.Block.{Block, count, isWhole}
 use Rattle.prover.specs.declared.Run.{Run}
 use Rattle.pass.specs.declared.Pass.{Pass}
 use Rattle.prover.specs.Reply as reply
 use Rattle.prover.specs.Reply.{Reply}
 use Rattle.prover.specs.Records.{leaves}
 use Rattle.prover.specs.Blocks.{takesAll, itemsCall}
-use Rattle.calls.specs.declared.Call.the-variants as call
 use Rattle.calls.specs.Lists.{after, along, somewhere}
 use Rattle.calls.specs.Step.{Lent, Result, isAnswered, leaving}
 use Rattle.calls.specs.State.{State}

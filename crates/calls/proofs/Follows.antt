@@ -7,7 +7,7 @@ use Prim.Native.Nat.{ℕ, zero, suc, _+_, _*_, _/_, _^_, _<_, _≤_}
 use native.Mathlib.Numerals.{add-one}
 use native.Mathlib.Omega.{arith}
 use lib.Dec.{eqb, ltb}
-use lib.IntN.{ℤ, natAbs}
+use lib.IntN.{ℤ}
 use Rattle.refusal.specs.Outcome.{answered}
 use lib.ListN.{length, length-append, getD, set}
 use borrow.Author.Tests.{ltb-true, ltb-false, eqb-true, eq-eqb}

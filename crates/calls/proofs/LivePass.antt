@@ -19,7 +19,6 @@ use Rattle.phase.specs.declared.Kind.the-variants.{Shut, Asked, Change}
 use Rattle.phase.specs.Cases.{isChange, isOpen, isSmall, waits}
 use Rattle.phase.specs.Order.{roundOrEnds}
 use Rattle.item.specs.declared.Given.{Given}
-use Rattle.item.specs.declared.Given.the-variants.{Reading, Numbers}
 use Rattle.runs.specs.Trip.{Trip, tripItem, sumOf}
 use Rattle.runs.specs.Buffers.{Written}
 use Rattle.runs.proofs.PassTrip.{gives-all}

@@ -1,18 +1,13 @@
 -- One call of a proper list: the table has nothing against it, so it is answered, and the state goes on as the paper says.
-use mathlib.Core.Path.{_≡_, ap, subst}
+use mathlib.Core.Path.{_≡_, ap}
 use mathlib.Core.Bool.{Bool, true, cond}
 use mathlib.Core.Option.{none}
-use Prim.Native.Nat.{ℕ, _<_, _≤_}
-use native.Mathlib.Omega.{arith}
-use lib.IntN.{natAbs}
+use Prim.Native.Nat.{ℕ, _<_}
 use lib.ListN.{length}
 use Rattle.refusal.specs.Limit.{maxWeight}
 use Rattle.runs.specs.Trip.{Trip}
-use Rattle.calls.specs.declared.Call.{Call}
-use Rattle.calls.specs.declared.Call.the-variants as call
 use Rattle.calls.specs.Step.{isAnswered}
 use Rattle.calls.specs.State.{goesOn, follow}
-use Rattle.item.specs.declared.Given.the-variants.{Reading, Numbers}
 use Rattle.calls.specs.World.{Made, World, came, onward}
 use Rattle.calls.specs.Table.{table}
 use Rattle.calls.specs.Meaning.{Kept}

@@ -4,7 +4,6 @@ use mathlib.Core.Path.{_≡_}
 use mathlib.Core.Bool.{Bool, true, false, cond}
 use mathlib.Core.List.{_++_}
 use mathlib.Core.Option.{Option, none, some}
-use lib.IntN.{ℤ, natAbs}
 use lib.ListN.{drop}
 use Rattle.wire.specs.Proof.{proofSize}
 use Rattle.vector.specs.Vector.{at}
@@ -19,7 +18,6 @@ use Rattle.prover.specs.declared.Run.{Run}
 use Rattle.pass.specs.declared.Pass.{Pass}
 use Rattle.pass.specs.Pass.{kernelOf}
 use Rattle.pass.specs.Values.{noValues}
-use Rattle.item.specs.declared.Given.the-variants.{Reading}
 use Rattle.runs.specs.Trip.{Trip, vectorF, vectorG}
 use Rattle.runs.specs.Buffers.{Written}
 use Rattle.calls.specs.declared.Call.{Call}

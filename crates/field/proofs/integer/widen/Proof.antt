@@ -1,5 +1,5 @@
 use mathlib.Core.Path.{_≡_}
-use mir.Syntax.{w32, w64}
+use mir.Syntax.{w64}
 use mir.Val.{toZ, ofZ}
 use mir.Facts.{toZ-ofZ}
 use Rattle.field.proofs.Signed.{widened}

@@ -1,4 +1,4 @@
-use mathlib.Core.Path.{sym, ap, _∙_}
+use mathlib.Core.Path.{sym, ap}
 use Rattle.prover.specs.Start.{startLeaves}
 use Rattle.prover.proofs.StartFacts.{plain-version, plain-count, plain-answered}
 use Rattle.wire.proofs.Told.{told}
