@@ -1,6 +1,6 @@
 -- The trip in small mode.
 use mathlib.Core.List.{List, [], _∷_, _++_}
-use lib.IntN.{negsuc}
+use lib.IntN.{pos, negsuc}
 use Rattle.refusal.specs.Outcome.{refusedAt}
 use Rattle.item.specs.declared.Given.the-variants.{Reading, Numbers}
 use Rattle.prover.specs.Reply as reply
@@ -16,6 +16,7 @@ smallCalls =
     ∷ (alone call.OpenPass, says reply.opened)
     ∷ (alone item2, says reply.taken)
     ∷ (alone (call.Give (Reading (negsuc 174) 1441)), record { answer = refusedAt 5 1; values = noValues })
+    ∷ (alone (call.Give (Reading (pos 40000) 20)), record { answer = refusedAt 18 1; values = noValues })
     ∷ (alone (call.Give (Numbers 1 1)), refuses 10)
     ∷ (alone item1, says reply.taken)
     ∷ (alone call.Close, refuses 8)

@@ -1,3 +1,4 @@
 pub mod Version
 pub mod Start
 pub mod Item
+pub mod Example
