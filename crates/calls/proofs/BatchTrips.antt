@@ -31,7 +31,7 @@ module _ (p z m : ℕ) (logs : List (List ℕ)) (some : 1 ≤ mostItems logs m) 
 
   -- a trip that lists of calls speak of
   pub batch-whole : Whole T
-  batch-whole = record { start = record { least = some; most = most; rounds = refl }; items = items-length item 0 items }
+  batch-whole = record { start = record { version = refl; least = some; most = most; rounds = refl }; items = items-length item 0 items }
 
   few : roundsOf items ≤ 15
   few = rounds-at-most items most

@@ -85,6 +85,7 @@ module _ (p : ℕ) (large : maxWeight < p) (s : Start) (cs : List ℕ) (o : Open
         pass = refl;
         fits = record {
           run = record {
+            version = o .start .version;
             some = o .start .least;
             most = o .start .most;
             rounds = o .start .rounds;

@@ -29,6 +29,7 @@ use Rattle.item.specs.declared.Start.{Start}
 use Rattle.item.specs.declared.Given.{Given}
 use Rattle.item.specs.declared.Given.the-variants.{Numbers}
 use Rattle.item.specs.Item.{contributes}
+use Rattle.item.specs.Start.{versionKept}
 use Rattle.runs.specs.Trip.{sumOf}
 use Rattle.runs.specs.Items.{AllWithin}
 use Rattle.runs.proofs.PassRecord.{after-kind, after-taken}
@@ -50,6 +51,7 @@ abbrev pub Fine : ℕ → Start → Given → Type 0
 Fine p s x = (contributes p s x .f < p) × (contributes p s x .g < p)
 
 pub record RunFits (p : ℕ) (s : Start) (t : Next) (cs : List ℕ) (z : ℤ) (ms : List ℕ) (a b : ℕ) : Type 0 where
+  pub version : versionKept (s .plain) (s .version) ≡ true
   pub some : 1 ≤ s .items
   pub most : s .items ≤ 32768
   pub rounds : s .rounds ≡ roundsOf (s .items)
@@ -109,6 +111,7 @@ module _ (p : ℕ) (a : State) {past : Notes} (h : Fits p a past) where
   unfolding turnFormed
   run-formed =
       rw (
+        h .run .version,
         le-ltb (a .start .items) 1 (h .run .some),
         le-ltb maxItems (a .start .items) (h .run .most),
         eq-eqb (a .start .rounds) (roundsOf (a .start .items)) (h .run .rounds),

@@ -178,6 +178,7 @@ module _ (p : ℕ) (large : maxWeight < p) where
       let no-message : length (past .messages) ≡ 0 = r .given ∙ ap (λ t. 3 * givenAt (length (a .turn .challenges)) t) e in
       let q = round-next 0 (a .start .rounds) (omega arith) in
       record {
+        version = r .version;
         some = r .some;
         most = r .most;
         rounds = r .rounds;
@@ -205,6 +206,7 @@ module _ (p : ℕ) (large : maxWeight < p) where
       let round : roundFits next.Message (length (a .turn .challenges)) (a .start .rounds) ≡ true = subst (λ t. roundFits t (length (a .turn .challenges)) (a .start .rounds) ≡ true) e (r .round) in
       let given : length (past .messages) ≡ 3 * length (a .turn .challenges) = r .given ∙ ap (λ t. 3 * givenAt (length (a .turn .challenges)) t) e in
       record {
+        version = r .version;
         some = r .some;
         most = r .most;
         rounds = r .rounds;
@@ -222,6 +224,7 @@ module _ (p : ℕ) (large : maxWeight < p) where
   ends-fits a {past} h e x y lx ly =
       let r = h .run in
       record {
+        version = r .version;
         some = r .some;
         most = r .most;
         rounds = r .rounds;
@@ -244,6 +247,7 @@ module _ (p : ℕ) (large : maxWeight < p) where
       let long : length cs ≡ suc (length (a .turn .challenges)) = length-append (a .turn .challenges) (c ∷ []) ∙ add-one (length (a .turn .challenges)) in
       let q = round-next (length cs) (a .start .rounds) (omega arith) in
       record {
+        version = r .version;
         some = r .some;
         most = r .most;
         rounds = r .rounds;

@@ -78,7 +78,7 @@ closed-formed v claim formed unclosed whole =
     let parts = parts-of v formed in
     let first = open-turn v (parts .turn) unclosed .first in
     formed-of (closedWith v claim)
-    (record { count = parts .count; rounds = parts .rounds; turn = closed-turn (closedWith v claim) refl whole (omega arith) })
+    (record { version = parts .version; count = parts .count; rounds = parts .rounds; turn = closed-turn (closedWith v claim) refl whole (omega arith) })
 
 passed-formed : (p : ℕ) (v : Verifier) (m : Message) → wellFormed v ≡ true → v .closed ≡ true → v .round < v .start .rounds
     → wellFormed (passedWith p v m) ≡ true
@@ -87,6 +87,7 @@ passed-formed p v m formed closed less =
     let parts = parts-of v formed in
     formed-of (passedWith p v m)
     (record {
+      version = parts .version;
       count = parts .count;
       rounds = parts .rounds;
       turn = closed-turn (passedWith p v m) closed (closed-taken v (parts .turn) closed) (omega arith);

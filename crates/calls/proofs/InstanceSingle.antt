@@ -78,7 +78,7 @@ single-starts = refl
 
 single-whole : Whole single
 unfolding powers firstFrom
-single-whole = record { start = record { least = omega arith; most = omega arith; rounds = refl }; items = refl }
+single-whole = record { start = record { version = refl; least = omega arith; most = omega arith; rounds = refl }; items = refl }
 
 single-valid : Valid P single
 unfolding powers firstFrom inLimits sumOf inRange

@@ -83,7 +83,7 @@ twisted-starts = refl
 
 twisted-whole : Whole twisted
 unfolding powers firstFrom
-twisted-whole = record { start = record { least = omega arith; most = omega arith; rounds = refl }; items = refl }
+twisted-whole = record { start = record { version = refl; least = omega arith; most = omega arith; rounds = refl }; items = refl }
 
 twisted-valid : Valid P twisted
 unfolding powers firstFrom

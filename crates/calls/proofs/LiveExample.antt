@@ -33,7 +33,7 @@ trip =
 
 valid : Valid P trip
 unfolding powers firstFrom inLimits sumOf inRange
-valid = record { whole = record { start = record { least = omega arith; most = omega arith; rounds = refl }; items = refl }; items = fits; total = λ e. refl }
+valid = record { whole = record { start = record { version = refl; least = omega arith; most = omega arith; rounds = refl }; items = refl }; items = fits; total = λ e. refl }
   where
     fits : (i : ℕ) → i < 3 → ItemFits P (trip .start) (tripItem trip i)
     fits zero h = (refl, refl, omega arith)

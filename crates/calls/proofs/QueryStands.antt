@@ -96,7 +96,7 @@ in-count items some most = rw (le-leb 1 items some, le-leb items 32768 most)
 -- "starts from a fresh one for the run's L, twists and challenges"
 module _ (s : Start) (h : Startable s) (cs : List ℕ) where
   start-formed : wellFormed (verifierOf s cs) ≡ true
-  start-formed = fresh-formed s (fifteen (s .rounds) cs) (in-count (s .items) (h .least) (h .most)) (h .rounds)
+  start-formed = fresh-formed s (fifteen (s .rounds) cs) (h .version) (in-count (s .items) (h .least) (h .most)) (h .rounds)
 
   pub fresh-stands : (p : ℕ) → Stands p (freshVerifierState s cs) (verifierOf s cs)
   unfolding freshVerifier

@@ -203,6 +203,7 @@ module _ (p : ℕ) (large : maxWeight < p) where
         pass = refl;
         fits = record {
           run = record {
+            version = h .version;
             some = h .least;
             most = h .most;
             rounds = h .rounds;

@@ -44,7 +44,7 @@ module _ (p v n : ℕ) (few : n ≤ 15) (a b : Vector) where
   pub rule-whole : Whole T
   rule-whole =
       let most : 2 ^ n ≤ 2 ^ 15 = pow-mono few in
-      record { start = record { least = pow-pos n; most = most; rounds = sym (rounds-power n few) }; items = items-length (λ i. Numbers (a i) (b i)) 0 (2 ^ n) }
+      record { start = record { version = refl; least = pow-pos n; most = most; rounds = sym (rounds-power n few) }; items = items-length (λ i. Numbers (a i) (b i)) 0 (2 ^ n) }
 
   item-at : (i : ℕ) → i < 2 ^ n → tripItem T i ≡ Numbers (a i) (b i)
   item-at = items-at (λ i. Numbers (a i) (b i)) (2 ^ n)

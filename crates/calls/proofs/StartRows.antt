@@ -19,7 +19,7 @@ use Rattle.vector.proofs.Rounds.{rounds-power}
 use Rattle.prover.specs.Start as prover
 use Rattle.verifier.specs.Starts as verifier
 use Rattle.item.specs.declared.Start.{Start}
-use Rattle.item.specs.Start.{plainStart, twistedStart, untwistedStart, ruleStart}
+use Rattle.item.specs.Start.{versionKept, plainStart, twistedStart, untwistedStart, ruleStart}
 use Rattle.batch.specs.Batch.{logAt, mostItems, sameRounds, requireLog, readLogs, begins, startBatch}
 use Rattle.batch.proofs.Together.{IsGood, AllGood, most-counted}
 use Rattle.calls.specs.Table.{Refusal, row}
@@ -61,17 +61,18 @@ pub record BatchFree (p m : ℕ) (logs : List (List ℕ)) (z : ℕ) (cs : List �
   pub base : isNonzero p z ≡ true
   pub opens : Opens (untwistedStart (mostItems logs m)) cs
 
--- L in its limits, and n of it
-of-count : (items : ℕ) (s : Start) → (leb 1 items && leb items 32768) ≡ true → s .items ≡ items → s .rounds ≡ roundsOf items → Startable s
-of-count items s e ei er =
+-- L in its limits, n of it, and the version
+of-count : (items : ℕ) (s : Start) → versionKept (s .plain) (s .version) ≡ true → (leb 1 items && leb items 32768) ≡ true → s .items ≡ items
+    → s .rounds ≡ roundsOf items → Startable s
+of-count items s v e ei er =
     let q = both (leb 1 items) (leb items 32768) e in
-    record { least = rw ei (leb-true 1 items (q .0)); most = rw ei (leb-true items 32768 (q .1)); rounds = er ∙ ap roundsOf (sym ei) }
+    record { version = v; least = rw ei (leb-true 1 items (q .0)); most = rw ei (leb-true items 32768 (q .1)); rounds = er ∙ ap roundsOf (sym ei) }
 
 of-rule : (p n v : ℕ) → leb n 15 ≡ true → Startable (ruleStart p n v)
 of-rule p n v e =
     let few = leb-true n 15 e in
     let most : 2 ^ n ≤ 2 ^ 15 = pow-mono few in
-    record { least = pow-pos n; most = most; rounds = sym (rounds-power n few) }
+    record { version = refl; least = pow-pos n; most = most; rounds = sym (rounds-power n few) }
 
 length-of : (p n : ℕ) (xs : List ℕ) → (eqb (length xs) n && allNonzero p n xs) ≡ true → length xs ≡ n
 length-of p n xs e = eqb-true (length xs) n (both (eqb (length xs) n) (allNonzero p n xs) e .0)
@@ -82,13 +83,13 @@ module _ (p : ℕ) where
   unfolding prover.startPlain
   plain-rows items version =
       start-row _ _ (eqb version 1 || eqb version 2) 2 _ _ (λ known.
-      start-row _ _ _ 3 _ none (λ e. (refl, λ free. of-count items (plainStart items version) e refl refl)))
+      start-row _ _ _ 3 _ none (λ e. (refl, λ free. of-count items (plainStart items version) known e refl refl)))
 
   twisted-rows : (items : ℕ) (twists : List ℕ) → StartsRun (countRow items (listRow p (roundsOf items) twists none)) (twistedStart items twists) (prover.startTwisted p items twists)
   unfolding prover.startTwisted
   twisted-rows items twists =
       start-row _ _ _ 3 _ _ (λ e.
-      start-row _ _ (eqb (length twists) (roundsOf items) && allNonzero p (roundsOf items) twists) 6 _ none (λ f. (refl, λ free. of-count items (twistedStart items twists) e refl refl)))
+      start-row _ _ (eqb (length twists) (roundsOf items) && allNonzero p (roundsOf items) twists) 6 _ none (λ f. (refl, λ free. of-count items (twistedStart items twists) refl e refl refl)))
 
   rule-rows : (n v : ℕ) → StartsRun (ruleRows p n v none) (ruleStart p n v) (prover.startRule p n v)
   unfolding prover.startRule
@@ -103,7 +104,7 @@ module _ (p : ℕ) where
       (λ f. (
         refl,
         λ free. record {
-          start = of-count items (untwistedStart items) e refl refl;
+          start = of-count items (untwistedStart items) refl e refl refl;
           numbers = refl;
           rounds = ltb-true 0 (roundsOf items) some;
           listed = length-of p (roundsOf items) cs f;
@@ -151,7 +152,7 @@ module _ (p : ℕ) where
       start-row _ _ (eqb version 1 || eqb version 2) 2 _ _ (λ known.
       start-row _ _ _ 3 _ _ (λ e.
       start-row _ _ (eqb (length cs) (roundsOf items) && allNonzero p (roundsOf items) cs) 6 _ none (λ f.
-      (refl, λ free. (of-count items (plainStart items version) e refl refl, length-of p (roundsOf items) cs f)))))
+      (refl, λ free. (of-count items (plainStart items version) known e refl refl, length-of p (roundsOf items) cs f)))))
 
   verifier-twisted : (items : ℕ) (twists cs : List ℕ)
       → StartsVerifier (countRow items (listRow p (roundsOf items) twists (listRow p (roundsOf items) cs none))) (twistedStart items twists) cs (verifier.startTwisted p items twists cs)
@@ -160,7 +161,7 @@ module _ (p : ℕ) where
       start-row _ _ _ 3 _ _ (λ e.
       start-row _ _ (eqb (length twists) (roundsOf items) && allNonzero p (roundsOf items) twists) 6 _ _ (λ t.
       start-row _ _ (eqb (length cs) (roundsOf items) && allNonzero p (roundsOf items) cs) 6 _ none (λ f.
-      (refl, λ free. (of-count items (twistedStart items twists) e refl refl, length-of p (roundsOf items) cs f)))))
+      (refl, λ free. (of-count items (twistedStart items twists) refl e refl refl, length-of p (roundsOf items) cs f)))))
 
   verifier-rule : (n v : ℕ) (cs : List ℕ) → StartsVerifier (ruleRows p n v (listRow p n cs none)) (ruleStart p n v) cs (verifier.startRule p n v cs)
   unfolding verifier.startRule

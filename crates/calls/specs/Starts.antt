@@ -1,7 +1,7 @@
 -- The starts of a run and of a verifier: each is refused exactly by its rows, and otherwise gives the record that a list begins with.
 use Prim.Native.Nat.{ℕ, zero, suc, _≤_, _<_}
 use mathlib.Core.Path.{_≡_}
-use mathlib.Core.Bool.{false, _&&_, _||_}
+use mathlib.Core.Bool.{true, false, _&&_, _||_}
 use mathlib.Core.List.{List}
 use mathlib.Core.Option.{Option, none, some}
 use lib.Dec.{eqb, leb, ltb}
@@ -12,7 +12,7 @@ use Rattle.wire.specs.Log.{Head, readLog}
 use Rattle.vector.specs.Rounds.{roundsOf}
 use Rattle.vector.specs.Slice.{isNonzero, allNonzero}
 use Rattle.item.specs.declared.Start.{Start}
-use Rattle.item.specs.Start.{plainStart, twistedStart, untwistedStart, ruleStart}
+use Rattle.item.specs.Start.{versionKept, plainStart, twistedStart, untwistedStart, ruleStart}
 use Rattle.prover.specs.Records.{Out}
 use Rattle.prover.specs.Start as prover
 use Rattle.batch.specs.Batch.{logAt, mostItems, sameRounds, startBatch}
@@ -21,8 +21,9 @@ use Rattle.verifier.specs.Starts as verifier
 use Rattle.runs.specs.Trip.{Trip}
 use Rattle.calls.specs.Table.{Refusal, row, decided}
 
--- L from 1 to 32,768, and n of it
+-- L from 1 to 32,768, n of it, and the version: of a plain run 1 or 2, of any other 0
 pub record Startable (s : Start) : Type 0 where
+  pub version : versionKept (s .plain) (s .version) ≡ true
   pub least : 1 ≤ s .items
   pub most : s .items ≤ maxItems
   pub rounds : s .rounds ≡ roundsOf (s .items)

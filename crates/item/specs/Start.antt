@@ -9,6 +9,7 @@ use Rattle.field.specs.Modulus.{modulus}
 use Rattle.vector.specs.Rounds.{roundsOf}
 use Rattle.vector.specs.Slice.{allNonzero, fifteen}
 use Rattle.vector.specs.Twist.{twistsOf}
+use Rattle.item.specs.Version.{versionFits}
 use Rattle.item.specs.declared.Start.{Start}
 
 -- the modulus of the runs that it begins
@@ -35,6 +36,10 @@ logsFit m = leb 1 m && leb m maxLogs
 abbrev pub plainStart : ℕ → ℕ → Start
 plainStart items version =
     record { items = items; rounds = roundsOf items; plain = true; version = version; twists = replicate 15 0 }
+
+-- the version in a record that a start gave: of a plain run 1 or 2, of any other 0
+abbrev pub versionKept : Bool → ℕ → Bool
+versionKept plain version = cond plain (versionFits version) (eqb version 0)
 
 abbrev pub twistedStart : ℕ → List ℕ → Start
 twistedStart items twists = record { items = items; rounds = roundsOf items; plain = false; version = 0; twists = fifteen (roundsOf items) twists }

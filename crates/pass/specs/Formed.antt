@@ -7,6 +7,7 @@ use Rattle.refusal.specs.Limit.{maxItems, maxRounds, maxWorth}
 use Rattle.field.specs.Total.{inLimits}
 use Rattle.vector.specs.Rounds.{roundsOf}
 use Rattle.item.specs.declared.Start.{Start}
+use Rattle.item.specs.Start.{versionKept}
 use Rattle.phase.specs.declared.Mode.{Mode}
 use Rattle.phase.specs.declared.Next.{Next}
 use Rattle.phase.specs.declared.Next.the-variants.{Total}
@@ -17,9 +18,11 @@ use Rattle.pass.specs.declared.Pass.{Pass}
 -- of a run: what its start fixed, what is next, the round and the kept total
 unfoldable pub turnFormed : ℕ → Start → Next → ℕ → ℤ → Bool
 turnFormed p s next round total =
-    cond (ltb (s .items) 1) false
+    cond (versionKept (s .plain) (s .version))
+    (cond (ltb (s .items) 1) false
     (cond (ltb maxItems (s .items)) false
-    (cond (eqb (s .rounds) (roundsOf (s .items))) (cond (roundFits next round (s .rounds)) (inLimits p total) false) false))
+    (cond (eqb (s .rounds) (roundsOf (s .items))) (cond (roundFits next round (s .rounds)) (inLimits p total) false) false)))
+    false
 
 -- of a pass, beside L, the mode and what is next of its run; its total is one that so many items can have
 unfoldable pub passFormed : ℕ → Mode → Next → Pass → Bool

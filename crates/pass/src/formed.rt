@@ -4,6 +4,7 @@ ghost use Rattle.refusal.specs.Check.{passed};
 ghost use Rattle.pass.specs.Formed.{turnFormed, passFormed, totalWithin};
 use super::Pass;
 use item::Start;
+use item::starts::version_kept;
 use phase::Mode;
 use phase::Next;
 use phase::cases;
@@ -18,6 +19,9 @@ const MAX_WORTH: u64 = 1440000000;
 pub fn turn_formed(p: u32, start: Start, next: Next, round: u32, total: i64) -> bool
     ensures { λ r. ⌜ r ≡ turnFormed p start next round total ⌝ }
 {
+    let Check::Passed = version_kept(start.plain, start.version) else {
+        return false;
+    };
     if start.items < 1 {
         return false;
     }

@@ -9,6 +9,7 @@ use Rattle.vector.specs.Rounds.{roundsOf}
 use Rattle.vector.proofs.Rounds.{rounds-at-most}
 use Rattle.phase.specs.Order.{roundFits, kindFits}
 use Rattle.phase.proofs.Facts.{round-at-most}
+use Rattle.item.specs.Start.{versionKept}
 use Rattle.prover.specs.declared.Run.{Run}
 use Rattle.pass.specs.declared.Pass.{Pass}
 use Rattle.pass.specs.Formed.{passFormed, turnFormed}
@@ -39,7 +40,8 @@ pub formed : (p : ℕ) (r : Run) (s : Pass) → wellFormed p r s ≡ true → Fo
 unfolding wellFormed turnFormed passFormed
 formed p r s e =
     let a = holds (runFormed p r) (passFormed (r .start .items) (r .mode) (r .next) s) e in
-    let b = fails (ltb (r .start .items) 1) _ (a .0) in
+    let v = holds (versionKept (r .start .plain) (r .start .version)) _ (a .0) in
+    let b = fails (ltb (r .start .items) 1) _ (v .1) in
     let c = fails (ltb 32768 (r .start .items)) _ (b .1) in
     let d = holds (eqb (r .start .rounds) (roundsOf (r .start .items))) _ (c .1) in
     let f = holds (roundFits (r .next) (r .round) (r .start .rounds)) _ (d .1) in

@@ -18,6 +18,7 @@ use Rattle.phase.specs.declared.Kind.the-variants.{Shut}
 use Rattle.phase.specs.Cases.{isFull, waits}
 use Rattle.phase.specs.Order.{roundFits, kindFits}
 use Rattle.phase.proofs.Facts.{waits-for}
+use Rattle.item.specs.Start.{versionKept}
 use Rattle.prover.specs.declared.Run.{Run}
 use Rattle.pass.specs.declared.Pass.{Pass}
 use Rattle.prover.specs.Level.{levelOf, foldSize}
@@ -35,6 +36,7 @@ fullFormed p r s = cond (wellFormed p r s) (isFull (r .mode)) false
 
 -- the tests, but those of the counts and sums of the pass
 pub record Tests (p : ℕ) (r : Run) (s : Pass) : Type 0 where
+  pub version : versionKept (r .start .plain) (r .start .version) ≡ true
   pub some : ltb (r .start .items) 1 ≡ false
   pub most : ltb 32768 (r .start .items) ≡ false
   pub rounds : eqb (r .start .rounds) (roundsOf (r .start .items)) ≡ true
@@ -47,16 +49,17 @@ pub tests : (p : ℕ) (r : Run) (s : Pass) → wellFormed p r s ≡ true → Tes
 unfolding wellFormed turnFormed passFormed
 tests p r s e =
     let a = holds (runFormed p r) (passFormed (r .start .items) (r .mode) (r .next) s) e in
-    let b = fails (ltb (r .start .items) 1) _ (a .0) in
+    let v = holds (versionKept (r .start .plain) (r .start .version)) _ (a .0) in
+    let b = fails (ltb (r .start .items) 1) _ (v .1) in
     let c = fails (ltb 32768 (r .start .items)) _ (b .1) in
     let d = holds (eqb (r .start .rounds) (roundsOf (r .start .items))) _ (c .1) in
     let f = holds (roundFits (r .next) (r .round) (r .start .rounds)) _ (d .1) in
     let k = holds (kindFits (s .kind) (r .mode) (r .next)) _ (a .1) in
-    record { some = b .0; most = c .0; rounds = d .0; fits = f .0; total = f .1; kind = k .0; rest = k .1 }
+    record { version = v .0; some = b .0; most = c .0; rounds = d .0; fits = f .0; total = f .1; kind = k .0; rest = k .1 }
 
 pub tested : (p : ℕ) (r : Run) (s : Pass) → Tests p r s → wellFormed p r s ≡ true
 unfolding wellFormed turnFormed passFormed
-tested p r s t = rw (t .some, t .most, t .rounds, t .fits, t .total, t .kind) (t .rest)
+tested p r s t = rw (t .version, t .some, t .most, t .rounds, t .fits, t .total, t .kind) (t .rest)
 
 -- what a call whose turn it is knows of the run
 module _ (p : ℕ) (r : Run) (s : Pass) where

@@ -61,6 +61,7 @@ module _ (p : ℕ) (r : Run) (s : Pass) where
       let full = holds (wellFormed p r s) (isFull (r .mode)) (holds (fullFormed p r s) _ e .0) .1 in
       tested p (keptMessage r m) s
       (record {
+        version = t .version;
         some = t .some;
         most = t .most;
         rounds = t .rounds;
@@ -76,6 +77,7 @@ module _ (p : ℕ) (r : Run) (s : Pass) where
       let t = h .tests in
       tested p (keptEnds r a b) s
       (record {
+        version = t .version;
         some = t .some;
         most = t .most;
         rounds = t .rounds;
@@ -102,6 +104,7 @@ module _ (p : ℕ) (r : Run) (s : Pass) where
       let t = h .tests in
       tested p (keptChallenge r c) s
       (record {
+        version = t .version;
         some = t .some;
         most = t .most;
         rounds = t .rounds;

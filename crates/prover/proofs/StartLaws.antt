@@ -25,7 +25,7 @@ use Rattle.pass.specs.Formed.{passFormed, turnFormed}
 use Rattle.prover.specs.WellFormed.{wellFormed}
 use Rattle.item.specs.declared.Start.{Start}
 use Rattle.item.specs.Version.{versionFits}
-use Rattle.item.specs.Start.{countFits, listFits, plainStart, twistedStart, ruleStart}
+use Rattle.item.specs.Start.{countFits, listFits, versionKept, plainStart, twistedStart, ruleStart}
 use Rattle.prover.specs.Start.{freshRun, zeroPass, started, startPlain, startTwisted, startRule, startOpenings}
 use Rattle.prover.proofs.Decides.{Decides, decide-both, not-so, at-most, below, Nonzero, nonzero, IsVersion, version-fits}
 use Rattle.prover.proofs.StartFacts.{plainRun, twistedRun, ruleRun, opensRun, plain-answered, twisted-answered, rule-answered}
@@ -133,11 +133,12 @@ pub rule-starts : (p rounds v : ℕ) → rounds ≤ maxRounds → Nonzero p v �
 rule-starts p rounds v h e = rule-answered p rounds v (le-leb rounds maxRounds h) (nonzero p v .back e)
 
 -- A fresh run with a closed pass is well formed.
-pub fresh-formed : (p : ℕ) (start : Start) → InCount (start .items) → start .rounds ≡ roundsOf (start .items)
-    → wellFormed p (freshRun start) zeroPass ≡ true
+pub fresh-formed : (p : ℕ) (start : Start) → versionKept (start .plain) (start .version) ≡ true → InCount (start .items)
+    → start .rounds ≡ roundsOf (start .items) → wellFormed p (freshRun start) zeroPass ≡ true
 unfolding wellFormed turnFormed passFormed inLimits
-fresh-formed p start h e =
+fresh-formed p start v h e =
     simp (
+      v,
       le-ltb (start .items) 1 (h .0),
       le-ltb maxItems (start .items) (h .1),
       eq-eqb (start .rounds) (roundsOf (start .items)) e,
@@ -168,14 +169,14 @@ as-started p o r e h = ap (λ x. wellFormed p (x .run) (x .pass)) e ∙ h
 pub plain-formed : (p items version : ℕ) (o : Out) → startPlain items version ≡ answered o → wellFormed p (o .run) (o .pass) ≡ true
 plain-formed p items version o e =
     let h = subst (PlainSays items version) e (plain-says items version) in
-    as-started p o (plainRun items version) (h .2) (fresh-formed p (plainStart items version) (h .1) refl)
+    as-started p o (plainRun items version) (h .2) (fresh-formed p (plainStart items version) (version-fits version .back (h .0)) (h .1) refl)
 
 pub twisted-formed : (p items : ℕ) (twists : List ℕ) (o : Out) → startTwisted p items twists ≡ answered o → wellFormed p (o .run) (o .pass) ≡ true
 twisted-formed p items twists o e =
     let h =
     of-answer (InCount items) (Twists p (roundsOf items) twists) (twistedRun p items twists) (startTwisted p items twists) o (twisted-says p items twists) e
     in
-    as-started p o (twistedRun p items twists) (h .1) (fresh-formed p (twistedStart items twists) (h .0) refl)
+    as-started p o (twistedRun p items twists) (h .1) (fresh-formed p (twistedStart items twists) refl (h .0) refl)
 
 -- 2^n items need n rounds
 pub rule-formed : (p rounds v : ℕ) (o : Out) → startRule p rounds v ≡ answered o → wellFormed p (o .run) (o .pass) ≡ true
@@ -183,7 +184,7 @@ rule-formed p rounds v o e =
     let h = of-answer (rounds ≤ maxRounds) (Nonzero p v) (ruleRun p rounds v) (startRule p rounds v) o (rule-says p rounds v) e in
     let most : 2 ^ rounds ≤ 2 ^ 15 = pow-mono (h .0) in
     as-started p o (ruleRun p rounds v) (h .1)
-    (fresh-formed p (ruleStart p rounds v) (pow-pos rounds, most) (sym (rounds-power rounds (h .0))))
+    (fresh-formed p (ruleStart p rounds v) refl (pow-pos rounds, most) (sym (rounds-power rounds (h .0))))
 
 pub openings-formed : (p items : ℕ) (cs : List ℕ) (o : Out) → startOpenings p items cs ≡ answered o → wellFormed p (o .run) (o .pass) ≡ true
 openings-formed p items cs o e =

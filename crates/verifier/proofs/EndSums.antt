@@ -17,7 +17,7 @@ use Rattle.vector.specs.Fold.{combine, endValue}
 use Rattle.item.specs.declared.Given.{Given}
 use Rattle.item.specs.declared.Item.{Item}
 use Rattle.item.specs.declared.Start.{Start}
-use Rattle.item.specs.Start.{countFits}
+use Rattle.item.specs.Start.{countFits, versionKept}
 use Rattle.item.specs.Item.{contributes, partsOf}
 use Rattle.vector.proofs.Rounds.{rounds-at-most, rounds-enough}
 use Rattle.vector.proofs.Folds.{fold-challenges}
@@ -84,10 +84,11 @@ module _ (p : ℕ) (start : Start) (given : ℕ → Given) where
     unfoldable pub state : ℕ → Verifier
     state = passing p (freshVerifier start challenges) toF toG
 
-    module _ (count : countFits (start .items) ≡ true) (own : start .rounds ≡ roundsOf (start .items)) where
+    module _ (known : versionKept (start .plain) (start .version) ≡ true) (count : countFits (start .items) ≡ true)
+        (own : start .rounds ≡ roundsOf (start .items)) where
       pub open-while : (m : ℕ) → m ≤ start .items → passOpen (state m) ≡ true
       unfolding passOpen wellFormed turnOf freshVerifier state
-      open-while m h = rw (count, eq-eqb (start .rounds) (roundsOf (start .items)) own, le-leb m (start .items) h)
+      open-while m h = rw (known, count, eq-eqb (start .rounds) (roundsOf (start .items)) own, le-leb m (start .items) h)
 
       -- where every item passes its checks, the sums are as above
       module _ (fits : (i : ℕ) → i < start .items → partsOf p start i (given i) ≡ answered (contributes p start (given i))) where

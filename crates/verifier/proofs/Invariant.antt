@@ -11,7 +11,7 @@ use Rattle.refusal.specs.Check.{passed}
 use Rattle.refusal.proofs.Outcome as tests
 use Rattle.vector.specs.Rounds.{roundsOf}
 use Rattle.vector.proofs.Rounds.{rounds-at-most}
-use Rattle.item.specs.Start.{countFits}
+use Rattle.item.specs.Start.{countFits, versionKept}
 use Rattle.verifier.specs.declared.Verifier.{Verifier}
 use Rattle.verifier.specs.WellFormed.{turnOf, turnFits, wellFormed}
 use Rattle.verifier.specs.Calls.{passOpen, messageTurn, verdictTurn, hasRounds}
@@ -36,8 +36,9 @@ pub not-true : (b : Bool) → not b ≡ true → b ≡ false
 not-true true h = absurd (true≢false (sym h))
 not-true false h = refl
 
--- the three parts of the test
+-- the parts of the test
 pub record Parts (v : Verifier) : Type 0 where
+  pub version : versionKept (v .start .plain) (v .start .version) ≡ true
   pub count : countFits (v .start .items) ≡ true
   pub rounds : eqb (v .start .rounds) (roundsOf (v .start .items)) ≡ true
   pub turn : turnFits v ≡ true
@@ -45,13 +46,14 @@ pub record Parts (v : Verifier) : Type 0 where
 pub parts-of : (v : Verifier) → wellFormed v ≡ true → Parts v
 unfolding wellFormed
 parts-of v h =
-    let outer = both (countFits (v .start .items)) (cond (eqb (v .start .rounds) (roundsOf (v .start .items))) (turnFits v) false) h in
+    let known = both (versionKept (v .start .plain) (v .start .version)) _ h in
+    let outer = both (countFits (v .start .items)) (cond (eqb (v .start .rounds) (roundsOf (v .start .items))) (turnFits v) false) (known .1) in
     let inner = both (eqb (v .start .rounds) (roundsOf (v .start .items))) (turnFits v) (outer .1) in
-    record { count = outer .0; rounds = inner .0; turn = inner .1 }
+    record { version = known .0; count = outer .0; rounds = inner .0; turn = inner .1 }
 
 pub formed-of : (v : Verifier) → Parts v → wellFormed v ≡ true
 unfolding wellFormed
-formed-of v h = rw (h .count, h .rounds, h .turn)
+formed-of v h = rw (h .version, h .count, h .rounds, h .turn)
 
 pick-true : (a x y : Bool) → a ≡ true → cond a x y ≡ true → x ≡ true
 pick-true true x y e h = h
@@ -163,19 +165,24 @@ turn-open v = turn-plain (v .closed) (v .failed) (v .round) (v .start .rounds) (
 
 -- the tests of a record as the code makes them
 module _ (v : Verifier) where
-  pub other-count : countFits (v .start .items) ≡ false → false ≡ wellFormed v
+  pub other-version : versionKept (v .start .plain) (v .start .version) ≡ false → false ≡ wellFormed v
   unfolding wellFormed
-  other-count a = rw a
+  other-version a = rw a
 
-  pub other-rounds : {k : ℕ} → countFits (v .start .items) ≡ true → k ≡ roundsOf (v .start .items) → eqb (v .start .rounds) k ≡ false
-      → false ≡ wellFormed v
-  unfolding wellFormed
-  other-rounds {k} a e h = rw (a, ← e, h)
+  module _ (known : versionKept (v .start .plain) (v .start .version) ≡ true) where
+    pub other-count : countFits (v .start .items) ≡ false → false ≡ wellFormed v
+    unfolding wellFormed
+    other-count a = rw (known, a)
 
-  pub fixed-start : {k : ℕ} → countFits (v .start .items) ≡ true → k ≡ roundsOf (v .start .items) → eqb (v .start .rounds) k ≡ true
-      → turnFits v ≡ wellFormed v
-  unfolding wellFormed
-  fixed-start {k} a e h = rw (a, ← e, h)
+    pub other-rounds : {k : ℕ} → countFits (v .start .items) ≡ true → k ≡ roundsOf (v .start .items) → eqb (v .start .rounds) k ≡ false
+        → false ≡ wellFormed v
+    unfolding wellFormed
+    other-rounds {k} a e h = rw (known, a, ← e, h)
+
+    pub fixed-start : {k : ℕ} → countFits (v .start .items) ≡ true → k ≡ roundsOf (v .start .items) → eqb (v .start .rounds) k ≡ true
+        → turnFits v ≡ wellFormed v
+    unfolding wellFormed
+    fixed-start {k} a e h = rw (known, a, ← e, h)
 
   never : (b : Bool) → cond b false false ≡ false
   never true = refl

@@ -19,7 +19,7 @@ use Rattle.item.specs.declared.Given.{Given}
 use Rattle.item.specs.declared.Item.{Item}
 use Rattle.item.specs.declared.Start.{Start}
 use Rattle.item.specs.Item.{partsOf}
-use Rattle.item.specs.Start.{countFits}
+use Rattle.item.specs.Start.{countFits, versionKept}
 use Rattle.verifier.specs.declared.Verifier.{Verifier}
 use Rattle.verifier.specs.Reply as reply
 use Rattle.verifier.specs.Records.{Replied, leaves, blank}
@@ -30,12 +30,13 @@ use Rattle.verifier.specs.Claims.{messageOf3, closedWith, closes, passed
 use Rattle.verifier.specs.Calls.{passOpen, withParts, give, close, closeClaim, messageTurn, allReduced3, message}
 use Rattle.verifier.proofs.Invariant.{both, unless, not-true, turn-open, parts-of, formed-of, open-turn, closed-taken, closed-turn}
 
-pub fresh-formed : (start : Start) (challenges : List ℕ) → countFits (start .items) ≡ true → start .rounds ≡ roundsOf (start .items)
-    → wellFormed (freshVerifier start challenges) ≡ true
+pub fresh-formed : (start : Start) (challenges : List ℕ) → versionKept (start .plain) (start .version) ≡ true → countFits (start .items) ≡ true
+    → start .rounds ≡ roundsOf (start .items) → wellFormed (freshVerifier start challenges) ≡ true
 unfolding freshVerifier
-fresh-formed start challenges h own =
+fresh-formed start challenges known h own =
     formed-of (freshVerifier start challenges)
     (record {
+      version = known;
       count = h;
       rounds = eq-eqb (start .rounds) (roundsOf (start .items)) own;
       turn = sym (turn-open (freshVerifier start challenges) refl refl refl) ∙ le-leb 0 (start .items) (omega arith);
@@ -74,6 +75,7 @@ module _ (p : ℕ) (v : Verifier) (formed : wellFormed v ≡ true) where
         kept =
             formed-of w
             (record {
+              version = a .version;
               count = a .count;
               rounds = a .rounds;
               turn = sym (turn-open w (was-open o) (e .going) (e .first)) ∙ le-leb (v .taken + 1) (v .start .items) (omega arith);
@@ -87,7 +89,7 @@ module _ (p : ℕ) (v : Verifier) (formed : wellFormed v ≡ true) where
       let e = open-turn v (a .turn) (was-open o) in
       let z = e .first in
       let w = closedWith v claim in
-      record { kept = formed-of w (record { count = a .count; rounds = a .rounds; turn = closed-turn w refl t (omega arith) }) }
+      record { kept = formed-of w (record { version = a .version; count = a .count; rounds = a .rounds; turn = closed-turn w refl t (omega arith) }) }
 
   pub give-kept : (given : Given) → wellFormed (leaves v (give p v given) .verifier) ≡ true
   unfolding give
@@ -128,8 +130,8 @@ module _ (p : ℕ) (v : Verifier) (formed : wellFormed v ≡ true) where
             by (eqb (passes p m) (v .claim)) (record { verifier = passedWith p v m; reply = reply.passed })
             (record { verifier = failedNow v; reply = reply.no (v .round) })
             (formed-of (passedWith p v m)
-            (record { count = a .count; rounds = a .rounds; turn = closed-turn (passedWith p v m) (c .0) all (omega arith) }))
-            (formed-of (failedNow v) (record { count = a .count; rounds = a .rounds; turn = closed-turn (failedNow v) (c .0) all (omega arith) }));
+            (record { version = a .version; count = a .count; rounds = a .rounds; turn = closed-turn (passedWith p v m) (c .0) all (omega arith) }))
+            (formed-of (failedNow v) (record { version = a .version; count = a .count; rounds = a .rounds; turn = closed-turn (failedNow v) (c .0) all (omega arith) }));
       }
     where
       by : (b : Bool) (s t : Replied) → wellFormed (s .verifier) ≡ true → wellFormed (t .verifier) ≡ true → wellFormed (cond b s t .verifier) ≡ true

@@ -24,7 +24,7 @@ use Rattle.vector.specs.Message as vector
 use Rattle.wire.specs.Proof.{proofSize, proofFile, proofValues, writeProof, writtenIn}
 use Rattle.wire.proofs.ProofOf.{own-file}
 use Rattle.wire.proofs.RoundTrip.{thirds, ReadsAs, good, messages-same, ends-same, write-reads-back}
-use Rattle.item.specs.Version.{inRange}
+use Rattle.item.specs.Version.{versionFits, inRange}
 use Rattle.item.specs.Start.{countFits, listFits}
 use Rattle.verifier.specs.declared.Verifier.{Verifier}
 use Rattle.verifier.specs.Records.{yes}
@@ -52,7 +52,7 @@ read-message p file n t ms f g r m l i h =
     let x = l i h in
     same-message (e .0 ∙ x .0) (e .1 ∙ x .1) (e .2 ∙ x .2)
 
-module _ (p items version : ℕ) (cs : List ℕ) (readings : ℕ → ℤ) (weights : Vector) (large : maxWeight < p) (count : countFits items ≡ true)
+module _ (p items version : ℕ) (cs : List ℕ) (readings : ℕ → ℤ) (weights : Vector) (large : maxWeight < p) (known : versionFits version ≡ true) (count : countFits items ≡ true)
     (list : listFits p (roundsOf items) cs ≡ true) (fine : (i : ℕ) → i < items → weights i ≤ maxWeight)
     (ranged : (i : ℕ) → i < items → inRange version (readings i) ≡ true) where
   abbrev n : ℕ
@@ -67,11 +67,11 @@ module _ (p items version : ℕ) (cs : List ℕ) (readings : ℕ → ℤ) (weigh
   abbrev pub endG : ℕ
   endG = endValue p (at cs) n (weightVector p items version cs readings weights)
 
-  reached : v ≡ plainState p items version cs readings weights large count list fine ranged items
-  reached = plain-reaches p items version cs readings weights large count list fine ranged
+  reached : v ≡ plainState p items version cs readings weights large known count list fine ranged items
+  reached = plain-reaches p items version cs readings weights large known count list fine ranged
 
   sums : (v .fsum ≡ endF) × (v .gsum ≡ endG)
-  sums = plain-ends p items version cs readings weights large count list fine ranged
+  sums = plain-ends p items version cs readings weights large known count list fine ranged
 
   rounds-own : v .start .rounds ≡ n
   unfolding freshVerifier state
@@ -83,8 +83,8 @@ module _ (p items version : ℕ) (cs : List ℕ) (readings : ℕ → ℤ) (weigh
   plain-finds file e =
       file-finds p v file (proof-answered p v file e)
       ∙ ap (λ w. fileVerdictOf p (at (w .challenges)) (w .start .rounds) file (v .fsum) (v .gsum)) reached
-      ∙ file-verdict-same p n (at (kept p items version cs readings weights large count list fine ranged)) (at cs)
-      (plain-agree p items version cs readings weights large count list fine ranged) file (v .fsum) (v .gsum)
+      ∙ file-verdict-same p n (at (kept p items version cs readings weights large known count list fine ranged)) (at cs)
+      (plain-agree p items version cs readings weights large known count list fine ranged) file (v .fsum) (v .gsum)
       ∙ ap₂ (fileVerdictOf p (at cs) n file) (sums .0) (sums .1)
 
   -- DEMAND 2 FOR A PLAIN RUN'S FILE, BOTH WAYS
@@ -109,7 +109,7 @@ module _ (p items version : ℕ) (cs : List ℕ) (readings : ℕ → ℤ) (weigh
   true-claims =
       verdict-yes p (at cs) n (image p total) roundMessage (mulMod p endF endG)
       .0
-      (ap (λ x. verdictOf p (at cs) n x roundMessage (mulMod p endF endG)) (plain-claim p items version cs readings weights large count list fine ranged)
+      (ap (λ x. verdictOf p (at cs) n x roundMessage (mulMod p endF endG)) (plain-claim p items version cs readings weights large known count list fine ranged)
       ∙ true-messages p n (at cs) (readingVector p items version cs readings weights) (weightVector p items version cs readings weights))
 
   -- COMPLETENESS: a file that reads as the trip's total, messages and end values
@@ -127,7 +127,7 @@ module _ (p items version : ℕ) (cs : List ℕ) (readings : ℕ → ℤ) (weigh
       in
       let o : proof p v file ≡ answered (judges p v total file) =
       sym
-      (row-file p v file (plain-open p items version cs readings weights large count list fine ranged)
+      (row-file p v file (plain-open p items version cs readings weights large known count list fine ranged)
       (ap (λ w. eqb (w .taken) (w .start .items)) reached ∙ eq-eqb items items refl)
       (ap (λ w. w .start .plain) reached)
       (sym (own-file p (v .start .rounds) file _ g (sym rounds-own))))

@@ -25,7 +25,7 @@ use Rattle.vector.proofs.Rounds.{rounds-enough}
 use Rattle.vector.proofs.Sums.{running-product}
 use Rattle.vector.proofs.Overwrite.{fifteen-at}
 use Rattle.vector.proofs.Messages.{dot-padded}
-use Rattle.item.specs.Version.{inRange}
+use Rattle.item.specs.Version.{versionFits, inRange}
 use Rattle.item.specs.Start.{countFits, listFits, plainStart}
 use Rattle.item.proofs.PartsRows.{reading-taken}
 use Rattle.verifier.specs.declared.Verifier.{Verifier}
@@ -64,7 +64,7 @@ module _ (p items version : ℕ) (cs : List ℕ) (readings : ℕ → ℤ) (weigh
   abbrev pub afterPlain : Verifier
   afterPlain = afterCalls (givenItems p (readingItems readings weights)) (plainVerifier items version cs) items
 
-  module _ (large : maxWeight < p) (count : countFits items ≡ true) (list : listFits p (roundsOf items) cs ≡ true)
+  module _ (large : maxWeight < p) (known : versionFits version ≡ true) (count : countFits items ≡ true) (list : listFits p (roundsOf items) cs ≡ true)
       (fine : (i : ℕ) → i < items → weights i ≤ maxWeight)
       (ranged : (i : ℕ) → i < items → inRange version (readings i) ≡ true) where
     abbrev pub kept : List ℕ
@@ -84,6 +84,7 @@ module _ (p items version : ℕ) (cs : List ℕ) (readings : ℕ → ℤ) (weigh
     plain-run =
         record {
           start = plainStart items version;
+          known = known;
           count = count;
           own = refl;
           challenges = kept;

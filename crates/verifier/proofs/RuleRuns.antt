@@ -66,6 +66,7 @@ module _ (p n v : ℕ) (cs : List ℕ) (f g : Vector) where
     rule-run =
         record {
           start = ruleStart p n v;
+          known = refl;
           count = rule-count n small;
           own = sym (rounds-power n small);
           challenges = fifteen n cs;

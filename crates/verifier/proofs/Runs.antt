@@ -23,7 +23,7 @@ use Rattle.vector.specs.Message as vector
 use Rattle.vector.specs.Slice.{allNonzero}
 use Rattle.item.specs.declared.Given.{Given}
 use Rattle.item.specs.declared.Start.{Start}
-use Rattle.item.specs.Start.{countFits, listFits}
+use Rattle.item.specs.Start.{countFits, listFits, versionKept}
 use Rattle.item.specs.Item.{contributes, partsOf}
 use Rattle.verifier.specs.declared.Verifier.{Verifier}
 use Rattle.verifier.specs.WellFormed.{turnOf, wellFormed}
@@ -44,6 +44,7 @@ AllReduced p n m = (i : ℕ) → i < n → allReduced3 p (m i .even) (m i .cross
 -- A run of items that pass their checks, where F enters the sum of f, and the first n challenges kept are c's
 pub record Run (p : ℕ) : Type 0 where
   pub start : Start
+  pub known : versionKept (start .plain) (start .version) ≡ true
   pub count : countFits (start .items) ≡ true
   pub own : start .rounds ≡ roundsOf (start .items)
   pub challenges : List ℕ
@@ -76,16 +77,16 @@ module _ (p : ℕ) (r : Run p) where
   done = afterCalls (givenItems p (r .given)) fresh L
 
   pub reaches : done ≡ ready
-  reaches = after-items p (r .start) (r .given) (r .challenges) (r .count) (r .own) (r .fits) L (omega arith)
+  reaches = after-items p (r .start) (r .given) (r .challenges) (r .known) (r .count) (r .own) (r .fits) L (omega arith)
 
   pub ready-open : passOpen ready ≡ true
-  ready-open = open-while p (r .start) (r .given) (r .challenges) (r .count) (r .own) L (omega arith)
+  ready-open = open-while p (r .start) (r .given) (r .challenges) (r .known) (r .count) (r .own) L (omega arith)
 
   closed-start : (claim : ℕ) → Closed (closedWith ready claim)
   unfolding closedWith freshVerifier state wellFormed turnOf
   closed-start claim =
       record {
-        formed = rw (r .count, eq-eqb n (roundsOf L) (r .own), eq-eqb L L refl, le-leb 0 n (omega arith));
+        formed = rw (r .known, r .count, eq-eqb n (roundsOf L) (r .own), eq-eqb L L refl, le-leb 0 n (omega arith));
         closed = refl;
         going = refl;
         first = refl;

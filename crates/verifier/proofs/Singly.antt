@@ -117,6 +117,7 @@ module _ (v w : Verifier) (g : Going v w (v .start .rounds)) where
       let f = formed-says w (g .formed) in
       formed-of (failedNow w)
       (record {
+        version = a .version;
         count = a .count;
         rounds = a .rounds;
         turn = closed-turn (failedNow w) (g .closed) (closed-taken w (a .turn) (g .closed)) (f .turn);

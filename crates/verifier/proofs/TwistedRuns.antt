@@ -58,6 +58,7 @@ module _ (p items : ℕ) (vs cs : List ℕ) (f g : Vector) where
     twisted-run =
         record {
           start = twistedStart items vs;
+          known = refl;
           count = count;
           own = refl;
           challenges = keptChallenges;

@@ -48,6 +48,7 @@ formed-with v h closed claim round failed le =
     let w = withClaim v claim round failed in
     formed-of w
     (record {
+      version = parts .version;
       count = parts .count;
       rounds = parts .rounds;
       turn = closed-turn w closed (closed-taken v (parts .turn) closed) le;

@@ -3,7 +3,7 @@ use Prim.Native.Nat.{ℕ}
 use mathlib.Core.Bool.{Bool, false, cond}
 use lib.Dec.{eqb, leb}
 use Rattle.vector.specs.Rounds.{roundsOf}
-use Rattle.item.specs.Start.{countFits}
+use Rattle.item.specs.Start.{countFits, versionKept}
 use Rattle.verifier.specs.declared.Verifier.{Verifier}
 
 -- closed with every item taken; before that no message, and so no failure
@@ -16,4 +16,7 @@ turnFits v = turnOf (v .start .items) (v .start .rounds) (v .closed) (v .taken) 
 
 -- a start that a call fixed, and a turn that fits it
 unfoldable pub wellFormed : Verifier → Bool
-wellFormed v = cond (countFits (v .start .items)) (cond (eqb (v .start .rounds) (roundsOf (v .start .items))) (turnFits v) false) false
+wellFormed v =
+    cond (versionKept (v .start .plain) (v .start .version))
+    (cond (countFits (v .start .items)) (cond (eqb (v .start .rounds) (roundsOf (v .start .items))) (turnFits v) false) false)
+    false

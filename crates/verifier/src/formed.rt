@@ -30,6 +30,9 @@ pub fn returned(v: Verifier) -> Check
     ensures { λ r. ⌜ passed r ≡ wellFormed v ⌝ }
 {
     let start = v.start;
+    let Check::Passed = item::starts::version_kept(start.plain, start.version) else {
+        return Check::Failed;
+    };
     let Check::Passed = item::starts::count_fits(start.items) else {
         return Check::Failed;
     };
