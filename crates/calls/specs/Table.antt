@@ -92,7 +92,7 @@ bothLong a l = leb (long a) (length (l .f)) && leb (long a) (length (l .g))
 abbrev pub readRows : ℕ → State → Lent → Option Refusal
 readRows p a l = row (bothLong a l) 9 (row (allReduced p (long a) (l .f) && allReduced p (long a) (l .g)) 16 none)
 
--- an item of the other kind of run is not next; "weight above 1,440", then a reading "outside its version's range", with the index i; a
+-- an item of the other kind of run is not next; "weight over 1,440", then a reading "outside its version's range", with the index i; a
 -- number "P or more"
 abbrev pub givenRows : ℕ → Start → ℕ → Given → Option Refusal → Option Refusal
 givenRows p s i (Reading r w) rest = row (s .plain) 10 (rowAt (leb w maxWeight) 5 i (rowAt (inRange (s .version) r) 18 i rest))

@@ -9,7 +9,7 @@ use Rattle.field.specs.Modulus.{modulus}
 use Rattle.vector.specs.Rounds.{roundsOf}
 use Rattle.vector.specs.Slice.{every, isNonzero}
 use Rattle.wire.specs.Number.{numAt}
-use Rattle.wire.specs.Log.{Head, readLogWithin}
+use Rattle.wire.specs.Log.{Head, headWith, readLogWithin}
 use Rattle.trip.specs.declared.input.Input.{Input}
 use Rattle.trip.specs.declared.input.Input.the-variants.{Items, Refused}
 
@@ -37,9 +37,6 @@ abbrev pub readTrip : Outcome Head → List ℕ → Outcome Head
 readTrip (answered head) numbers = readNumbers head numbers
 readTrip (refused k) numbers = refused k
 readTrip (refusedAt k i) numbers = refused k
-
-abbrev pub headWith : ℕ → ℕ → Head
-headWith items version = record { count = items; version = version }
 
 abbrev pub inputOf : Input → Outcome Head
 inputOf (Items items version) = answered (headWith items version)
