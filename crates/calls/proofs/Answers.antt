@@ -59,7 +59,7 @@ use Rattle.calls.proofs.Refusals.{refused-with, Inv, Faithful, goes, st
 use Rattle.calls.proofs.Agrees.{tripAt, Agrees, pass-taken, round-most}
 use Rattle.calls.proofs.KeptCalls.{ItemKept, KeptBy, kept-by}
 use Rattle.calls.proofs.Rights.{right, item-written-so}
-use Rattle.calls.proofs.Keeps.{opened-agrees, to-full-agrees, item-agrees, close-agrees, full-message, full-ends, challenge-agrees}
+use Rattle.calls.proofs.Keeps.{opened-agrees, to-full-agrees, item-agrees, close-agrees, returned-agrees, full-message, full-ends, challenge-agrees}
 
 module _ (p : ℕ) (large : maxWeight < p) (through : Bool) (its : List Given) (a : State) {past : Notes} (h : Fits p a past) (g : Agrees p through its a past)
     (whole : length its ≡ a .start .items) (l : Lent) where
@@ -133,7 +133,7 @@ module _ (p : ℕ) (large : maxWeight < p) (through : Bool) (its : List Given) (
   agrees-next (call.OpenAt b) e kept =
       opened-agrees p large through its a h g whole l b (both (isSmall (a .turn .mode)) (openingsNext (a .turn .next) (a .start .rounds)) (row-passed (isSmall (a .turn .mode) && openingsNext (a .turn .next) (a .start .rounds)) 10 _ e .0) .0)
   agrees-next call.ToFull e kept = to-full-agrees p large through its a h g whole l e
-  agrees-next call.ToSmall e kept = absurd (some-none e)
+  agrees-next call.ToSmall e kept = returned-agrees p large through its a h g whole l
   agrees-next (call.Give x) e kept = item-next x (item-admitted p a l x e) kept
   agrees-next call.Close e kept = close-next e
   agrees-next call.Message e kept = message-next e kept

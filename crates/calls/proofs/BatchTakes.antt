@@ -60,7 +60,7 @@ module _ (p : ℕ) (cs : List ℕ) where
   goes-late a call.OpenPass l m t h = h
   goes-late a (call.OpenAt b) l m t h = h
   goes-late a call.ToFull l m t h = h
-  goes-late a call.ToSmall l m t h = h
+  goes-late a call.ToSmall l m t h = record { openings = h .openings; challenges = h .challenges }
   goes-late a (call.Give x) l m t h = subst (Late cs) (sym (buffers-same (λ d. d .turn) (λ a l. refl) (isChange (a .pass .kind)) _ m)) h
   goes-late a call.Close l m t h = closed-late cs a (a .turn .next) (a .pass .kind) (h .openings) h
   goes-late a call.Message l m t h =

@@ -18,6 +18,7 @@ use Rattle.phase.specs.Cases.{waits}
 use Rattle.verifier.specs.declared.Verifier.{Verifier}
 use Rattle.verifier.specs.Starts.{verifierOf}
 use Rattle.runs.specs.Trip.{Trip, tripItem}
+use Rattle.calls.specs.declared.Call.{Call}
 use Rattle.calls.specs.declared.Call.the-variants as call
 use Rattle.calls.specs.Lists.{after, along, always, somewhere, collected}
 use Rattle.calls.specs.Step.{Lent, Result, isAnswered}
@@ -253,26 +254,26 @@ module _ (p : ℕ) (large : maxWeight < p) (prime : Prime p) (odd : p % 2 ≡ 1)
           (λ b v s. all-agreed checked Pointed each-checked fresh going ms kept takes within b v s refl))
 
 -- A PROPER RUN'S
-module _ (p : ℕ) (large : maxWeight < p) (prime : Prime p) (odd : p % 2 ≡ 1) (word : p ≤ 2 ^ 32) (T : Trip) (valid : Valid p T) (k : ℕ) (cs bs : List ℕ) (l : Lent)
-    (brings : Brings p T k cs bs l) where
+module _ (p : ℕ) (large : maxWeight < p) (prime : Prime p) (odd : p % 2 ≡ 1) (word : p ≤ 2 ^ 32) (T : Trip) (valid : Valid p T) (full : ℕ → Bool) (cs bs : List ℕ)
+    (idle : Call → ℕ → Lent) (brings : Brings p T full cs bs idle) (f g : List ℕ) where
   abbrev begin : World
-  begin = freshWorld (T .start) (l .f) (l .g)
+  begin = freshWorld (T .start) f g
 
   abbrev ms : List Made
-  ms = properRun p T k cs bs l
+  ms = properRun p T full cs bs idle f g
 
   -- answered throughout, and as is asked
   pub proper-run : AllProper p cs T begin ms
   proper-run =
-      let answered = proper-answered p large T valid k cs bs l brings in
-      (answered, proper-kept p large T valid k cs bs l brings, proper-takes p T k cs bs l answered)
+      let answered = proper-answered p large T valid full cs bs idle brings f g in
+      (answered, proper-kept p large T valid full cs bs idle brings f g, proper-takes p T idle full cs bs f g answered)
 
   abbrev h : Hearing
   h = freshHearing (T .start) cs
 
   pub proper-messages : AllAgreed p h (byMessages p T begin ms) × AllBringRun p T begin ms h (byMessages p T begin ms)
   proper-messages =
-      messages-agreed p large prime odd word true T valid cs (brings .count) begin ms (l .f) (l .g) ms (proper-run .1 true) (proper-run .2)
+      messages-agreed p large prime odd word true T valid cs (brings .count) begin ms f g ms (proper-run .1 true) (proper-run .2)
       (λ q x gave. gave)
 
   module _ (plain : T .start .plain ≡ true) (m : Lent) (room : proofSize (T .start .rounds) ≤ length (m .file)) where
@@ -290,14 +291,14 @@ module _ (p : ℕ) (large : maxWeight < p) (prime : Prime p) (odd : p % 2 ≡ 1)
     longer = ms ++ writesProof m ∷ []
 
     ended : waits next.Openings (ending .state .turn .next) ≡ true
-    ended = proper-ended p large T valid k cs bs l brings
+    ended = proper-ended p large T valid full cs bs idle brings f g
 
     within : (q : Question) (x : Answer) → Gave p begin ms q x → Gave p begin longer q x
     within q x gave = somewhere-more (onward p) _ begin ms (writesProof m) gave
 
     filed-answered : isAnswered (filed .answer) ≡ true
     filed-answered =
-        write-answered p large prime odd word true T valid cs (brings .count) begin longer (l .f) (l .g) ms (proper-run .1 true) (proper-run .2) within plain ended m room
+        write-answered p large prime odd word true T valid cs (brings .count) begin longer f g ms (proper-run .1 true) (proper-run .2) within plain ended m room
 
     pub proper-longer : AllProper p cs T begin longer
     proper-longer = (
@@ -309,13 +310,13 @@ module _ (p : ℕ) (large : maxWeight < p) (prime : Prime p) (odd : p % 2 ≡ 1)
     )
 
     pub proper-written : file ≡ proofOfTrip p T cs
-    proper-written = written p large prime odd word true T valid cs (brings .count) begin longer (l .f) (l .g) ms (proper-run .1 true) (proper-run .2) within plain ended m room
+    proper-written = written p large prime odd word true T valid cs (brings .count) begin longer f g ms (proper-run .1 true) (proper-run .2) within plain ended m room
 
     pub proper-file : AllAgreed p h (byFile p T begin ms file) × AllBringRun p T begin longer h (byFile p T begin ms file)
     proper-file =
-        file-agreed p large prime odd word true T valid cs (brings .count) begin longer (l .f) (l .g) ms (proper-run .1 true) (proper-run .2) within plain ended m room
+        file-agreed p large prime odd word true T valid cs (brings .count) begin longer f g ms (proper-run .1 true) (proper-run .2) within plain ended m room
         (somewhere-last (onward p) _ begin ms (writesProof m) (
           (filed-answered, refl),
           ap (λ s. take (proofSize (s .rounds)) (filed .lent .file))
-              (start-kept p large prime odd word true T valid cs (brings .count) begin longer (l .f) (l .g) ms (proper-run .1 true) (proper-run .2) within plain ended m room),
+              (start-kept p large prime odd word true T valid cs (brings .count) begin longer f g ms (proper-run .1 true) (proper-run .2) within plain ended m room),
         ))

@@ -4,7 +4,7 @@ use mathlib.Core.Bool.{Bool, true, false, cond}
 use mathlib.Core.List.{List, [], _∷_, _++_, append-assoc, append-nil}
 use Prim.Native.Nat.{ℕ, zero, suc, _+_}
 use native.Mathlib.Omega.{arith}
-use lib.Dec.{eqb, leb, ltb}
+use lib.Dec.{ltb}
 use lib.ListN.{length, length-append}
 use borrow.Author.Tests.{lt-ltb, le-ltb}
 use Rattle.phase.specs.declared.Next.{Next}
@@ -19,7 +19,7 @@ use Rattle.calls.specs.declared.Call.the-variants as call
 use Rattle.calls.specs.Step.{Lent, Result, isAnswered}
 use Rattle.calls.specs.State.{State, takesChallenge, goesOn, closed, follow}
 use Rattle.calls.specs.Meaning.{Question, total, roundMessage, ends, openingAt, proof, done, closeAsks, question}
-use Rattle.calls.specs.Proper.{itemsBelow, wholePass, answerBy, changeBefore, roundsFrom, openingsAt, endCalls, openingCalls, wholeRun}
+use Rattle.calls.specs.Proper.{itemsBelow, wholePass, answerBy, changeTo, before, changeBefore, roundsFrom, openingsFrom, endCalls, openingCalls, wholeRun}
 use Rattle.calls.proofs.LiveWorld.{buffers-same}
 
 -- what is carried over of an answered call
@@ -62,7 +62,7 @@ module _ (n : ℕ) where
   leads w call.OpenPass = ([], inPass w Asked 0)
   leads w (call.OpenAt b) = ([], inPass w Asked b)
   leads w call.ToFull = ([], inPass w Change 0)
-  leads w call.ToSmall = ([], w)
+  leads w call.ToSmall = ([], between (w .next) (w .round))
   leads w (call.Give x) = ([], w)
   leads w call.Close = closes w (w .next) (w .kind)
   leads w call.Message = (roundMessage (w .round) ∷ [], between next.Challenge (w .round))
@@ -186,15 +186,19 @@ module _ (T : Trip) where
   opening-asked true i b = record { asks = refl; ends-at = refl }
   opening-asked false i b = closing next.Openings i (call.OpenAt b) (record { next = next.Openings; kind = Asked; point = b; round = i }) _ _ refl refl
 
-  module _ (k : ℕ) where
-    change-asked : (j : ℕ) (t : Next) (i : ℕ) → Leads (between t i) (changeBefore T k j) [] (between t i)
-    change-asked j t i = by (eqb k j)
-      where
-        by : (b : Bool) → Leads (between t i) (cond b (wholePass T call.ToFull) []) [] (between t i)
-        by true = closing t i call.ToFull (record { next = t; kind = Change; point = 0; round = i }) _ _ refl refl
-        by false = nowhere (between t i)
+  change-asked : (was full : Bool) (t : Next) (i : ℕ) → Leads (between t i) (changeTo T was full) [] (between t i)
+  unfolding askedBy walk
+  change-asked false true t i = closing t i call.ToFull (record { next = t; kind = Change; point = 0; round = i }) _ _ refl refl
+  change-asked true false t i = record { asks = refl; ends-at = refl }
+  change-asked false false t i = nowhere (between t i)
+  change-asked true true t i = nowhere (between t i)
 
-    rounds-asked : (cs : List ℕ) (i : ℕ) → i + length cs ≡ n → Leads (between (roundOrEnds i n) i) (roundsFrom T k i cs) (roundsAsked i (length cs)) (between next.Ends n)
+  module _ (full : ℕ → Bool) where
+    -- a step with the change before it
+    step-asked : (j : ℕ) (t : Next) (i : ℕ) (asks : List Call) (qs : List Question) (v : Place) → Leads (between t i) asks qs v → Leads (between t i) (changeBefore T full j ++ asks) qs v
+    step-asked j t i asks qs v h = both _ _ _ (changeBefore T full j) asks [] qs (change-asked (before T full j) (full j) t i) h
+
+    rounds-asked : (cs : List ℕ) (i : ℕ) → i + length cs ≡ n → Leads (between (roundOrEnds i n) i) (roundsFrom T full i cs) (roundsAsked i (length cs)) (between next.Ends n)
     unfolding roundsFrom roundsAsked
     rounds-asked [] i e =
         let all : i ≡ n = omega arith in
@@ -202,32 +206,32 @@ module _ (T : Trip) where
         subst (λ v. Leads (between (roundOrEnds i n) i) [] [] v) (ap₂ between last all) (nowhere (between (roundOrEnds i n) i))
     rounds-asked (c ∷ cs) i e =
         let more : roundOrEnds i n ≡ next.Message = ap (λ b. cond b next.Message next.Ends) (lt-ltb i n (omega arith)) in
-        let asks : List Call = answerBy T (leb k i) call.OpenPass call.Message in
-        subst (λ t. Leads (between t i) (roundsFrom T k i (c ∷ cs)) (roundsAsked i (length (c ∷ cs))) (between next.Ends n)) (sym more)
-        (both _ _ _ (changeBefore T k i ++ asks) (call.Challenge c ∷ roundsFrom T k (suc i) cs) (roundMessage i ∷ []) (roundsAsked (suc i) (length cs))
-        (both _ _ _ (changeBefore T k i) asks [] (roundMessage i ∷ []) (change-asked i next.Message i) (message-asked (leb k i) i))
-        (first (between next.Challenge i) (call.Challenge c) (roundsFrom T k (suc i) cs) _ _ (rounds-asked cs (suc i) (omega arith))))
+        let asks : List Call = answerBy T (full i) call.OpenPass call.Message in
+        subst (λ t. Leads (between t i) (roundsFrom T full i (c ∷ cs)) (roundsAsked i (length (c ∷ cs))) (between next.Ends n)) (sym more)
+        (both _ _ _ (changeBefore T full i ++ asks) (call.Challenge c ∷ roundsFrom T full (suc i) cs) (roundMessage i ∷ []) (roundsAsked (suc i) (length cs))
+        (step-asked i next.Message i asks _ _ (message-asked (full i) i))
+        (first (between next.Challenge i) (call.Challenge c) (roundsFrom T full (suc i) cs) _ _ (rounds-asked cs (suc i) (omega arith))))
 
-    openings-asked : (bs : List ℕ) (i : ℕ) → Leads (between next.Openings i) (openingsAt T k bs) (openingsAsked bs) (between next.Openings i)
-    unfolding openingsAt openingsAsked
-    openings-asked [] i = nowhere (between next.Openings i)
-    openings-asked (b ∷ bs) i =
-        both _ _ _ (answerBy T (leb k (suc n)) (call.OpenAt b) (call.Opening b)) (openingsAt T k bs) (openingAt b ∷ []) (openingsAsked bs)
-        (opening-asked (leb k (suc n)) i b) (openings-asked bs i)
+    openings-asked : (bs : List ℕ) (j i : ℕ) → Leads (between next.Openings i) (openingsFrom T full j bs) (openingsAsked bs) (between next.Openings i)
+    unfolding openingsFrom openingsAsked
+    openings-asked [] j i = change-asked (before T full j) (full j) next.Openings i
+    openings-asked (b ∷ bs) j i =
+        let asks : List Call = answerBy T (full j) (call.OpenAt b) (call.Opening b) in
+        both _ _ _ (changeBefore T full j ++ asks) (openingsFrom T full (suc j) bs) (openingAt b ∷ []) (openingsAsked bs)
+        (step-asked j next.Openings i asks _ _ (opening-asked (full j) i b)) (openings-asked bs (suc j) i)
 
-    last-asked : (bs : List ℕ) (i : ℕ) → Leads (between next.Openings i) (openingCalls T k bs) (cond (ltb 0 n) (openingsAsked bs) []) (between next.Openings i)
+    last-asked : (bs : List ℕ) (i : ℕ) → Leads (between next.Openings i) (openingCalls T full bs) (cond (ltb 0 n) (openingsAsked bs) []) (between next.Openings i)
     last-asked bs i = by (ltb 0 n)
       where
-        by : (b : Bool) → Leads (between next.Openings i) (cond b (changeBefore T k (suc n) ++ openingsAt T k bs) []) (cond b (openingsAsked bs) []) (between next.Openings i)
-        by true = both _ _ _ (changeBefore T k (suc n)) (openingsAt T k bs) [] (openingsAsked bs) (change-asked (suc n) next.Openings i) (openings-asked bs i)
+        by : (b : Bool) → Leads (between next.Openings i) (cond b (openingsFrom T full (suc n) bs) []) (cond b (openingsAsked bs) []) (between next.Openings i)
+        by true = openings-asked bs (suc n) i
         by false = nowhere (between next.Openings i)
 
     pub whole-asked : (cs bs : List ℕ) → length cs ≡ n
-        → askedBy n (between next.Total 0) (wholeRun T k cs bs) ≡ ((total ∷ roundsAsked 0 (length cs)) ++ (ends ∷ [])) ++ cond (ltb 0 n) (openingsAsked bs) []
+        → askedBy n (between next.Total 0) (wholeRun T full cs bs) ≡ ((total ∷ roundsAsked 0 (length cs)) ++ (ends ∷ [])) ++ cond (ltb 0 n) (openingsAsked bs) []
     whole-asked cs bs count =
         let one = closing next.Total 0 call.OpenPass (record { next = next.Total; kind = Asked; point = 0; round = 0 }) (between (roundOrEnds 0 n) 0) (total ∷ []) refl refl in
-        let two = both _ _ _ (wholePass T call.OpenPass) (roundsFrom T k 0 cs) (total ∷ []) (roundsAsked 0 (length cs)) one (rounds-asked cs 0 (omega arith)) in
-        let asks : List Call = answerBy T (leb k n) call.OpenPass call.Ends in
-        let three = both _ _ _ (changeBefore T k n) asks [] (ends ∷ []) (change-asked n next.Ends n) (ends-asked (leb k n) n) in
-        let four = both _ _ _ (wholePass T call.OpenPass ++ roundsFrom T k 0 cs) (endCalls T k) (total ∷ roundsAsked 0 (length cs)) (ends ∷ []) two three in
-        both _ _ _ (wholePass T call.OpenPass ++ roundsFrom T k 0 cs ++ endCalls T k) (openingCalls T k bs) _ _ four (last-asked bs n) .asks
+        let two = both _ _ _ (wholePass T call.OpenPass) (roundsFrom T full 0 cs) (total ∷ []) (roundsAsked 0 (length cs)) one (rounds-asked cs 0 (omega arith)) in
+        let three = step-asked n next.Ends n (answerBy T (full n) call.OpenPass call.Ends) _ _ (ends-asked (full n) n) in
+        let four = both _ _ _ (wholePass T call.OpenPass ++ roundsFrom T full 0 cs) (endCalls T full) (total ∷ roundsAsked 0 (length cs)) (ends ∷ []) two three in
+        both _ _ _ (wholePass T call.OpenPass ++ roundsFrom T full 0 cs ++ endCalls T full) (openingCalls T full bs) _ _ four (last-asked bs n) .asks

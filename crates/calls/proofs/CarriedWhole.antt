@@ -13,7 +13,7 @@ use Rattle.runs.specs.Trip.{Trip}
 use Rattle.calls.specs.declared.Call.{Call}
 use Rattle.calls.specs.declared.query.Query.the-variants as query
 use Rattle.calls.specs.Lists.{along, always, each, collected}
-use Rattle.calls.specs.Step.{Lent, Result}
+use Rattle.calls.specs.Step.{Lent, lending, Result}
 use Rattle.calls.specs.State.{State, follow}
 use Rattle.calls.specs.World.{Made, World, freshWorld, came}
 use Rattle.calls.specs.Meaning.{Question, total, roundMessage, ends, openingAt, proof, done, question, Answer, proofOfTrip, messageAt}
@@ -29,6 +29,7 @@ use Rattle.calls.proofs.Hits.{Hit, hit-replies, hit-here}
 use Rattle.calls.proofs.Links.{message-of, opening-of}
 use Rattle.calls.proofs.CarriedTurns.{AtTurn, goes-turn}
 use Rattle.calls.proofs.CarriedWalk.{asked, placeOf, leads, askedBy, follow-leads, roundsAsked, openingsAsked, whole-asked}
+use Rattle.calls.proofs.LiveWorld.{madeFrom}
 use Rattle.calls.proofs.Live.{proper-answered, proper-kept}
 use Rattle.calls.proofs.LiveTakes.{proper-takes}
 
@@ -118,25 +119,25 @@ module _ (p : ℕ) (large : maxWeight < p) (through : Bool) (T : Trip) (whole : 
 
   -- ALONG A RUN'S LIST
   module _ (what : Question → Answer → List Posed) (form : Question → List Posed) (one : (q : Question) (h : H q) → what q (replyOf (cameOf q h)) ≡ carriedAs form (asked q)) where
-    gathered-so : (calls : List Call) (w : Host) {past : Notes} → Going p large through T whole (w .world) past
-        → (let ms : List Made = each (hostOn p T) (makes p T) w calls in
+    gathered-so : (idle : Call → ℕ → Lent) (calls : List Call) (w : Host) {past : Notes} → Going p large through T whole (w .world) past
+        → (let ms : List Made = madeFrom p T idle w calls in
         AllAnswered p (w .world) ms → AllKept p through T (w .world) ms → AllTake p cs (w .world) ms
         → carriedOver p T (w .world) ms what ≡ carriedAs form (askedBy (T .start .rounds) (placeOf (w .world .state)) calls))
     unfolding each along always collected carriedAs askedBy hit-here
-    gathered-so [] w g y kept takes = refl
-    gathered-so (c ∷ calls) w g y kept takes =
+    gathered-so idle [] w g y kept takes = refl
+    gathered-so idle (c ∷ calls) w g y kept takes =
         let a : State = w .world .state in
-        let m : Made = makes p T w c in
+        let m : Made = makes p T idle w c in
         let o : Result = came p (w .world) m in
-        let v : Host = hostOn p T w c in
+        let v : Host = hostOn p T idle w c in
         let n : ℕ = T .start .rounds in
         let here = one (question a c) (hit-here p large through T whole cs (w .world) g (takes .0) m (kept .0) (question a c) (y .0, refl)) in
-        let later = gathered-so calls v (goes-on p large through T whole (w .world) g m (kept .0)) (y .1) (kept .1) (takes .1) in
+        let later = gathered-so idle calls v (goes-on p large through T whole (w .world) g m (kept .0)) (y .1) (kept .1) (takes .1) in
         let led = follow-leads a c o (y .0) in
         let rounds-so : a .start .rounds ≡ n = ap (λ s. s .rounds) (g .start) in
         let first : asked (question a c) ≡ leads n (placeOf a) c .0 = led .0 ∙ ap (λ k. leads k (placeOf a) c .0) rounds-so in
         let then : placeOf (follow a c o) ≡ leads n (placeOf a) c .1 = led .1 ∙ ap (λ k. leads k (placeOf a) c .1) rounds-so in
-        ap (λ b. cond b (what (question a c) (replyOf o)) [] ++ carriedOver p T (v .world) (each (hostOn p T) (makes p T) v calls) what) (y .0)
+        ap (λ b. cond b (what (question a c) (replyOf o)) [] ++ carriedOver p T (v .world) (madeFrom p T idle v calls) what) (y .0)
         ∙ ap₂ _++_ (here ∙ ap (carriedAs form) first) (later ∙ ap (λ w. carriedAs form (askedBy n w calls)) then)
         ∙ sym (carried-append form (leads n (placeOf a) c .0) (askedBy n (leads n (placeOf a) c .1) calls))
 
@@ -173,22 +174,23 @@ module _ (p : ℕ) (large : maxWeight < p) (through : Bool) (T : Trip) (whole : 
   each-check (done x) h = refl
 
 -- A PROPER RUN'S
-module _ (p : ℕ) (large : maxWeight < p) (T : Trip) (valid : Valid p T) (k : ℕ) (cs bs : List ℕ) (l : Lent) (brings : Brings p T k cs bs l) where
+module _ (p : ℕ) (large : maxWeight < p) (T : Trip) (valid : Valid p T) (full : ℕ → Bool) (cs bs : List ℕ) (idle : Call → ℕ → Lent) (brings : Brings p T full cs bs idle)
+    (f g : List ℕ) where
   abbrev begin : World
-  begin = freshWorld (T .start) (l .f) (l .g)
+  begin = freshWorld (T .start) f g
 
   abbrev ms : List Made
-  ms = properRun p T k cs bs l
+  ms = properRun p T full cs bs idle f g
 
   all-so : (what : Question → Answer → List Posed) (form : Question → List Posed)
       → ((q : Question) (h : Hit p large true T (valid .whole .items) cs q) → what q (replyOf (cameOf p large true T (valid .whole .items) cs q h)) ≡ carriedAs form (asked q))
       → carriedOver p T begin ms what ≡ carriedAs form (((total ∷ roundsAsked 0 (T .start .rounds)) ++ (ends ∷ [])) ++ cond (ltb 0 (T .start .rounds)) (openingsAsked bs) [])
   all-so what form one =
-      let answered = proper-answered p large T valid k cs bs l brings in
-      gathered-so p large true T (valid .whole .items) cs what form one (wholeRun T k cs bs) (record { world = begin; lent = l })
-      (fresh-going p large true T (valid .whole .items) (valid .whole .start) (l .f) (l .g))
-      answered (proper-kept p large T valid k cs bs l brings true) (proper-takes p T k cs bs l answered)
-      ∙ ap (carriedAs form) (whole-asked T k cs bs (brings .count))
+      let answered = proper-answered p large T valid full cs bs idle brings f g in
+      gathered-so p large true T (valid .whole .items) cs what form one idle (wholeRun T full cs bs) (record { world = begin; count = 0; lent = lending f g [] })
+      (fresh-going p large true T (valid .whole .items) (valid .whole .start) f g)
+      answered (proper-kept p large T valid full cs bs idle brings f g true) (proper-takes p T idle full cs bs f g answered)
+      ∙ ap (carriedAs form) (whole-asked T full cs bs (brings .count))
       ∙ ap (λ m. carriedAs form (((total ∷ roundsAsked 0 m) ++ (ends ∷ [])) ++ cond (ltb 0 (T .start .rounds)) (openingsAsked bs) [])) (brings .count)
 
   pub messages-list : byMessages p T begin ms ≡ wholeByMessages p T cs bs

@@ -44,6 +44,7 @@ use Rattle.calls.proofs.HeardFollows.{Follows}
 use Rattle.calls.proofs.HeardLists.{says-trip, follows-next, fresh-follows}
 use Rattle.calls.proofs.VerdictLists.{every-verdict}
 use Rattle.calls.proofs.StartRows.{all-starts}
+use Rattle.calls.proofs.Unbound.{unbound-kept}
 
 -- WHAT THE RUN GAVE IS THE TRIP'S
 module _ (p : ℕ) (large : maxWeight < p) (through : Bool) (T : Trip) (whole : Whole T) (cs : List ℕ) (w : World) {past : Notes}
@@ -101,6 +102,7 @@ module _ (p : ℕ) (large : maxWeight < p) (prime : Prime p) (odd : p % 2 ≡ 1)
         refusals = λ s b h f g ms. all-decided p large (begun s b f g) (begun-faithful p large s b h f g) ms;
         answers = λ through T whole b h f g ms kept.
             all-right p large through T (whole .items) (begun (T .start) b f g) (begun-going p large through T (whole .items) b h f g) ms kept;
+        unbound = unbound-kept p;
         proper = proper-run p large prime odd word;
         properBatch = batch-proper p large;
         alike = λ T whole b b′ h h′ th th′ f g f′ g′ ms ns m n kept kept′ challenges asked e e′.
@@ -112,15 +114,15 @@ module _ (p : ℕ) (large : maxWeight < p) (prime : Prime p) (odd : p % 2 ≡ 1)
         openingsChecked = λ through T whole b h f g ms kept cs listed takes.
             openings-checked p large prime odd word T whole cs listed through b h f g ms kept takes;
         batchChecked = batch-checked p large prime odd;
-        verifierProper = λ T valid k cs bs l brought.
-            let told = proper-messages p large prime odd word T valid k cs bs l brought in (
-              messages-list p large T valid k cs bs l brought,
+        verifierProper = λ T valid full cs bs idle brought f g.
+            let told = proper-messages p large prime odd word T valid full cs bs idle brought f g in (
+              messages-list p large T valid full cs bs idle brought f g,
               told .0,
               told .1,
               λ plain m room.
-                  let file = proper-file p large prime odd word T valid k cs bs l brought plain m room in (
-                    proper-longer p large prime odd word T valid k cs bs l brought plain m room,
-                    file-list p large T valid k cs bs l brought _ (proper-written p large prime odd word T valid k cs bs l brought plain m room),
+                  let file = proper-file p large prime odd word T valid full cs bs idle brought f g plain m room in (
+                    proper-longer p large prime odd word T valid full cs bs idle brought f g plain m room,
+                    file-list p large T valid full cs bs idle brought f g _ (proper-written p large prime odd word T valid full cs bs idle brought f g plain m room),
                     file .0,
                     file .1,
                   ),

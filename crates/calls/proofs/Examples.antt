@@ -20,10 +20,10 @@ use Rattle.pass.specs.Checks.{itemChecks}
 use Rattle.prover.specs.Calls.{giveCall}
 use Rattle.prover.specs.Challenge.{challengeCall, challengedFull}
 use Rattle.pass.specs.Lent.{cleared}
-use Rattle.prover.specs.Change.{toFullCall}
+use Rattle.prover.specs.Change.{toFullCall, toSmallCall}
 use Rattle.prover.specs.Close.{closeCall}
 use Rattle.prover.specs.Full.{messageCall, messageGiven, endsCall}
-use Rattle.prover.specs.Open.{openCall, openAtCall, toSmallCall}
+use Rattle.prover.specs.Open.{openCall, openAtCall}
 use Rattle.prover.specs.Opening.{openingGiven, openingCall}
 use Rattle.pass.specs.Take.{summedItem}
 use Rattle.pass.specs.Take.{entersIn, enteredIn, placedIn, takesIn}
@@ -43,6 +43,7 @@ use Rattle.calls.specs.Example.{P, tripStart, trip, callsOf, answersOf, 
 use Rattle.calls.specs.ExampleSmall.{smallCalls}
 use Rattle.calls.specs.ExampleFull.{fullCalls}
 use Rattle.calls.specs.ExampleChange.{changing}
+use Rattle.calls.specs.ExampleReturn.{returning}
 use Rattle.calls.proofs.ExampleKept.{allTrue, all-kept}
 
 module _ (f g : List ℕ) where
@@ -57,7 +58,7 @@ module _ (f g : List ℕ) where
       }
 
   pub full-run : TripList fullCalls (freshWorld tripStart f g)
-  unfolding each allTrue lastOf callsOf answersOf refusalsOf every table sumOf step messageGiven messageCall endsCall giveCall itemChecks openCall toSmallCall closeCall challengedFull challengeCall cleared toFullCall openingGiven openingCall writeCall wellFormed turnFormed passFormed powers firstFrom inLimits sizeIn32 partsOf takes takesIn entersIn summedItem enteredIn plus image residue negMod addMod mulMod sum foldWith overwrite foldSlice messageSlice tripleValues bytes bits allBelow numbers proofHeader writeProof writtenIn hornerAt arrived topAt climbFrom evaluatedFrom climbed evaluated meetsAt summed settled sumsAfter stacksFit entered streamed paddingFrom paddingBelow left placed placedAll placedIn inRange
+  unfolding each allTrue lastOf callsOf answersOf refusalsOf every table sumOf step messageGiven messageCall endsCall giveCall itemChecks openCall closeCall challengedFull challengeCall cleared toFullCall openingGiven openingCall writeCall wellFormed turnFormed passFormed powers firstFrom inLimits sizeIn32 partsOf takes takesIn entersIn summedItem enteredIn plus image residue negMod addMod mulMod sum foldWith overwrite foldSlice messageSlice tripleValues bytes bits allBelow numbers proofHeader writeProof writtenIn hornerAt arrived topAt climbFrom evaluatedFrom climbed evaluated meetsAt summed settled sumsAfter stacksFit entered streamed paddingFrom paddingBelow left placed placedAll placedIn inRange
   full-run =
       record {
         kept = all-kept P true trip (freshWorld tripStart f g) (callsOf fullCalls) refl;
@@ -71,6 +72,16 @@ module _ (f g : List ℕ) where
   changing-run =
       record {
         kept = all-kept P true trip (freshWorld tripStart f g) (callsOf changing) refl;
+        replies = refl;
+        refusals = refl;
+        file = refl;
+      }
+
+  pub returning-run : TripList returning (freshWorld tripStart f g)
+  unfolding each allTrue lastOf callsOf answersOf refusalsOf every table sumOf step messageGiven messageCall endsCall giveCall itemChecks openCall openAtCall closeCall challengedFull challengeCall cleared toFullCall toSmallCall openingGiven openingCall writeCall wellFormed turnFormed passFormed powers firstFrom inLimits sizeIn32 partsOf takes takesIn entersIn summedItem enteredIn plus image residue negMod addMod mulMod sum foldWith overwrite foldSlice messageSlice valuesOf tripleValues bytes bits allBelow numbers proofHeader writeProof writtenIn hornerAt arrived topAt climbFrom evaluatedFrom climbed evaluated meetsAt summed settled sumsAfter stacksFit entered streamed paddingFrom paddingBelow left placed placedAll placedIn inRange
+  returning-run =
+      record {
+        kept = all-kept P true trip (freshWorld tripStart f g) (callsOf returning) refl;
         replies = refl;
         refusals = refl;
         file = refl;

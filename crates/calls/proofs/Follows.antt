@@ -53,8 +53,8 @@ use Rattle.runs.proofs.PassTotal.{after-total}
 use Rattle.runs.proofs.PassRecord.{takes-run, after-item}
 use Rattle.calls.specs.declared.Call.the-variants as call
 use Rattle.calls.specs.Step.{Lent, Result, leaving}
-use Rattle.calls.specs.State.{State, inPass, goesTo, withBuffers, takesChallenge, buffersIn, goesOn, closed}
-use Rattle.calls.specs.Table.{levelNow, long, bothLong, totalFits, table}
+use Rattle.calls.specs.State.{State, inPass, goesTo, withBuffers, inMode, takesChallenge, buffersIn, goesOn, closed}
+use Rattle.calls.specs.Table.{changesNext, levelNow, long, bothLong, totalFits, table}
 use Rattle.calls.proofs.Records.{Notes, noted, inArray, runOf, passOf}
 use Rattle.calls.proofs.Arrays as arrays
 use Rattle.calls.proofs.Arrays.{array-next}
@@ -384,6 +384,17 @@ module _ (p : ℕ) (large : maxWeight < p) where
   -- the first place of a fold is a field number where all of its places are
   first-place : (a : State) (f : List ℕ) → 0 < long a → allReduced p (long a) f ≡ true → at f 0 < p
   first-place a f there e = all-reduced-iff p (long a) f .0 e 0 there
+
+  pub to-small-follows : (a : State) {past : Notes} → Fits p a past → (l : Lent) → table p a call.ToSmall l ≡ none
+      → (let o : Result = does p (runOf a past) (passOf p a past) call.ToSmall l in Follows p (inMode a Small) past o)
+  unfolding table
+  to-small-follows a h l e =
+      let full = both (isFull (a .turn .mode)) (changesNext (a .turn .next) (a .start .rounds)) (row-passed _ 10 none e .0) .0 in
+      record {
+        run = refl;
+        pass = shut-pass a h (full-shut (a .pass .kind) (a .turn .mode) (a .turn .next) full (h .pass .kind)) _;
+        fits = record { run = h .run; pass = shut-items (a .start) Small (a .turn .next) };
+      }
 
   pub ends-follows : (a : State) {past : Notes} → Fits p a past → (l : Lent) → table p a call.Ends l ≡ none
       → (let o : Result = does p (runOf a past) (passOf p a past) call.Ends l in Follows p (goesOn a call.Ends (o .lent)) (noted past (o .answer)) o)

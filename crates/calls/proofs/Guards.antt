@@ -32,7 +32,7 @@ use Rattle.prover.specs.Calls as calls
 use Rattle.prover.specs.Calls.{placesThere, giveCall}
 use Rattle.prover.proofs.Outcomes.{itemPlaces, give-rows}
 use Rattle.prover.proofs.FullOutcomes.{lent-by-rows}
-use Rattle.prover.specs.Change.{changes, toFullCall}
+use Rattle.prover.specs.Change.{changes, toFullCall, returns, toSmallCall}
 use Rattle.prover.specs.Close as close
 use Rattle.prover.specs.Close.{closing, closeCall}
 use Rattle.prover.specs.Full.{bothReduced, lentFolds, messageGiven, messageCall, endsGiven, endsCall}
@@ -45,7 +45,7 @@ use Rattle.item.specs.Item.{contributes, partsOf}
 use Rattle.runs.specs.Trip.{sumOf}
 use Rattle.calls.specs.Step.{Lent}
 use Rattle.calls.specs.State.{State}
-use Rattle.calls.specs.Table.{Refusal, decided, row, rowAt, passWaits, openingsNext, changeWaits, levelNow, long, bothLong, readRows, givenRows, placeRow, totalFits, table}
+use Rattle.calls.specs.Table.{Refusal, decided, row, rowAt, passWaits, openingsNext, changesNext, levelNow, long, bothLong, readRows, givenRows, placeRow, totalFits, table}
 use Rattle.calls.specs.declared.Call.the-variants as call
 use Rattle.calls.proofs.Records.{Notes, runOf}
 
@@ -80,13 +80,14 @@ pass-next Small next.Openings = refl
 openings-next : (m : Bool) (t : Next) (n : ℕ) → cond m (openingsAt t n) false ≡ (m && openingsNext t n)
 openings-next m t n = ap (λ b. cond m b false) (both-and (waits next.Openings t) (ltb 0 n)) ∙ both-and m (openingsNext t n)
 
-change-next : (m : Mode) (t : Next) (n : ℕ) → cond (isSmall m) (changeAt t n) false ≡ changeWaits m t n
-change-next Full t n = refl
-change-next Small next.Total n = refl
-change-next Small next.Message n = refl
-change-next Small next.Challenge n = refl
-change-next Small next.Ends n = refl
-change-next Small next.Openings n = refl
+-- in the mode that a change, or a return, leaves
+changes-next : (m : Bool) (t : Next) (n : ℕ) → cond m (changeAt t n) false ≡ (m && changesNext t n)
+changes-next false t n = refl
+changes-next true next.Total n = refl
+changes-next true next.Message n = refl
+changes-next true next.Challenge n = refl
+changes-next true next.Ends n = refl
+changes-next true next.Openings n = refl
 
 pub level-now : (n i : ℕ) (t : Next) → levelAt n i t Shut ≡ levelNow n i 0 t
 level-now n i next.Total = refl
@@ -146,8 +147,12 @@ module _ (p : ℕ) (a : State) (past : Notes) (few : a .start .rounds ≤ 15) wh
     pub to-full-decided : (l : Lent) → toFullCall p R s (l .f) (l .g) ≡ decided (table p a call.ToFull l) (answered (changes R (l .f) (l .g)))
     unfolding toFullCall table
     to-full-decided l =
-        like-row _ _ 10 _ _ _ (turn-and _ _ _ (change-next (a .turn .mode) (a .turn .next) (a .start .rounds)))
+        like-row _ _ 10 _ _ _ (turn-and _ _ _ (changes-next (isSmall (a .turn .mode)) (a .turn .next) (a .start .rounds)))
         (like-row _ _ 9 _ none _ (long-test l) refl)
+
+    pub to-small-decided : (l : Lent) → toSmallCall p R s ≡ decided (table p a call.ToSmall l) (answered (returns R s))
+    unfolding toSmallCall table
+    to-small-decided l = like-row _ _ 10 _ none _ (turn-and _ _ _ (changes-next (isFull (a .turn .mode)) (a .turn .next) (a .start .rounds))) refl
 
     pub message-decided : (l : Lent) → messageCall p R s (l .f) (l .g) ≡ decided (table p a call.Message l) (answered (messageGiven p R s (l .f) (l .g)))
     unfolding messageCall table

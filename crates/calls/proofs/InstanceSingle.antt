@@ -1,8 +1,8 @@
 -- A run of one item, at the customer's modulus: no messages and no openings; its answers, its verifier's two lists, and demand 3 at it.
 use mathlib.Core.Path.{_≡_, refl, subst, _∙_}
-use mathlib.Core.Bool.{true}
+use mathlib.Core.Bool.{Bool, true, false}
 use mathlib.Core.List.{List, [], _∷_, _++_}
-use Prim.Native.Nat.{ℕ, zero, suc, _<_}
+use Prim.Native.Nat.{ℕ, zero, suc, _+_, _<_}
 use native.Mathlib.Omega.{arith}
 use lib.IntN.{negsuc}
 use lib.ListN.{replicate, take}
@@ -48,6 +48,7 @@ use Rattle.item.specs.Item.{partsOf}
 use Rattle.runs.specs.Trip.{Trip, tripItem, sumOf}
 use Rattle.calls.specs.declared.query.Query.the-variants as query
 use Rattle.calls.specs.Lists.{after, each}
+use Rattle.calls.specs.declared.Call.{Call}
 use Rattle.calls.specs.Step.{Lent, step}
 use Rattle.calls.specs.Meaning.{says, messagesTo}
 use Rattle.calls.specs.World.{Made, World, freshWorld, came, onward}
@@ -57,7 +58,7 @@ use Rattle.calls.specs.QueryStep as said
 use Rattle.calls.specs.QueryState.{Posed, plainly, Hearing, freshHearing, hearsOn}
 use Rattle.calls.specs.Given.{OpeningsChecked}
 use Rattle.calls.specs.Starts.{Whole}
-use Rattle.calls.specs.Proper.{ItemFits, Valid, AllNonzero, itemsBelow, roundsFrom, openingsAt, Brings, properRun}
+use Rattle.calls.specs.Proper.{ItemFits, Valid, AllNonzero, itemsBelow, roundsFrom, openingsFrom, Brings, properRun}
 use Rattle.calls.specs.Carried.{byMessages, byFile, writesProof}
 use Rattle.calls.specs.WholeList.{messagesFrom, wholeByMessages, wholeByFile}
 use Rattle.calls.specs.Demand3.{AllRight, AllProper, AllBringRun, AllSay, AllAgreed}
@@ -88,13 +89,13 @@ single-valid = record { whole = single-whole; items = fits; total = λ e. refl }
     fits zero h = (refl, refl, omega arith)
     fits (suc i) h = absurd (omega arith)
 
--- one place that holds anything
-abbrev singleLent : Lent
-singleLent = record { f = 91 ∷ []; g = 81 ∷ []; file = [] }
+-- one place, which holds something else at each call
+abbrev singleIdle : Call → ℕ → Lent
+singleIdle c j = record { f = (P + j) ∷ []; g = (P + j) ∷ []; file = [] }
 
 -- no challenges, and a point at which nothing is asked
-single-brings : (k : ℕ) → Brings P single k [] (2 ∷ []) singleLent
-single-brings k = record { count = refl; challenges = none; points = one; room = λ h. (omega arith, omega arith) }
+single-brings : (full : ℕ → Bool) → Brings P single full [] (2 ∷ []) singleIdle
+single-brings full = record { count = refl; challenges = none; points = one; room = λ i most e j. (omega arith, omega arith) }
   where
     none : AllNonzero P []
     none j h = absurd (omega arith)
@@ -104,14 +105,14 @@ single-brings k = record { count = refl; challenges = none; points = one; room =
     one (suc j) h = absurd (omega arith)
 
 abbrev singleWorld : World
-singleWorld = freshWorld (single .start) (singleLent .f) (singleLent .g)
+singleWorld = freshWorld (single .start) (91 ∷ []) (81 ∷ [])
 
-abbrev singleRun : ℕ → List Made
-singleRun k = properRun P single k [] (2 ∷ []) singleLent
+abbrev singleRun : (ℕ → Bool) → List Made
+singleRun full = properRun P single full [] (2 ∷ []) singleIdle (91 ∷ []) (81 ∷ [])
 
 -- its answers, in small mode
 pub single-replies :
-    repliesFrom singleWorld (singleRun 2)
+    repliesFrom singleWorld (singleRun (λ i. false))
     ≡ says reply.opened
     ∷ says reply.taken
     ∷ says (reply.total (negsuc 179999))
@@ -119,12 +120,12 @@ pub single-replies :
     ∷ says reply.taken
     ∷ says (reply.ends 2147465647 10)
     ∷ []
-unfolding each itemsBelow roundsFrom openingsAt step endsCall giveCall itemChecks openCall closeCall cleared toFullCall wellFormed turnFormed passFormed powers firstFrom inLimits sizeIn32 partsOf takes takesIn entersIn summedItem enteredIn plus image residue negMod addMod mulMod sum foldWith overwrite every hornerAt arrived topAt climbFrom evaluatedFrom climbed evaluated meetsAt summed settled sumsAfter stacksFit entered streamed paddingFrom paddingBelow left placed placedAll placedIn inRange
+unfolding each itemsBelow roundsFrom openingsFrom step endsCall giveCall itemChecks openCall closeCall cleared toFullCall wellFormed turnFormed passFormed powers firstFrom inLimits sizeIn32 partsOf takes takesIn entersIn summedItem enteredIn plus image residue negMod addMod mulMod sum foldWith overwrite every hornerAt arrived topAt climbFrom evaluatedFrom climbed evaluated meetsAt summed settled sumsAfter stacksFit entered streamed paddingFrom paddingBelow left placed placedAll placedIn inRange
 single-replies = refl
 
--- and with the change before the ends
+-- and with a change before the ends
 pub single-changed :
-    repliesFrom singleWorld (singleRun 0)
+    repliesFrom singleWorld (singleRun (λ i. true))
     ≡ says reply.opened
     ∷ says reply.taken
     ∷ says (reply.total (negsuc 179999))
@@ -133,7 +134,7 @@ pub single-changed :
     ∷ says reply.changed
     ∷ says (reply.ends 2147465647 10)
     ∷ []
-unfolding each itemsBelow roundsFrom openingsAt step endsCall giveCall itemChecks openCall closeCall cleared toFullCall wellFormed turnFormed passFormed powers firstFrom inLimits sizeIn32 partsOf takes takesIn entersIn summedItem enteredIn plus image residue negMod addMod mulMod sum foldWith overwrite every hornerAt arrived topAt climbFrom evaluatedFrom climbed evaluated meetsAt summed settled sumsAfter stacksFit entered streamed paddingFrom paddingBelow left placed placedAll placedIn inRange
+unfolding each itemsBelow roundsFrom openingsFrom step endsCall giveCall itemChecks openCall closeCall cleared toFullCall wellFormed turnFormed passFormed powers firstFrom inLimits sizeIn32 partsOf takes takesIn entersIn summedItem enteredIn plus image residue negMod addMod mulMod sum foldWith overwrite every hornerAt arrived topAt climbFrom evaluatedFrom climbed evaluated meetsAt summed settled sumsAfter stacksFit entered streamed paddingFrom paddingBelow left placed placedAll placedIn inRange
 single-changed = refl
 
 -- its verifier's own list: the item, the close and the verdict; or the item and the file of 18 bytes
@@ -169,31 +170,31 @@ single-file-told = refl
 abbrev singleHearing : Hearing
 singleHearing = freshHearing (single .start) []
 
-module _ (k : ℕ) where
-  pub single-proper : AllProper P [] single singleWorld (singleRun k)
-  single-proper = demand3-31 .proper single single-valid k [] (2 ∷ []) singleLent (single-brings k)
+module _ (full : ℕ → Bool) where
+  pub single-proper : AllProper P [] single singleWorld (singleRun full)
+  single-proper = demand3-31 .proper single single-valid full [] (2 ∷ []) singleIdle (single-brings full) (91 ∷ []) (81 ∷ [])
 
-  pub single-right : AllRight P true single singleWorld (singleRun k)
+  pub single-right : AllRight P true single singleWorld (singleRun full)
   single-right =
-      demand3-31 .answers true single single-whole total (single-whole .start) (singleLent .f) (singleLent .g) (singleRun k) (single-proper .1 true)
+      demand3-31 .answers true single single-whole total (single-whole .start) (91 ∷ []) (81 ∷ []) (singleRun full) (single-proper .1 true)
 
   -- its verifier's own list is that one, agrees with all of it, and brings what the run gave; so the verdict is yes
-  pub single-verifier : (byMessages P single singleWorld (singleRun k) ≡ singleList)
+  pub single-verifier : (byMessages P single singleWorld (singleRun full) ≡ singleList)
       × AllAgreed P singleHearing singleList
-      × AllBringRun P single singleWorld (singleRun k) singleHearing singleList
+      × AllBringRun P single singleWorld (singleRun full) singleHearing singleList
   single-verifier =
-      let v = demand3-31 .verifierProper single single-valid k [] (2 ∷ []) singleLent (single-brings k) in
+      let v = demand3-31 .verifierProper single single-valid full [] (2 ∷ []) singleIdle (single-brings full) (91 ∷ []) (81 ∷ []) in
       let same = v .0 ∙ single-list in
-      (same, subst (AllAgreed P singleHearing) same (v .1), subst (AllBringRun P single singleWorld (singleRun k) singleHearing) same (v .2))
+      (same, subst (AllAgreed P singleHearing) same (v .1), subst (AllBringRun P single singleWorld (singleRun full) singleHearing) same (v .2))
 
   pub single-says : AllSay P single singleHearing singleList
   single-says =
-      demand3-31 .verifierAnswers true single single-whole total (single-whole .start) (singleLent .f) (singleLent .g) (singleRun k) (single-proper .1 true) [] refl (single-proper .2) singleList
+      demand3-31 .verifierAnswers true single single-whole total (single-whole .start) (91 ∷ []) (81 ∷ []) (singleRun full) (single-proper .1 true) [] refl (single-proper .2) singleList
       (single-verifier .2)
 
-  pub single-checked : (qs : List Posed) → OpeningsChecked P single singleWorld (singleRun k) (after (hearsOn P) singleHearing qs)
+  pub single-checked : (qs : List Posed) → OpeningsChecked P single singleWorld (singleRun full) (after (hearsOn P) singleHearing qs)
   single-checked =
-      demand3-31 .openingsChecked true single single-whole total (single-whole .start) (singleLent .f) (singleLent .g) (singleRun k) (single-proper .1 true) [] refl (single-proper .2)
+      demand3-31 .openingsChecked true single single-whole total (single-whole .start) (91 ∷ []) (81 ∷ []) (singleRun full) (single-proper .1 true) [] refl (single-proper .2)
 
   -- a file with room
   abbrev into : Lent
@@ -201,21 +202,21 @@ module _ (k : ℕ) where
 
   -- the run goes on to write it
   abbrev longer : List Made
-  longer = singleRun k ++ writesProof into ∷ []
+  longer = singleRun full ++ writesProof into ∷ []
 
   abbrev wrote : List ℕ
-  wrote = take 18 (came P (after (onward P) singleWorld (singleRun k)) (writesProof into) .lent .file)
+  wrote = take 18 (came P (after (onward P) singleWorld (singleRun full)) (writesProof into) .lent .file)
 
   pub single-filed : AllProper P [] single singleWorld longer
-      × (byFile P single singleWorld (singleRun k) wrote ≡ singleByFile)
+      × (byFile P single singleWorld (singleRun full) wrote ≡ singleByFile)
       × AllAgreed P singleHearing singleByFile
       × AllBringRun P single singleWorld longer singleHearing singleByFile
   single-filed =
-      let v = demand3-31 .verifierProper single single-valid k [] (2 ∷ []) singleLent (single-brings k) .3 refl into (omega arith) in
+      let v = demand3-31 .verifierProper single single-valid full [] (2 ∷ []) singleIdle (single-brings full) (91 ∷ []) (81 ∷ []) .3 refl into (omega arith) in
       let same = v .1 ∙ single-file-list in
       (v .0, same, subst (AllAgreed P singleHearing) same (v .2), subst (AllBringRun P single singleWorld longer singleHearing) same (v .3))
 
   pub single-file-says : AllSay P single singleHearing singleByFile
   single-file-says =
-      demand3-31 .verifierAnswers true single single-whole total (single-whole .start) (singleLent .f) (singleLent .g) longer (single-filed .0 .1 true) [] refl (single-filed .0 .2) singleByFile
+      demand3-31 .verifierAnswers true single single-whole total (single-whole .start) (91 ∷ []) (81 ∷ []) longer (single-filed .0 .1 true) [] refl (single-filed .0 .2) singleByFile
       (single-filed .3)

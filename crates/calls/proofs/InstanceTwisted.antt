@@ -1,8 +1,8 @@
 -- A twisted run that changes its mode in the middle, at the customer's modulus: its calls, its answers, its verifier's list, and demand 3 at it.
 use mathlib.Core.Path.{_≡_, refl, sym, subst, _∙_}
-use mathlib.Core.Bool.{true, false, true≢false}
+use mathlib.Core.Bool.{Bool, true, false, true≢false}
 use mathlib.Core.List.{List, [], _∷_, _++_}
-use Prim.Native.Nat.{ℕ, zero, suc, _<_}
+use Prim.Native.Nat.{ℕ, zero, suc, _+_, _<_}
 use native.Mathlib.Omega.{arith}
 use lib.ListN.{replicate}
 use Rattle.algebra.specs.Mod.{residue, addMod, subMod, negMod, mulMod, halfOne, halfMod, inverseIn, inverseMod, divMod}
@@ -28,7 +28,7 @@ use Rattle.prover.specs.Take.{takes}
 use Rattle.prover.specs.Calls.{giveCall}
 use Rattle.prover.specs.Open.{openCall, openAtCall}
 use Rattle.pass.specs.Lent.{cleared}
-use Rattle.prover.specs.Change.{toFullCall}
+use Rattle.prover.specs.Change.{toFullCall, toSmallCall}
 use Rattle.prover.specs.Close.{closeCall}
 use Rattle.prover.specs.Full.{messageGiven, messageCall, endsCall}
 use Rattle.prover.specs.Challenge.{challengedFull, challengeCall}
@@ -48,6 +48,7 @@ use Rattle.item.specs.Item.{partsOf}
 use Rattle.runs.specs.Trip.{Trip, tripItem}
 use Rattle.calls.specs.declared.query.Query.the-variants as query
 use Rattle.calls.specs.Lists.{after, each}
+use Rattle.calls.specs.declared.Call.{Call}
 use Rattle.calls.specs.Step.{Lent, step}
 use Rattle.calls.specs.Meaning.{Answer, says}
 use Rattle.calls.specs.World.{Made, World, freshWorld}
@@ -57,7 +58,7 @@ use Rattle.calls.specs.QueryStep as said
 use Rattle.calls.specs.QueryState.{Posed, plainly, Hearing, freshHearing, hearsOn}
 use Rattle.calls.specs.Given.{OpeningsChecked}
 use Rattle.calls.specs.Starts.{Whole}
-use Rattle.calls.specs.Proper.{ItemFits, Valid, AllNonzero, itemsBelow, roundsFrom, openingsAt, Brings, properRun}
+use Rattle.calls.specs.Proper.{ItemFits, Valid, AllNonzero, itemsBelow, roundsFrom, openingsFrom, Brings, properRun}
 use Rattle.calls.specs.Carried.{byMessages}
 use Rattle.calls.specs.WholeList.{messagesFrom, wholeByMessages}
 use Rattle.calls.specs.Demand3.{AllRight, AllProper, AllBringRun, AllSay, AllAgreed}
@@ -95,12 +96,19 @@ twisted-valid = record { whole = twisted-whole; items = fits; total = λ e. absu
     fits (suc (suc zero)) h = (refl, omega arith, omega arith)
     fits (suc (suc (suc i))) h = absurd (omega arith)
 
--- four places that hold anything
-abbrev twistedLent : Lent
-twistedLent = record { f = 91 ∷ 92 ∷ 93 ∷ 94 ∷ []; g = 81 ∷ 82 ∷ 83 ∷ 84 ∷ []; file = [] }
+-- round 0 and the ends in full mode, round 1 and the openings in small mode
+abbrev twistedModes : ℕ → Bool
+twistedModes zero = true
+twistedModes (suc zero) = false
+twistedModes (suc (suc zero)) = true
+twistedModes (suc (suc (suc i))) = false
 
-twisted-brings : Brings P twisted 1 (2 ∷ 3 ∷ []) (3 ∷ []) twistedLent
-twisted-brings = record { count = refl; challenges = two; points = one; room = λ h. (omega arith, omega arith) }
+-- four places, which hold something else at each call
+abbrev twistedIdle : Call → ℕ → Lent
+twistedIdle c j = record { f = replicate 4 (P + j); g = replicate 4 (P + j); file = [] }
+
+twisted-brings : Brings P twisted twistedModes (2 ∷ 3 ∷ []) (3 ∷ []) twistedIdle
+twisted-brings = record { count = refl; challenges = two; points = one; room = λ i most e j. (omega arith, omega arith) }
   where
     two : AllNonzero P (2 ∷ 3 ∷ [])
     two zero h = refl
@@ -112,10 +120,10 @@ twisted-brings = record { count = refl; challenges = two; points = one; room = �
     one (suc j) h = absurd (omega arith)
 
 abbrev twistedWorld : World
-twistedWorld = freshWorld (twisted .start) (twistedLent .f) (twistedLent .g)
+twistedWorld = freshWorld (twisted .start) [] []
 
 abbrev twistedRun : List Made
-twistedRun = properRun P twisted 1 (2 ∷ 3 ∷ []) (3 ∷ []) twistedLent
+twistedRun = properRun P twisted twistedModes (2 ∷ 3 ∷ []) (3 ∷ []) twistedIdle [] []
 
 abbrev twistedOpening : List ℕ
 twistedOpening = 597 ∷ 417 ∷ 567 ∷ 231 ∷ 2147483542 ∷ 231 ∷ 106 ∷ 64 ∷ 99 ∷ 45 ∷ 2147483638 ∷ 45 ∷ []
@@ -129,15 +137,14 @@ pub twisted-replies :
     ≡ items3
     ++ (says (reply.fieldTotal 726) ∷ [])
     ++ items3
-    ++ (says (reply.message 516 141 210) ∷ says reply.challenged ∷ [])
+    ++ (says reply.changed ∷ says (reply.message 516 141 210) ∷ says reply.challenged ∷ says reply.changed ∷ [])
     ++ items3
-    ++ (says reply.changed
-    ∷ says (reply.message 1134 1575 504)
-    ∷ says reply.challenged
-    ∷ says (reply.ends 231 45)
-    ∷ (record { answer = answered reply.opening; values = inNinety 2 twistedOpening })
-    ∷ [])
-unfolding each itemsBelow roundsFrom openingsAt step messageGiven messageCall endsCall giveCall itemChecks openCall openAtCall closeCall challengedFull challengeCall cleared toFullCall openingGiven openingCall wellFormed turnFormed passFormed powers firstFrom inLimits sizeIn32 partsOf takes takesIn entersIn weight summedItem enteredIn plus image residue negMod addMod mulMod sum foldWith overwrite foldSlice messageSlice valuesOf tripleValues every hornerAt arrived topAt climbFrom evaluatedFrom climbed evaluated meetsAt summed settled sumsAfter stacksFit entered streamed paddingFrom paddingBelow left placed placedAll placedIn inRange
+    ++ (says (reply.message 1134 1575 504) ∷ says reply.challenged ∷ [])
+    ++ items3
+    ++ (says reply.changed ∷ says (reply.ends 231 45) ∷ says reply.changed ∷ [])
+    ++ items3
+    ++ ((record { answer = answered reply.opening; values = inNinety 2 twistedOpening }) ∷ [])
+unfolding each itemsBelow roundsFrom openingsFrom step messageGiven messageCall endsCall giveCall itemChecks openCall openAtCall closeCall challengedFull challengeCall cleared toFullCall toSmallCall openingGiven openingCall wellFormed turnFormed passFormed powers firstFrom inLimits sizeIn32 partsOf takes takesIn entersIn weight summedItem enteredIn plus image residue negMod addMod mulMod sum foldWith overwrite foldSlice messageSlice valuesOf tripleValues every hornerAt arrived topAt climbFrom evaluatedFrom climbed evaluated meetsAt summed settled sumsAfter stacksFit entered streamed paddingFrom paddingBelow left placed placedAll placedIn inRange
 twisted-replies = refl
 
 -- its verifier's own list: the items, the claim, two messages, the verdict and a check
@@ -173,11 +180,11 @@ twisted-told = refl
 
 -- what demand 3 says of them
 pub twisted-proper : AllProper P (2 ∷ 3 ∷ []) twisted twistedWorld twistedRun
-twisted-proper = demand3-31 .proper twisted twisted-valid 1 (2 ∷ 3 ∷ []) (3 ∷ []) twistedLent twisted-brings
+twisted-proper = demand3-31 .proper twisted twisted-valid twistedModes (2 ∷ 3 ∷ []) (3 ∷ []) twistedIdle twisted-brings [] []
 
 pub twisted-right : AllRight P true twisted twistedWorld twistedRun
 twisted-right =
-    demand3-31 .answers true twisted twisted-whole total (twisted-whole .start) (twistedLent .f) (twistedLent .g) twistedRun (twisted-proper .1 true)
+    demand3-31 .answers true twisted twisted-whole total (twisted-whole .start) [] [] twistedRun (twisted-proper .1 true)
 
 abbrev twistedHearing : Hearing
 twistedHearing = freshHearing (twisted .start) (2 ∷ 3 ∷ [])
@@ -187,16 +194,16 @@ pub twisted-verifier : (byMessages P twisted twistedWorld twistedRun ≡ twisted
     × AllAgreed P twistedHearing twistedList
     × AllBringRun P twisted twistedWorld twistedRun twistedHearing twistedList
 twisted-verifier =
-    let v = demand3-31 .verifierProper twisted twisted-valid 1 (2 ∷ 3 ∷ []) (3 ∷ []) twistedLent twisted-brings in
+    let v = demand3-31 .verifierProper twisted twisted-valid twistedModes (2 ∷ 3 ∷ []) (3 ∷ []) twistedIdle twisted-brings [] [] in
     let same = v .0 ∙ twisted-list in (same, subst (AllAgreed P twistedHearing) same (v .1), subst (AllBringRun P twisted twistedWorld twistedRun twistedHearing) same (v .2))
 
 -- so every message passes and the verdict is yes
 pub twisted-says : AllSay P twisted twistedHearing twistedList
 twisted-says =
-    demand3-31 .verifierAnswers true twisted twisted-whole total (twisted-whole .start) (twistedLent .f) (twistedLent .g) twistedRun (twisted-proper .1 true) (2 ∷ 3 ∷ []) refl (twisted-proper .2) twistedList
+    demand3-31 .verifierAnswers true twisted twisted-whole total (twisted-whole .start) [] [] twistedRun (twisted-proper .1 true) (2 ∷ 3 ∷ []) refl (twisted-proper .2) twistedList
     (twisted-verifier .2)
 
 -- and every check of the run's openings is yes, before the list, after it or after any other
 pub twisted-checked : (qs : List Posed) → OpeningsChecked P twisted twistedWorld twistedRun (after (hearsOn P) twistedHearing qs)
 twisted-checked =
-    demand3-31 .openingsChecked true twisted twisted-whole total (twisted-whole .start) (twistedLent .f) (twistedLent .g) twistedRun (twisted-proper .1 true) (2 ∷ 3 ∷ []) refl (twisted-proper .2)
+    demand3-31 .openingsChecked true twisted twisted-whole total (twisted-whole .start) [] [] twistedRun (twisted-proper .1 true) (2 ∷ 3 ∷ []) refl (twisted-proper .2)

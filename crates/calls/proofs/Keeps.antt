@@ -34,7 +34,7 @@ use Rattle.runs.specs.Passes.{passAfter, Gives}
 use Rattle.runs.specs.Buffers.{Written}
 use Rattle.calls.specs.declared.Call.the-variants as call
 use Rattle.calls.specs.Step.{Lent, Result}
-use Rattle.calls.specs.State.{State, inPass, goesTo, withBuffers, inFullMode, takesChallenge, buffersIn, closed}
+use Rattle.calls.specs.State.{State, inPass, goesTo, withBuffers, inMode, takesChallenge, buffersIn, closed}
 use Rattle.calls.specs.Table.{changeWaits, levelNow, level, long, taken, completed, table}
 use Rattle.calls.specs.Meaning.{meant, roundMessage, ends, closeAsks, messagesTo, foldF, foldG, AsLeft, itemWrites}
 use Rattle.calls.specs.Statement.{known}
@@ -286,9 +286,9 @@ module _ (p : ℕ) (large : maxWeight < p) (through : Bool) (its : List Given) (
       }
 
   -- the change is done: every place is known
-  changed : a .pass .kind ≡ Change → kindFits Change (a .turn .mode) (a .turn .next) ≡ true → length (a .pass .items) ≡ a .start .items → Agrees p through its (inFullMode a) past
+  changed : a .pass .kind ≡ Change → kindFits Change (a .turn .mode) (a .turn .next) ≡ true → length (a .pass .items) ≡ a .start .items → Agrees p through its (inMode a Full) past
   changed ek fit all =
-      let b : State = inFullMode a in
+      let b : State = inMode a Full in
       let test : Bool = through || not (waits next.Openings (a .turn .next)) in
       let s = small-changing (a .turn .mode) (a .turn .next) fit in
       let t : taken a ≡ 2 ^ a .start .rounds = omega (arith, enough p its a h) in
@@ -355,6 +355,20 @@ module _ (p : ℕ) (large : maxWeight < p) (through : Bool) (its : List Given) (
       ap (λ m. knownIn (long b) (taken b / 2 ^ level b) m (b .pass .kind) (waits next.Openings (b .turn .next)) through) (em ∙ is-full (a .turn .mode) f)
       ∙ full-some (long b) (taken b / 2 ^ level b) (b .pass .kind) (waits next.Openings (b .turn .next)) through
       ∙ ap (λ o. cond o (long b) 0) w
+
+  -- back in small mode no place is known
+  pub returned-agrees : Agrees p through its (inMode a Small) past
+  returned-agrees =
+      let b : State = inMode a Small in
+      let none = small-none (long b) (taken b / 2 ^ level b) Small Shut (waits next.Openings (b .turn .next)) through refl refl in
+      record {
+        gives = no-items-given T;
+        placesF = λ j lo hi. absurd (no-place (long b) _ j none lo hi);
+        placesG = λ j lo hi. absurd (no-place (long b) _ j none lo hi);
+        total = g .total;
+        messages = g .messages;
+        ends = g .ends;
+      }
 
   pub full-message : a .turn .next ≡ next.Message → isFull (a .turn .mode) ≡ true → AsLeft a l → (even cross odd : ℕ)
       → answered (reply.message even cross odd) ≡ meant p T (a .turn .challenges) (roundMessage (length (a .turn .challenges))) .answer

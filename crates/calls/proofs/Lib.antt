@@ -49,6 +49,7 @@ pub mod Longer
 pub mod Alike
 pub mod Hits
 pub mod Links
+pub mod Unbound
 pub mod LiveTable
 pub mod LiveStep
 pub mod LiveVectors

@@ -1,9 +1,9 @@
--- Document 01's "One trip, whole" is such a run, in small mode, in full mode, and with a change before each of its steps; its verifier agrees,
--- by messages and by the 42 bytes of its proof file.
+-- Document 01's "One trip, whole" is such a run, whichever of its steps are made in full mode; its verifier agrees, by messages and by the 42
+-- bytes of its proof file.
 use mathlib.Core.Path.{refl}
-use mathlib.Core.Bool.{true}
+use mathlib.Core.Bool.{Bool, true}
 use mathlib.Core.List.{List, [], _∷_, _++_}
-use Prim.Native.Nat.{ℕ, zero, suc, _<_}
+use Prim.Native.Nat.{ℕ, zero, suc, _+_, _<_}
 use native.Mathlib.Omega.{arith}
 use lib.IntN.{pos, negsuc}
 use lib.ListN.{replicate, take}
@@ -12,6 +12,7 @@ use Rattle.vector.specs.Rounds.{powers, firstFrom}
 use Rattle.item.specs.declared.Given.the-variants.{Reading}
 use Rattle.item.specs.Version.{inRange}
 use Rattle.runs.specs.Trip.{Trip, tripItem, sumOf}
+use Rattle.calls.specs.declared.Call.{Call}
 use Rattle.calls.specs.Step.{Lent}
 use Rattle.calls.specs.Lists.{after}
 use Rattle.calls.specs.World.{Made, World, freshWorld, came, onward}
@@ -41,12 +42,12 @@ valid = record { whole = record { start = record { version = refl; least = omega
     fits (suc (suc zero)) h = (refl, refl, omega arith)
     fits (suc (suc (suc i))) h = absurd (omega arith)
 
--- four places that hold anything
-abbrev lent : ℕ → Lent
-lent x = record { f = replicate 4 x; g = replicate 4 x; file = [] }
+-- four places, which hold something else at each call
+abbrev idle : Call → ℕ → Lent
+idle c j = record { f = replicate 4 (P + j); g = replicate 4 (P + j); file = [] }
 
-brings : (k x : ℕ) → Brings P trip k (2 ∷ 3 ∷ []) (2 ∷ []) (lent x)
-brings k x = record { count = refl; challenges = two; points = one; room = λ h. (omega arith, omega arith) }
+brings : (full : ℕ → Bool) → Brings P trip full (2 ∷ 3 ∷ []) (2 ∷ []) idle
+brings full = record { count = refl; challenges = two; points = one; room = λ i most e j. (omega arith, omega arith) }
   where
     two : AllNonzero P (2 ∷ 3 ∷ [])
     two zero h = refl
@@ -57,21 +58,21 @@ brings k x = record { count = refl; challenges = two; points = one; room = λ h.
     one zero h = refl
     one (suc j) h = absurd (omega arith)
 
-module _ (k x : ℕ) where
+module _ (full : ℕ → Bool) (f g : List ℕ) where
   abbrev begin : World
-  begin = freshWorld (trip .start) (lent x .f) (lent x .g)
+  begin = freshWorld (trip .start) f g
 
   abbrev run : List Made
-  run = properRun P trip k (2 ∷ 3 ∷ []) (2 ∷ []) (lent x)
+  run = properRun P trip full (2 ∷ 3 ∷ []) (2 ∷ []) idle f g
 
   abbrev listens : Hearing
   listens = freshHearing (trip .start) (2 ∷ 3 ∷ [])
 
   pub trip-proper : AllProper P (2 ∷ 3 ∷ []) trip begin run
-  trip-proper = demand3-31 .proper trip valid k (2 ∷ 3 ∷ []) (2 ∷ []) (lent x) (brings k x)
+  trip-proper = demand3-31 .proper trip valid full (2 ∷ 3 ∷ []) (2 ∷ []) idle (brings full) f g
 
   pub trip-agreed : AllAgreed P listens (byMessages P trip begin run) × AllBringRun P trip begin run listens (byMessages P trip begin run)
-  trip-agreed = let v = demand3-31 .verifierProper trip valid k (2 ∷ 3 ∷ []) (2 ∷ []) (lent x) (brings k x) in (v .1, v .2)
+  trip-agreed = let v = demand3-31 .verifierProper trip valid full (2 ∷ 3 ∷ []) (2 ∷ []) idle (brings full) f g in (v .1, v .2)
 
   abbrev into : Lent
   into = record { f = []; g = []; file = replicate 42 0 }
@@ -81,4 +82,4 @@ module _ (k x : ℕ) where
 
   pub trip-file-agreed : AllAgreed P listens (byFile P trip begin run file) × AllBringRun P trip begin (run ++ writesProof into ∷ []) listens (byFile P trip begin run file)
   trip-file-agreed =
-      let v = demand3-31 .verifierProper trip valid k (2 ∷ 3 ∷ []) (2 ∷ []) (lent x) (brings k x) .3 refl into (omega arith) in (v .2, v .3)
+      let v = demand3-31 .verifierProper trip valid full (2 ∷ 3 ∷ []) (2 ∷ []) idle (brings full) f g .3 refl into (omega arith) in (v .2, v .3)

@@ -21,7 +21,7 @@ use Rattle.calls.specs.State.{State}
 use Rattle.item.specs.declared.Given.{Given}
 use Rattle.item.specs.declared.Given.the-variants.{Reading, Numbers}
 use Rattle.calls.specs.Proper.{ItemFits}
-use Rattle.calls.specs.Table.{Refusal, row, rowAt, passWaits, openingsNext, changeWaits, long, bothLong, readRows, givenRows, placeRow, totalFits, table}
+use Rattle.calls.specs.Table.{Refusal, row, rowAt, passWaits, openingsNext, changeWaits, returnWaits, long, bothLong, readRows, givenRows, placeRow, totalFits, table}
 use Rattle.calls.specs.Statement.{Decides}
 use Rattle.calls.proofs.Records.{Notes}
 use Rattle.calls.proofs.Refusals.{Inv, decide-step}
@@ -54,6 +54,10 @@ module _ (p : ℕ) (a : State) (l : Lent) where
   pub to-full-free : changeWaits (a .turn .mode) (a .turn .next) (a .start .rounds) ≡ true → bothLong a l ≡ true → table p a call.ToFull l ≡ none
   unfolding table
   to-full-free turn long = row-free _ 10 _ turn (row-free _ 9 none long refl)
+
+  pub to-small-free : returnWaits (a .turn .mode) (a .turn .next) (a .start .rounds) ≡ true → table p a call.ToSmall l ≡ none
+  unfolding table
+  to-small-free turn = row-free _ 10 none turn refl
 
   place-free : (isChange (a .pass .kind) ≡ true → bothLong a l ≡ true) → placeRow a l ≡ none
   place-free long = row-free _ 9 none (by (isChange (a .pass .kind)) long) refl

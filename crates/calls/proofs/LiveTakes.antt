@@ -3,7 +3,7 @@ use mathlib.Core.Path.{_≡_, refl, sym, ap, ap₂, _∙_}
 use mathlib.Core.Bool.{Bool, true, false, cond}
 use mathlib.Core.List.{List, [], _∷_, _++_, append-assoc, append-nil}
 use Prim.Native.Nat.{ℕ, zero, suc}
-use lib.Dec.{eqb, leb, ltb}
+use lib.Dec.{ltb}
 use lib.ListN.{List·getD-append}
 use Rattle.vector.specs.Vector.{at}
 use Rattle.phase.specs.declared.Next.{Next}
@@ -15,12 +15,12 @@ use Rattle.runs.specs.Trip.{Trip}
 use Rattle.calls.specs.declared.Call.{Call}
 use Rattle.calls.specs.declared.Call.the-variants as call
 use Rattle.calls.specs.Lists.{along, always, each}
-use Rattle.calls.specs.Step.{Lent, Result, isAnswered}
+use Rattle.calls.specs.Step.{Lent, lending, Result, isAnswered}
 use Rattle.calls.specs.State.{State, takesChallenge, closed, goesOn, follow}
-use Rattle.calls.specs.World.{World, freshWorld, came}
-use Rattle.calls.specs.Proper.{itemsBelow, wholePass, answerBy, changeBefore, roundsFrom, openingsAt, endCalls, openingCalls, wholeRun, Host, makes, hostOn, properRun}
+use Rattle.calls.specs.World.{World, freshWorld}
+use Rattle.calls.specs.Proper.{itemsBelow, wholePass, answerBy, changeTo, before, changeBefore, roundsFrom, openingsFrom, endCalls, openingCalls, wholeRun, Host, hostOn, properRun}
 use Rattle.calls.specs.Demand3.{AllAnswered, AllTake}
-use Rattle.calls.proofs.LiveWorld.{buffers-same}
+use Rattle.calls.proofs.LiveWorld.{made, madeFrom, buffers-same}
 use Rattle.calls.proofs.Hits.{Prefix}
 
 -- the challenges in a list of calls
@@ -71,48 +71,51 @@ module _ (T : Trip) where
   answer-quiet true opening asking e f = ap (λ xs. xs ++ []) f
   answer-quiet false opening asking e f = pass-quiet opening e
 
-  module _ (k : ℕ) where
-    change-quiet : (i : ℕ) → challengesIn (changeBefore T k i) ≡ []
-    unfolding challengesIn
-    change-quiet i = by (eqb k i)
-      where
-        by : (b : Bool) → challengesIn (cond b (wholePass T call.ToFull) []) ≡ []
-        by true = pass-quiet call.ToFull refl
-        by false = refl
+  change-to-quiet : (was full : Bool) → challengesIn (changeTo T was full) ≡ []
+  unfolding challengesIn
+  change-to-quiet false true = pass-quiet call.ToFull refl
+  change-to-quiet true false = refl
+  change-to-quiet false false = refl
+  change-to-quiet true true = refl
 
-    rounds-in : (i : ℕ) (cs : List ℕ) → challengesIn (roundsFrom T k i cs) ≡ cs
+  module _ (full : ℕ → Bool) where
+    change-quiet : (i : ℕ) → challengesIn (changeBefore T full i) ≡ []
+    change-quiet i = change-to-quiet (before T full i) (full i)
+
+    rounds-in : (i : ℕ) (cs : List ℕ) → challengesIn (roundsFrom T full i cs) ≡ cs
     unfolding roundsFrom challengesIn
     rounds-in i [] = refl
     rounds-in i (c ∷ cs) =
-        let asks : List Call = answerBy T (leb k i) call.OpenPass call.Message in
-        after-quiet (changeBefore T k i ++ asks) (call.Challenge c ∷ roundsFrom T k (suc i) cs) (c ∷ cs)
-        (quiet-both (changeBefore T k i) asks (change-quiet i) (answer-quiet (leb k i) call.OpenPass call.Message refl refl))
+        let asks : List Call = answerBy T (full i) call.OpenPass call.Message in
+        after-quiet (changeBefore T full i ++ asks) (call.Challenge c ∷ roundsFrom T full (suc i) cs) (c ∷ cs)
+        (quiet-both (changeBefore T full i) asks (change-quiet i) (answer-quiet (full i) call.OpenPass call.Message refl refl))
         (ap (λ ds. c ∷ ds) (rounds-in (suc i) cs))
 
-    openings-quiet : (bs : List ℕ) → challengesIn (openingsAt T k bs) ≡ []
-    unfolding openingsAt challengesIn
-    openings-quiet [] = refl
-    openings-quiet (b ∷ bs) =
-        quiet-both (answerBy T (leb k (suc (T .start .rounds))) (call.OpenAt b) (call.Opening b)) (openingsAt T k bs)
-        (answer-quiet (leb k (suc (T .start .rounds))) (call.OpenAt b) (call.Opening b) refl refl) (openings-quiet bs)
+    openings-quiet : (i : ℕ) (bs : List ℕ) → challengesIn (openingsFrom T full i bs) ≡ []
+    unfolding openingsFrom
+    openings-quiet i [] = change-quiet i
+    openings-quiet i (b ∷ bs) =
+        let asks : List Call = answerBy T (full i) (call.OpenAt b) (call.Opening b) in
+        quiet-both (changeBefore T full i ++ asks) (openingsFrom T full (suc i) bs)
+        (quiet-both (changeBefore T full i) asks (change-quiet i) (answer-quiet (full i) (call.OpenAt b) (call.Opening b) refl refl)) (openings-quiet (suc i) bs)
 
-    pub last-quiet : (bs : List ℕ) → challengesIn (openingCalls T k bs) ≡ []
+    pub last-quiet : (bs : List ℕ) → challengesIn (openingCalls T full bs) ≡ []
     unfolding challengesIn
     last-quiet bs = by (ltb 0 (T .start .rounds))
       where
-        by : (b : Bool) → challengesIn (cond b (changeBefore T k (suc (T .start .rounds)) ++ openingsAt T k bs) []) ≡ []
-        by true = quiet-both (changeBefore T k (suc (T .start .rounds))) (openingsAt T k bs) (change-quiet (suc (T .start .rounds))) (openings-quiet bs)
+        by : (b : Bool) → challengesIn (cond b (openingsFrom T full (suc (T .start .rounds)) bs) []) ≡ []
+        by true = openings-quiet (suc (T .start .rounds)) bs
         by false = refl
 
-    whole-in : (cs bs : List ℕ) → challengesIn (wholeRun T k cs bs) ≡ cs
+    whole-in : (cs bs : List ℕ) → challengesIn (wholeRun T full cs bs) ≡ cs
     whole-in cs bs =
         let first : List Call = wholePass T call.OpenPass in
-        let asks : List Call = answerBy T (leb k (T .start .rounds)) call.OpenPass call.Ends in
-        before-quiet (first ++ roundsFrom T k 0 cs ++ endCalls T k) (openingCalls T k bs) cs
-        (before-quiet (first ++ roundsFrom T k 0 cs) (endCalls T k) cs
-        (after-quiet first (roundsFrom T k 0 cs) cs (pass-quiet call.OpenPass refl) (rounds-in 0 cs))
-        (quiet-both (changeBefore T k (T .start .rounds)) asks (change-quiet (T .start .rounds))
-        (answer-quiet (leb k (T .start .rounds)) call.OpenPass call.Ends refl refl)))
+        let asks : List Call = answerBy T (full (T .start .rounds)) call.OpenPass call.Ends in
+        before-quiet (first ++ roundsFrom T full 0 cs ++ endCalls T full) (openingCalls T full bs) cs
+        (before-quiet (first ++ roundsFrom T full 0 cs) (endCalls T full) cs
+        (after-quiet first (roundsFrom T full 0 cs) cs (pass-quiet call.OpenPass refl) (rounds-in 0 cs))
+        (quiet-both (changeBefore T full (T .start .rounds)) asks (change-quiet (T .start .rounds))
+        (answer-quiet (full (T .start .rounds)) call.OpenPass call.Ends refl refl)))
         (last-quiet bs)
 
 -- an answered call adds its challenge
@@ -144,18 +147,18 @@ follow-takes a c o y = ap (λ b. cond b (goesOn a c (o .lent)) a .turn .challeng
 first-of : (ds rest cs : List ℕ) → ds ++ rest ≡ cs → Prefix ds cs
 first-of ds rest cs e j h = sym (List·getD-append ds rest 0 j h) ∙ ap (λ xs. at xs j) e
 
-module _ (p : ℕ) (T : Trip) where
-  pub all-take : (cs : List ℕ) (calls : List Call) (w : Host) → AllAnswered p (w .world) (each (hostOn p T) (makes p T) w calls)
-      → w .world .state .turn .challenges ++ challengesIn calls ≡ cs → AllTake p cs (w .world) (each (hostOn p T) (makes p T) w calls)
+module _ (p : ℕ) (T : Trip) (idle : Call → ℕ → Lent) where
+  pub all-take : (cs : List ℕ) (calls : List Call) (w : Host) → AllAnswered p (w .world) (madeFrom p T idle w calls)
+      → w .world .state .turn .challenges ++ challengesIn calls ≡ cs → AllTake p cs (w .world) (madeFrom p T idle w calls)
   unfolding each along always challengesIn
   all-take cs [] w h e = first-of (w .world .state .turn .challenges) [] cs e
   all-take cs (c ∷ calls) w h e =
       let ds : List ℕ = w .world .state .turn .challenges in (
         first-of ds (own c ++ challengesIn calls) cs e,
-        all-take cs calls (hostOn p T w c) (h .1)
-            (ap (λ ds. ds ++ challengesIn calls) (follow-takes (w .world .state) c (came p (w .world) (makes p T w c)) (h .0)) ∙ append-assoc ds (own c) (challengesIn calls) ∙ e),
+        all-take cs calls (hostOn p T idle w c) (h .1)
+            (ap (λ ds. ds ++ challengesIn calls) (follow-takes (w .world .state) c (made p T idle w c) (h .0)) ∙ append-assoc ds (own c) (challengesIn calls) ∙ e),
       )
 
-  pub proper-takes : (k : ℕ) (cs bs : List ℕ) (l : Lent)
-      → (let w : World = freshWorld (T .start) (l .f) (l .g) in AllAnswered p w (properRun p T k cs bs l) → AllTake p cs w (properRun p T k cs bs l))
-  proper-takes k cs bs l h = all-take cs (wholeRun T k cs bs) (record { world = freshWorld (T .start) (l .f) (l .g); lent = l }) h (whole-in T k cs bs)
+  pub proper-takes : (full : ℕ → Bool) (cs bs f g : List ℕ)
+      → (let w : World = freshWorld (T .start) f g in AllAnswered p w (properRun p T full cs bs idle f g) → AllTake p cs w (properRun p T full cs bs idle f g))
+  proper-takes full cs bs f g h = all-take cs (wholeRun T full cs bs) (record { world = freshWorld (T .start) f g; count = 0; lent = lending f g [] }) h (whole-in T full cs bs)

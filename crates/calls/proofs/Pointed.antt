@@ -93,7 +93,7 @@ module _ (p : ℕ) where
       let r = row-passed (isSmall (a .turn .mode) && openingsNext (a .turn .next) (a .start .rounds)) 10 (row (isNonzero p b) 6 none) e in
       at-pointed (a .start .rounds) b (a .turn .next) (row-passed (isNonzero p b) 6 none (r .1) .0) (both (isSmall (a .turn .mode)) (openingsNext (a .turn .next) (a .start .rounds)) (r .0) .1)
   goes-pointed a call.ToFull l m e h = refl
-  goes-pointed a call.ToSmall l m e h = h
+  goes-pointed a call.ToSmall l m e h = refl
   goes-pointed a (call.Give x) l m e h = buffers-same (pointed p) (λ a l. refl) (isChange (a .pass .kind)) _ m ∙ h
   goes-pointed a call.Close l m e h = close-pointed a (a .turn .next) (a .pass .kind) h
   goes-pointed a call.Message l m e h = refl

@@ -55,7 +55,7 @@ use Rattle.calls.proofs.Records.{Notes, noNotes, noted, refusal-noted, 
 use Rattle.calls.proofs.Guards.{challengeDoes}
 use Rattle.calls.proofs.Steps.{some-none, closeStep, does, refusedResult, settled, steps}
 use Rattle.calls.proofs.Fits.{Fits, few, run-formed, formed, kind-is, taken-is, sum-is, messages-below}
-use Rattle.calls.proofs.Follows.{Follows, positive, no-items, open-follows, open-at-follows, to-full-follows, item-follows, close-follows, message-follows, ends-follows, challenge-follows}
+use Rattle.calls.proofs.Follows.{Follows, positive, no-items, open-follows, open-at-follows, to-full-follows, to-small-follows, item-follows, close-follows, message-follows, ends-follows, challenge-follows}
 
 close-answered : (r : Run) (s : Pass) (t : Next) (k : Kind) → isAnswered (answerIn (closeStep r s t k .answer)) ≡ true
 close-answered r s t Shut = refl
@@ -87,17 +87,13 @@ module _ (p : ℕ) (large : maxWeight < p) where
   challenge-answered r s c l Small = refl
   challenge-answered r s c l Full = refl
 
-  never : (a : State) (l : Lent) → table p a call.ToSmall l ≡ none → ⊥
-  unfolding table
-  never a l e = some-none e
-
   -- AN ANSWERED CALL
   pub goes : (a : State) {past : Notes} → Fits p a past → (c : Call) → (l : Lent) → table p a c l ≡ none → Goes a past c (does p (runOf a past) (passOf p a past) c l)
   unfolding messageGiven openingGiven
   goes a {past} h call.OpenPass l e = (refl, open-follows p large a h l e)
   goes a {past} h (call.OpenAt b) l e = (refl, open-at-follows p large a h b l e)
   goes a {past} h call.ToFull l e = (refl, to-full-follows p large a h l e)
-  goes a {past} h call.ToSmall l e = absurd (never a l e)
+  goes a {past} h call.ToSmall l e = (refl, to-small-follows p large a h l e)
   goes a {past} h (call.Give x) l e =
       take-noted p _ past _ (takes-answer p (runOf a past) (passOf p a past) (contributes p (a .start) x) (l .f) (l .g))
       (item-follows p large a h x l e)

@@ -28,14 +28,14 @@ use Rattle.prover.specs.declared.Step.{Step}
 use Rattle.prover.specs.declared.Answer.the-variants as answer
 use Rattle.prover.specs.Records.{Out, out, leaves, answeredStep}
 use Rattle.pass.specs.Open.{noPoints, pointsOf}
-use Rattle.prover.specs.Open.{mayOpen, mayOpenAt, opened, openKernel, paddedKernel, openCall, openAtCall, toSmallCall}
+use Rattle.prover.specs.Open.{mayOpen, mayOpenAt, opened, openKernel, paddedKernel, openCall, openAtCall}
 use Rattle.prover.specs.Take as item
 use Rattle.prover.specs.Level.{stageOf}
 use Rattle.prover.specs.WellFormed as run
 use Rattle.prover.specs.Calls.{bothLong, passOpen, giveCall}
 use Rattle.pass.specs.Lent.{goodIn}
 use Rattle.pass.specs.Checks.{itemChecks}
-use Rattle.prover.specs.Change.{mayChange, changes, toFullCall}
+use Rattle.prover.specs.Change.{mayChange, changes, toFullCall, mayReturn, returns, toSmallCall}
 use Rattle.prover.specs.Close.{withTotal, goneTo, shutPass, totalFits, finished, closing, closeCall, leavesStep}
 use Rattle.prover.specs.Full.{messageTurn, endsTurn, openingTurn, lentFolds, messageGiven, messageCall, endsGiven, endsCall}
 use Rattle.prover.specs.Challenge.{challengeTurn, challengedSmall, challengedFull, challenged, challengeCall}
@@ -145,7 +145,7 @@ module _ (p : ℕ) (r : Run) (s : Pass) where
       kept (l .f) (l .g) (toFullCall p r s (l .f) (l .g))
       (checked (mayChange p r s) 10 (l .f) (l .g) _
       (checked (bothLong r (length (l .f)) (length (l .g))) 9 (l .f) (l .g) _ (same (l .f) (l .g) (changes r (l .f) (l .g)) refl)))
-  step-start call.ToSmall l = refl
+  step-start call.ToSmall l = kept [] [] (toSmallCall p r s) (checked (mayReturn p r s) 10 [] [] _ (same [] [] (returns r s) refl))
   step-start (call.Give x) l =
       kept (l .f) (l .g) (giveCall p r s x (l .f) (l .g))
       (given (l .f) (l .g) (itemChecks p (stageOf r) (run.wellFormed p r s) (s .kind) (s .taken) x (length (l .f)) (length (l .g))))

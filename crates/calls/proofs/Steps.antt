@@ -27,9 +27,9 @@ use Rattle.pass.specs.Values.{noValues}
 use Rattle.prover.specs.Records.{Out, out, leaves}
 use Rattle.prover.specs.WellFormed.{wellFormed}
 use Rattle.pass.specs.Open.{noPoints, pointsOf}
-use Rattle.prover.specs.Open.{opened, openKernel, paddedKernel, toSmallCall}
+use Rattle.prover.specs.Open.{opened, openKernel, paddedKernel}
 use Rattle.prover.specs.Take.{takes}
-use Rattle.prover.specs.Change.{changes}
+use Rattle.prover.specs.Change.{changes, returns}
 use Rattle.prover.specs.Close.{totalStep, messageStep, endsStep, openingStep, changedStep, finished, closing, leavesStep}
 use Rattle.prover.specs.Full.{messageGiven, endsGiven}
 use Rattle.prover.specs.Opening.{openingGiven}
@@ -42,7 +42,7 @@ use Rattle.calls.specs.Step.{Lent, Result, keeping, leaving, step}
 use Rattle.calls.specs.State.{State}
 use Rattle.calls.specs.Table.{Refusal, refusedWith, decided, row, table}
 use Rattle.calls.proofs.Records.{Notes, runOf}
-use Rattle.calls.proofs.Guards.{challengeDoes, same-row, like-row, both-and, open-decided, open-at-decided, to-full-decided, message-decided, ends-decided, opening-decided, challenge-decided, item-decided, close-decided}
+use Rattle.calls.proofs.Guards.{challengeDoes, same-row, like-row, both-and, open-decided, open-at-decided, to-full-decided, to-small-decided, message-decided, ends-decided, opening-decided, challenge-decided, item-decided, close-decided}
 
 -- what the close of a pass comes to; the first and the fourth line are met by no list
 abbrev pub closeStep : Run → Pass → Next → Kind → Step
@@ -63,7 +63,7 @@ abbrev pub does : ℕ → Run → Pass → Call → Lent → Result
 does p r s call.OpenPass l = keeping l (opened r noPoints (openKernel r))
 does p r s (call.OpenAt b) l = keeping l (opened r (pointsOf p b) (paddedKernel r))
 does p r s call.ToFull l = leaving l (changes r (l .f) (l .g))
-does p r s call.ToSmall l = keepingStep l (changedStep r)
+does p r s call.ToSmall l = keeping l (returns r s)
 does p r s (call.Give x) l = leaving l (takes p r s (contributes p (r .start) x) (l .f) (l .g))
 does p r s call.Close l = keepingStep l (closeStep r s (r .next) (s .kind))
 does p r s call.Message l = leaving l (messageGiven p r s (l .f) (l .g))
@@ -161,17 +161,13 @@ module _ (p : ℕ) (a : State) (past : Notes) (few : a .start .rounds ≤ 15) (s
     write-settled l (some (k, none)) o e = rw e
     write-settled l (some (k, some i)) o e = rw e
 
-    to-small-so : (l : Lent) → keeping l (leaves R s [] [] (toSmallCall R s)) ≡ settled R s l (table p a call.ToSmall l) (does p R s call.ToSmall l)
-    unfolding toSmallCall table
-    to-small-so l = refl
-
     -- THE STEP
     pub steps : (c : Call) (l : Lent) → step p R s c l ≡ settled R s l (table p a c l) (does p R s c l)
     unfolding step
     steps call.OpenPass l = ap (λ o. keeping l (leaves R s [] [] o)) (open-decided p a past few s wf l) ∙ keeps R s l (table p a call.OpenPass l) _
     steps (call.OpenAt b) l = ap (λ o. keeping l (leaves R s [] [] o)) (open-at-decided p a past few s wf b l) ∙ keeps R s l (table p a (call.OpenAt b) l) _
     steps call.ToFull l = ap (λ o. leaving l (leaves R s (l .f) (l .g) o)) (to-full-decided p a past few s wf l) ∙ leaving-so R s l (table p a call.ToFull l) _
-    steps call.ToSmall l = to-small-so l
+    steps call.ToSmall l = ap (λ o. keeping l (leaves R s [] [] o)) (to-small-decided p a past few s wf l) ∙ keeps R s l (table p a call.ToSmall l) _
     steps (call.Give x) l = ap (λ o. leaving l (leaves R s (l .f) (l .g) o)) (item-decided p a past few s wf kind count x l) ∙ leaving-so R s l (table p a (call.Give x) l) _
     steps call.Close l = ap (λ o. keepingStep l (leavesStep R s o)) (close-decided p a past few s wf kind count sums l) ∙ close-so l (table p a call.Close l) refl
     steps call.Message l = ap (λ o. leaving l (leaves R s (l .f) (l .g) o)) (message-decided p a past few s wf l) ∙ leaving-so R s l (table p a call.Message l) _

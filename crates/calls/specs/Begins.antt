@@ -1,5 +1,6 @@
 -- WHERE A RUN'S LIST BEGINS: at the total of a fresh run, or, for a batch of document 02, (a), at the openings, its challenges handed in.
 use Prim.Native.Nat.{ℕ}
+use mathlib.Core.Bool.{Bool}
 use mathlib.Core.List.{List}
 use Rattle.phase.specs.declared.Mode.the-variants.{Small}
 use Rattle.phase.specs.declared.Next.the-variants as next
@@ -7,11 +8,11 @@ use Rattle.prover.specs.Start.{openingsRun, zeroPass}
 use Rattle.item.specs.declared.Start.{Start}
 use Rattle.runs.specs.Trip.{Trip}
 use Rattle.calls.specs.State.{State, noPass}
-use Rattle.calls.specs.Lists.{each}
+use Rattle.calls.specs.declared.Call.{Call}
 use Rattle.calls.specs.Step.{Lent}
 use Rattle.calls.specs.World.{Made, World, freshWorld}
 use Rattle.calls.specs.Starts.{Startable, Opens}
-use Rattle.calls.specs.Proper.{openingCalls, makes, hostOn}
+use Rattle.calls.specs.Proper.{openingCalls, played}
 
 abbrev pub atOpenings : Start → List ℕ → List ℕ → List ℕ → State
 atOpenings s cs f g =
@@ -33,7 +34,6 @@ abbrev pub begun : Start → Begin → List ℕ → List ℕ → World
 begun s total f g = freshWorld s f g
 begun s (openings cs) f g = openingsWorld s cs f g
 
--- a batch's own list, from that on: a change to full mode, where k is n + 1, then an opening at each point
-abbrev pub batchRun : ℕ → Trip → ℕ → List ℕ → List ℕ → Lent → List Made
-batchRun p T k cs bs l =
-    each (hostOn p T) (makes p T) (record { world = openingsWorld (T .start) cs (l .f) (l .g); lent = l }) (openingCalls T k bs)
+-- a batch's own list, from that on: an opening at each point, in any modes
+abbrev pub batchRun : ℕ → Trip → (ℕ → Bool) → List ℕ → List ℕ → (Call → ℕ → Lent) → List ℕ → List ℕ → List Made
+batchRun p T full cs bs idle f g = played p T idle (openingsWorld (T .start) cs f g) f g (openingCalls T full bs)

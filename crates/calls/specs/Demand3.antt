@@ -3,7 +3,7 @@
 -- WholeList (the verifier's own list), Verdict (a verifier's verdicts) and Blocks (lists with blocks of items).
 use Prim.Native.Nat.{ℕ, _+_, _<_, _≤_}
 use mathlib.Core.Path.{_≡_}
-use mathlib.Core.Bool.{Bool, true}
+use mathlib.Core.Bool.{Bool, true, false}
 use mathlib.Core.List.{List, [], _∷_, _++_}
 use mathlib.Core.Option.{none}
 use lib.ListN.{length, take}
@@ -12,14 +12,16 @@ use Rattle.wire.specs.Proof.{proofSize}
 use Rattle.vector.specs.Vector.{at}
 use Rattle.item.specs.declared.Start.{Start}
 use Rattle.runs.specs.Trip.{Trip}
+use Rattle.calls.specs.declared.Call.{Call}
 use Rattle.calls.specs.Lists.{after, along, always}
 use Rattle.calls.specs.Step.{Lent, isAnswered}
+use Rattle.calls.specs.State.{State}
 use Rattle.calls.specs.World.{Made, World, freshWorld, came, onward}
 use Rattle.calls.specs.Table.{table}
 use Rattle.calls.specs.Meaning.{question, Kept}
 use Rattle.calls.specs.Statement.{Decides, CountsHold, Holds, Right}
 use Rattle.calls.specs.QueryState.{verifierTable, Posed, Hearing, freshHearing, heard, hearsOn, DecidesHeard}
-use Rattle.calls.specs.Proper.{Valid, Brings, properRun}
+use Rattle.calls.specs.Proper.{Valid, inUse, Brings, properRun}
 use Rattle.calls.specs.Given.{replyOf, BringsRun, OpeningsChecked, BatchChecked, agreed, OpensTrip}
 use Rattle.calls.specs.Carried.{byMessages, byFile, writesProof}
 use Rattle.calls.specs.WholeList.{wholeByMessages, wholeByFile}
@@ -93,14 +95,18 @@ pub record Demand3 (p : ℕ) : Type 0 where
   -- every buffer and every proof file is as document 01 says, after every call
   pub answers : (through : Bool) (T : Trip) → Whole T → (b : Begin) → CanBegin (T .start) b → (f g : List ℕ) (ms : List Made)
       → (let w : World = begun (T .start) b f g in AllKept p through T w ms → AllRight p through T w ms)
-  -- A PROPER RUN IS ANSWERED THROUGHOUT, in small mode, in full mode and with a change at every place; it meets what is asked above, and
-  -- takes the challenges that it is brought
-  pub proper : (T : Trip) → Valid p T → (k : ℕ) (cs bs : List ℕ) (l : Lent) → Brings p T k cs bs l
-      → AllProper p cs T (freshWorld (T .start) (l .f) (l .g)) (properRun p T k cs bs l)
-  -- A BATCH'S OWN LIST, in small mode (k above n + 1) and with a change before its openings, likewise
-  pub properBatch : (T : Trip) → Valid p T → (k : ℕ) (cs bs : List ℕ) (l : Lent) → Brings p T k cs bs l → Opens (T .start) cs → T .start .rounds < k
-      → AllProper p cs T (openingsWorld (T .start) cs (l .f) (l .g)) (batchRun p T k cs bs l)
-  -- ALIKE: two lists for the same trip, each in any mode and with any change; where the same challenges were taken and the same is asked,
+  -- and in small mode, but for a change's own items, this asks nothing of the buffers: what holds of a call holds of it whatever it is lent
+  pub unbound : (through : Bool) (T : Trip) (a : State) → inUse a ≡ false → (c : Call) (l m : Lent) → table p a c m ≡ none
+      → Kept p T through a c l → Kept p T through a c m
+  -- A PROPER RUN IS ANSWERED THROUGHOUT, whichever of its steps are made in full mode and whatever the buffers hold while it does not work on
+  -- them; it meets what is asked above, and takes the challenges that it is brought
+  pub proper : (T : Trip) → Valid p T → (full : ℕ → Bool) (cs bs : List ℕ) (idle : Call → ℕ → Lent) → Brings p T full cs bs idle → (f g : List ℕ)
+      → AllProper p cs T (freshWorld (T .start) f g) (properRun p T full cs bs idle f g)
+  -- A BATCH'S OWN LIST, which begins in small mode after its ends, likewise
+  pub properBatch : (T : Trip) → Valid p T → (full : ℕ → Bool) (cs bs : List ℕ) (idle : Call → ℕ → Lent) → Brings p T full cs bs idle
+      → Opens (T .start) cs → full (T .start .rounds) ≡ false → (f g : List ℕ)
+      → AllProper p cs T (openingsWorld (T .start) cs f g) (batchRun p T full cs bs idle f g)
+  -- ALIKE: two lists for the same trip, each in any mode and with any number of changes either way; where the same challenges were taken and the same is asked,
   -- the same is answered
   pub alike : (T : Trip) → Whole T → (b b′ : Begin) → CanBegin (T .start) b → CanBegin (T .start) b′ → (th th′ : Bool) (f g f′ g′ : List ℕ)
       (ms ns : List Made) (m n : Made)
@@ -135,9 +141,9 @@ pub record Demand3 (p : ℕ) : Type 0 where
   -- A PROPER RUN'S VERIFIER has for its own list the L items, the close, n messages, the verdict and a check of each opening, which bring
   -- what the run gave; it answers them throughout and agrees: every message passes, the verdict and every check are yes; and so with the proof
   -- file of a plain run, which the run goes on to write into any file that has room for it: the L items, the file, the checks
-  pub verifierProper : (T : Trip) → Valid p T → (k : ℕ) (cs bs : List ℕ) (l : Lent) → Brings p T k cs bs l
-      → (let w : World = freshWorld (T .start) (l .f) (l .g) in
-      let ms : List Made = properRun p T k cs bs l in
+  pub verifierProper : (T : Trip) → Valid p T → (full : ℕ → Bool) (cs bs : List ℕ) (idle : Call → ℕ → Lent) → Brings p T full cs bs idle → (f g : List ℕ)
+      → (let w : World = freshWorld (T .start) f g in
+      let ms : List Made = properRun p T full cs bs idle f g in
       let h : Hearing = freshHearing (T .start) cs in
       (byMessages p T w ms ≡ wholeByMessages p T cs bs)
       × AllAgreed p h (byMessages p T w ms)

@@ -32,7 +32,6 @@ fullCalls =
     ∷ (lent (call.Opening 2) (2147483237 ∷ 40 ∷ 40 ∷ 0 ∷ 95 ∷ []) (65 ∷ 5 ∷ 5 ∷ 0 ∷ 85 ∷ []), refuses 10)
     ∷ (lent call.Ends (2147483237 ∷ 40 ∷ 40 ∷ 0 ∷ 95 ∷ []) (65 ∷ 5 ∷ 5 ∷ 0 ∷ 85 ∷ []), tripEnds)
     ∷ (lent call.ToFull (2147483237 ∷ 40 ∷ 40 ∷ 0 ∷ 95 ∷ []) (65 ∷ 5 ∷ 5 ∷ 0 ∷ 85 ∷ []), refuses 10)
-    ∷ (alone call.ToSmall, refuses 10)
     ∷ (lent (call.Opening 0) (2147483467 ∷ 2147483472 ∷ 40 ∷ 0 ∷ []) (10 ∷ 20 ∷ 5 ∷ 0 ∷ []), refuses 6)
     ∷ (lent (call.Opening 2) (2147483467 ∷ 2147483472 ∷ 40 ∷ 0 ∷ []) (10 ∷ 20 ∷ 5 ∷ 0 ∷ []), tripOpening)
     ∷ (proofInto 41, refuses 9)

@@ -22,5 +22,6 @@ pub mod Example
 pub mod ExampleSmall
 pub mod ExampleFull
 pub mod ExampleChange
+pub mod ExampleReturn
 pub mod RuleTrip
 pub mod BatchTrip

@@ -1,17 +1,17 @@
--- A whole run as document 01's "A run" tells it, of a trip within its limits: the list of its calls, with a change of mode where wanted,
+-- A whole run as document 01's "A run" tells it, of a trip within its limits: the list of its calls, with changes of mode where wanted,
 -- and the host that makes them. A prover that refuses trips cannot answer such a list throughout.
-use Prim.Native.Nat.{ℕ, zero, suc, _^_, _<_, _≤_}
+use Prim.Native.Nat.{ℕ, zero, suc, _+_, _^_, _<_, _≤_}
 use mathlib.Core.Path.{_≡_}
-use mathlib.Core.Bool.{Bool, true, false, cond, _&&_}
+use mathlib.Core.Bool.{Bool, true, false, cond, _&&_, _||_}
 use mathlib.Core.List.{List, [], _∷_, _++_}
-use lib.Dec.{eqb, leb, ltb}
+use lib.Dec.{ltb}
 use lib.ListN.{length}
 use Rattle.refusal.specs.Limit.{maxWeight}
 use Rattle.field.specs.Total.{inLimits}
 use Rattle.vector.specs.Vector.{at}
 use Rattle.vector.specs.Slice.{overwrite, isNonzero}
 use Rattle.phase.specs.declared.Next.the-variants as next
-use Rattle.phase.specs.Cases.{isFull, waits}
+use Rattle.phase.specs.Cases.{isChange, isFull, waits}
 use Rattle.item.specs.declared.Start.{Start}
 use Rattle.item.specs.declared.Given.{Given}
 use Rattle.item.specs.declared.Given.the-variants.{Reading, Numbers}
@@ -20,7 +20,7 @@ use Rattle.runs.specs.Trip.{Trip, tripItem, vectorF, vectorG, totalOf}
 use Rattle.calls.specs.declared.Call.{Call}
 use Rattle.calls.specs.declared.Call.the-variants as call
 use Rattle.calls.specs.Lists.{each}
-use Rattle.calls.specs.Step.{Lent}
+use Rattle.calls.specs.Step.{Lent, lending}
 use Rattle.calls.specs.State.{State}
 use Rattle.calls.specs.World.{Made, World, freshWorld, came, onward}
 use Rattle.calls.specs.Starts.{Whole}
@@ -55,40 +55,57 @@ module _ (T : Trip) where
   abbrev pub answerBy : Bool → Call → Call → List Call
   answerBy full opening asking = cond full (asking ∷ []) (wholePass opening)
 
-  -- CHANGING TO FULL MODE BEFORE STEP k: step i is round i, step n the ends, step n + 1 the openings. "a full run is one that changes
-  -- over right after" the total, so k = 0; a step that never comes leaves the run in small mode
-  module _ (k : ℕ) where
+  -- from one mode to another: a change is a pass, a return one call
+  abbrev pub changeTo : Bool → Bool → List Call
+  changeTo false true = wholePass call.ToFull
+  changeTo true false = call.ToSmall ∷ []
+  changeTo false false = []
+  changeTo true true = []
+
+  -- WHICH STEPS ARE MADE IN FULL MODE: step i is round i, step n the ends, step n + 1 + j the opening at point j
+  module _ (full : ℕ → Bool) where
+    -- the mode in which step i is come to: "The total always takes a small pass"
+    abbrev pub before : ℕ → Bool
+    before zero = false
+    before (suc i) = full i
+
     abbrev pub changeBefore : ℕ → List Call
-    changeBefore i = cond (eqb k i) (wholePass call.ToFull) []
+    changeBefore i = changeTo (before i) (full i)
 
     unfoldable pub roundsFrom : ℕ → List ℕ → List Call
     roundsFrom i [] = []
     roundsFrom i (c ∷ cs) =
-        changeBefore i ++ answerBy (leb k i) call.OpenPass call.Message ++ call.Challenge c ∷ roundsFrom (suc i) cs
-
-    unfoldable pub openingsAt : List ℕ → List Call
-    openingsAt [] = []
-    openingsAt (b ∷ bs) = answerBy (leb k (suc (T .start .rounds))) (call.OpenAt b) (call.Opening b) ++ openingsAt bs
+        changeBefore i ++ answerBy (full i) call.OpenPass call.Message ++ call.Challenge c ∷ roundsFrom (suc i) cs
 
     -- step n
     abbrev pub endCalls : List Call
-    endCalls = changeBefore (T .start .rounds) ++ answerBy (leb k (T .start .rounds)) call.OpenPass call.Ends
+    endCalls = changeBefore (T .start .rounds) ++ answerBy (full (T .start .rounds)) call.OpenPass call.Ends
 
-    -- step n + 1: with n = 0 there are no openings
+    -- the last change comes where no opening follows it
+    unfoldable pub openingsFrom : ℕ → List ℕ → List Call
+    openingsFrom i [] = changeBefore i
+    openingsFrom i (b ∷ bs) = changeBefore i ++ answerBy (full i) (call.OpenAt b) (call.Opening b) ++ openingsFrom (suc i) bs
+
+    -- from step n + 1 on: with n = 0 there are no openings
     abbrev pub openingCalls : List ℕ → List Call
-    openingCalls bs = cond (ltb 0 (T .start .rounds)) (changeBefore (suc (T .start .rounds)) ++ openingsAt bs) []
+    openingCalls bs = cond (ltb 0 (T .start .rounds)) (openingsFrom (suc (T .start .rounds)) bs) []
 
     -- "Total; then for i = 0 to n-1 message i and challenge i; then ends; then openings, for as many points as wanted"
     abbrev pub wholeRun : List ℕ → List ℕ → List Call
     wholeRun cs bs = wholePass call.OpenPass ++ roundsFrom 0 cs ++ endCalls ++ openingCalls bs
 
--- THE HOST, and the buffers and file in its hands
+-- THE HOST, the number of calls that it has made, and the buffers and file as the last one left them
 pub record Host : Type 0 where
   pub world : World
+  pub count : ℕ
   pub lent : Lent
 
--- it lends each call what the last one left, but after the ends, in full mode: "the openings are worked from fold 0, which the host lends
--- again"
+-- the run works on the buffers
+abbrev pub inUse : State → Bool
+inUse a = isFull (a .turn .mode) || isChange (a .pass .kind)
+
+-- while the run works on them the host lends each call what the last one left, but after the ends, in full mode: "the openings are worked
+-- from fold 0, which the host lends again"
 module _ (p : ℕ) (T : Trip) where
   abbrev pub foldZero : Lent → Lent
   foldZero l =
@@ -98,23 +115,36 @@ module _ (p : ℕ) (T : Trip) where
         file = l .file;
       }
 
-  abbrev pub lends : State → Lent → Lent
-  lends a l = cond (isFull (a .turn .mode) && waits next.Openings (a .turn .next)) (foldZero l) l
+  abbrev pub working : State → Lent → Lent
+  working a l = cond (isFull (a .turn .mode) && waits next.Openings (a .turn .next)) (foldZero l) l
+
+-- ELSE IT LENDS ANYTHING, document 02, (c): up to a change, and from a return to the next change, the buffers may be lent elsewhere. `idle c j`
+-- is what it lends a call c then that is its j-th
+module _ (p : ℕ) (T : Trip) (idle : Call → ℕ → Lent) where
+  abbrev pub lends : Host → Call → Lent
+  lends h c = cond (inUse (h .world .state)) (working p T (h .world .state) (h .lent)) (idle c (h .count))
 
   abbrev pub makes : Host → Call → Made
-  makes h c = record { call = c; lent = lends (h .world .state) (h .lent) }
+  makes h c = record { call = c; lent = lends h c }
 
   abbrev pub hostOn : Host → Call → Host
-  hostOn h c = record { world = onward p (h .world) (makes h c); lent = came p (h .world) (makes h c) .lent }
+  hostOn h c = record { world = onward p (h .world) (makes h c); count = suc (h .count); lent = came p (h .world) (makes h c) .lent }
 
--- what the host brings: n challenges and any number of points, and, where the run changes to full mode, two buffers that hold anything
--- and have room for N numbers
-pub record Brings (p : ℕ) (T : Trip) (k : ℕ) (cs bs : List ℕ) (l : Lent) : Type 0 where
+  -- its list, from a world on
+  abbrev pub played : World → List ℕ → List ℕ → List Call → List Made
+  played w f g = each hostOn makes (record { world = w; count = 0; lent = lending f g [] })
+
+-- room for N numbers in both buffers
+abbrev pub Room : Trip → Lent → Type 0
+Room T l = (2 ^ T .start .rounds ≤ length (l .f)) × (2 ^ T .start .rounds ≤ length (l .g))
+
+-- what the host brings: n challenges and any number of points, and, where a step is made in full mode, room at the opening of a change
+pub record Brings (p : ℕ) (T : Trip) (full : ℕ → Bool) (cs bs : List ℕ) (idle : Call → ℕ → Lent) : Type 0 where
   pub count : length cs ≡ T .start .rounds
   pub challenges : AllNonzero p cs
   pub points : AllNonzero p bs
-  pub room : k ≤ suc (T .start .rounds) → (2 ^ T .start .rounds ≤ length (l .f)) × (2 ^ T .start .rounds ≤ length (l .g))
+  pub room : (i : ℕ) → i ≤ suc (T .start .rounds) + length bs → full i ≡ true → (j : ℕ) → Room T (idle call.ToFull j)
 
 -- a whole run from a fresh one on: the calls with what they are lent
-abbrev pub properRun : ℕ → Trip → ℕ → List ℕ → List ℕ → Lent → List Made
-properRun p T k cs bs l = each (hostOn p T) (makes p T) (record { world = freshWorld (T .start) (l .f) (l .g); lent = l }) (wholeRun T k cs bs)
+abbrev pub properRun : ℕ → Trip → (ℕ → Bool) → List ℕ → List ℕ → (Call → ℕ → Lent) → List ℕ → List ℕ → List Made
+properRun p T full cs bs idle f g = played p T idle (freshWorld (T .start) f g) f g (wholeRun T full cs bs)

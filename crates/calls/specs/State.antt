@@ -62,8 +62,9 @@ inTurn a m t cs =
 abbrev pub goesTo : State → Next → State
 goesTo a t = inTurn a (a .turn .mode) t (a .turn .challenges)
 
-abbrev pub inFullMode : State → State
-inFullMode a = inTurn a Full (a .turn .next) (a .turn .challenges)
+-- a change of mode leaves what is next and the challenges
+abbrev pub inMode : State → Mode → State
+inMode a m = inTurn a m (a .turn .next) (a .turn .challenges)
 
 -- "for i = 0 to n-1 message i and challenge i; then ends"
 abbrev pub takesChallenge : State → ℕ → State
@@ -78,7 +79,7 @@ closed a next.Message Asked = goesTo a next.Challenge
 closed a next.Challenge Asked = a
 closed a next.Ends Asked = goesTo a next.Openings
 closed a next.Openings Asked = goesTo a next.Openings
-closed a t Change = inFullMode a
+closed a t Change = inMode a Full
 
 abbrev pub withBuffers : State → Lent → State
 withBuffers a l = record { start = a .start; turn = a .turn; pass = a .pass; buffers = record { f = l .f; g = l .g } }
@@ -95,7 +96,7 @@ abbrev pub goesOn : State → Call → Lent → State
 goesOn a call.OpenPass l = inPass a Asked 0 []
 goesOn a (call.OpenAt b) l = inPass a Asked b []
 goesOn a call.ToFull l = withBuffers (inPass a Change 0 []) l
-goesOn a call.ToSmall l = a
+goesOn a call.ToSmall l = inMode a Small
 goesOn a (call.Give x) l = takesGiven a x l
 goesOn a call.Close l = closed a (a .turn .next) (a .pass .kind)
 goesOn a call.Message l = withBuffers (goesTo a next.Challenge) l

@@ -8,8 +8,8 @@ use Rattle.prover.specs.declared.Run.{Run}
 use Rattle.pass.specs.declared.Pass.{Pass}
 use Rattle.prover.specs.Reply.{Reply}
 use Rattle.prover.specs.Records.{Out, out, leaves}
-use Rattle.prover.specs.Open.{openCall, openAtCall, toSmallCall}
-use Rattle.prover.specs.Change.{toFullCall}
+use Rattle.prover.specs.Open.{openCall, openAtCall}
+use Rattle.prover.specs.Change.{toFullCall, toSmallCall}
 use Rattle.prover.specs.Calls.{giveCall}
 use Rattle.prover.specs.Close.{closeCall, leavesStep}
 use Rattle.prover.specs.Full.{messageCall, endsCall}
@@ -60,7 +60,7 @@ unfoldable pub step : ℕ → Run → Pass → Call → Lent → Result
 step p r s call.OpenPass l = keeping l (leaves r s [] [] (openCall p r s))
 step p r s (call.OpenAt b) l = keeping l (leaves r s [] [] (openAtCall p r s b))
 step p r s call.ToFull l = leaving l (leaves r s (l .f) (l .g) (toFullCall p r s (l .f) (l .g)))
-step p r s call.ToSmall l = keeping l (leaves r s [] [] (toSmallCall r s))
+step p r s call.ToSmall l = keeping l (leaves r s [] [] (toSmallCall p r s))
 step p r s (call.Give x) l = leaving l (leaves r s (l .f) (l .g) (giveCall p r s x (l .f) (l .g)))
 step p r s call.Close l = keeping l (out (leavesStep r s (closeCall p r s)) [] [])
 step p r s call.Message l = leaving l (leaves r s (l .f) (l .g) (messageCall p r s (l .f) (l .g)))

@@ -52,9 +52,16 @@ passWaits m t = isSmall m && (waits next.Total t || (waits next.Message t || wai
 abbrev pub openingsNext : Next → ℕ → Bool
 openingsNext t n = waits next.Openings t && ltb 0 n
 
--- "Before any later pass (round, ends, openings) a small run may change to full"; "a change after the ends, with n = 0" is refused
+-- where the mode may change: "Before any later pass (round, ends, openings)"; "a change after the ends, with n = 0" is refused
+abbrev pub changesNext : Next → ℕ → Bool
+changesNext t n = waits next.Message t || (waits next.Ends t || openingsNext t n)
+
+-- "a small run may change to full"; document 02, (c): "Full to small .. is answered before any pass"
 abbrev pub changeWaits : Mode → Next → ℕ → Bool
-changeWaits m t n = isSmall m && (waits next.Message t || (waits next.Ends t || openingsNext t n))
+changeWaits m t n = isSmall m && changesNext t n
+
+abbrev pub returnWaits : Mode → Next → ℕ → Bool
+returnWaits m t n = isFull m && changesNext t n
 
 -- before message i and its challenge fold i, before the ends fold n, and after them the last of the three
 abbrev pub levelNow : ℕ → ℕ → ℕ → Next → ℕ
@@ -111,7 +118,7 @@ unfoldable pub table : ℕ → State → Call → Lent → Option Refusal
 table p a call.OpenPass l = row (passWaits (a .turn .mode) (a .turn .next)) 10 none
 table p a (call.OpenAt b) l = row (isSmall (a .turn .mode) && openingsNext (a .turn .next) (a .start .rounds)) 10 (row (isNonzero p b) 6 none)
 table p a call.ToFull l = row (changeWaits (a .turn .mode) (a .turn .next) (a .start .rounds)) 10 (row (bothLong a l) 9 none)
-table p a call.ToSmall l = some (10, none)
+table p a call.ToSmall l = row (returnWaits (a .turn .mode) (a .turn .next) (a .start .rounds)) 10 none
 -- "item or close with no pass open"; "item beyond L"
 table p a (call.Give x) l =
     row (isOpen (a .pass .kind)) 10

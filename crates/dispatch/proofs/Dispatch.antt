@@ -10,8 +10,8 @@ use Rattle.prover.specs.declared.Run.{Run}
 use Rattle.pass.specs.declared.Pass.{Pass}
 use Rattle.prover.specs.declared.Step.{Step}
 use Rattle.prover.specs.Records.{Out, out, leaves}
-use Rattle.prover.specs.Open.{openCall, openAtCall, toSmallCall}
-use Rattle.prover.specs.Change.{toFullCall}
+use Rattle.prover.specs.Open.{openCall, openAtCall}
+use Rattle.prover.specs.Change.{toFullCall, toSmallCall}
 use Rattle.prover.specs.Calls.{giveCall}
 use Rattle.prover.specs.Close.{closeCall, leavesStep}
 use Rattle.prover.specs.Full.{messageCall, endsCall}
@@ -40,7 +40,7 @@ module _ (p : ℕ) (r : Run) (s : Pass) (f g file : List ℕ) where
   unfolding step
   made-to-full o f′ g′ c e h = at-call o f′ g′ file c call.ToFull e (ap (leaving (lending f g file)) h)
 
-  pub made-to-small : (o : Step) (c : Call) → c ≡ call.ToSmall → out o [] [] ≡ leaves r s [] [] (toSmallCall r s) → result o f g file ≡ step p r s c (lending f g file)
+  pub made-to-small : (o : Step) (c : Call) → c ≡ call.ToSmall → out o [] [] ≡ leaves r s [] [] (toSmallCall p r s) → result o f g file ≡ step p r s c (lending f g file)
   unfolding step
   made-to-small o c e h = at-call o f g file c call.ToSmall e (ap (keeping (lending f g file)) h)
 

@@ -20,6 +20,11 @@ pointTurn well m t n = cond (cond well (isSmall m) false) (openingsAt t n) false
 abbrev pub changeTurn : Bool → Mode → Next → ℕ → Bool
 changeTurn well m t n = cond (cond well (isSmall m) false) (changeAt t n) false
 
+-- document 02, (c): "Full to small .. is answered before any pass"; as the change, not "between a message and its challenge" nor "after the
+-- ends, with n = 0"
+abbrev pub returnTurn : Bool → Mode → Next → ℕ → Bool
+returnTurn well m t n = cond (cond well (isFull m) false) (changeAt t n) false
+
 -- an item or a close: a pass is open
 abbrev pub itemTurn : Bool → Kind → Bool
 itemTurn well k = cond well (isOpen k) false

@@ -3,7 +3,7 @@ ghost use mathlib.Core.Path.{_≡_};
 ghost use mathlib.Core.Bool.{false, cond};
 ghost use Rattle.refusal.specs.Check.{passed};
 ghost use Rattle.phase.specs.Cases.{isSmall, isFull};
-ghost use Rattle.phase.specs.Turn.{passTurn, pointTurn, changeTurn, itemTurn, fullTurn, openingTurn, challengeTurn, proofTurn};
+ghost use Rattle.phase.specs.Turn.{passTurn, pointTurn, changeTurn, returnTurn, itemTurn, fullTurn, openingTurn, challengeTurn, proofTurn};
 use super::Kind;
 use super::Mode;
 use super::Next;
@@ -52,6 +52,13 @@ pub fn change(well: bool, mode: Mode, next: Next, rounds: u32) -> Check
     ensures { λ r. ⌜ passed r ≡ changeTurn well mode next rounds ⌝ }
 {
     pass_if(both(small(well, mode), order::change_at(next, rounds)))
+}
+
+// Full, before what would be a later pass of small mode.
+pub fn back(well: bool, mode: Mode, next: Next, rounds: u32) -> Check
+    ensures { λ r. ⌜ passed r ≡ returnTurn well mode next rounds ⌝ }
+{
+    pass_if(both(full(well, mode), order::change_at(next, rounds)))
 }
 
 // A pass is open.

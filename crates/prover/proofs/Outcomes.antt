@@ -1,7 +1,7 @@
 -- What a call leaves, by what its tests say.
 use mathlib.Core.Path.{_≡_, refl, sym, ap, _∙_}
 use mathlib.Core.Bool.{Bool, true, false}
-use mathlib.Core.List.{List}
+use mathlib.Core.List.{List, []}
 use Prim.Native.Nat.{ℕ}
 use native.Mathlib.Omega.{arith}
 use lib.Dec.{eqb, ltb}
@@ -27,7 +27,7 @@ use Rattle.prover.specs.Level.{stageOf}
 use Rattle.prover.specs.Take.{handed, nextIndex, entering, enteredItem, placedItem, takenItem, takes}
 use Rattle.prover.specs.WellFormed.{wellFormed}
 use Rattle.prover.specs.Calls.{passOpen, bothLong, placesThere, giveCall}
-use Rattle.prover.specs.Change.{mayChange, changes, toFullCall}
+use Rattle.prover.specs.Change.{mayChange, changes, toFullCall, mayReturn, returns, toSmallCall}
 use Rattle.prover.specs.Written.{mayWrite, writeCall}
 use Rattle.prover.specs.Close.{totalFits, closing, closeCall, leavesStep}
 
@@ -120,6 +120,16 @@ module _ (p : ℕ) (r : Run) (s : Pass) (f g : List ℕ) where
     pub change-opened : bothLong r (length f) (length g) ≡ true → leaves r s f g (toFullCall p r s f g) ≡ changes r f g
     unfolding toFullCall
     change-opened b = pass r s f g (mayChange p r s) number.order _ a ∙ pass r s f g (bothLong r (length f) (length g)) number.buffer _ b
+
+-- the outcomes of a return
+module _ (p : ℕ) (r : Run) (s : Pass) where
+  pub return-never : mayReturn p r s ≡ false → leaves r s [] [] (toSmallCall p r s) ≡ out (refusedStep r s number.order) [] []
+  unfolding toSmallCall
+  return-never a = stop r s [] [] (mayReturn p r s) number.order _ a
+
+  pub return-made : mayReturn p r s ≡ true → leaves r s [] [] (toSmallCall p r s) ≡ returns r s
+  unfolding toSmallCall
+  return-made a = pass r s [] [] (mayReturn p r s) number.order _ a
 
 -- a check in a row, of a call with no buffers
 module _ (r : Run) (s : Pass) where

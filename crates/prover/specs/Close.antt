@@ -7,6 +7,7 @@ use lib.IntN.{ℤ}
 use lib.ListN.{getD, set}
 use Rattle.refusal.specs.Number as number
 use Rattle.refusal.specs.Outcome.{Outcome, answered, refused, refusedAt, require}
+use Rattle.phase.specs.declared.Mode.{Mode}
 use Rattle.phase.specs.declared.Mode.the-variants.{Full}
 use Rattle.phase.specs.declared.Next.{Next}
 use Rattle.phase.specs.declared.Next.the-variants.{Total, Message, Challenge, Ends, Openings}
@@ -47,11 +48,11 @@ withTotal r total = runWith r (roundOrEnds 0 (r .start .rounds)) (r .messages) t
 abbrev pub withEnds : Run → ℕ → ℕ → Run
 withEnds r f g = runWith r Openings (r .messages) (r .total) f g
 
-abbrev pub inFull : Run → Run
-inFull r =
+abbrev pub inMode : Run → Mode → Run
+inMode r mode =
     record {
       start = r .start;
-      mode = Full;
+      mode = mode;
       next = r .next;
       round = r .round;
       challenges = r .challenges;
@@ -79,7 +80,7 @@ endsStep r s =
     answeredStep (withEnds r f g) shutPass (answer.Ends f g)
 
 abbrev pub changedStep : Run → Step
-changedStep r = answeredStep (inFull r) shutPass answer.Changed
+changedStep r = answeredStep (inMode r Full) shutPass answer.Changed
 
 -- 7: a plain total within its limits
 abbrev pub totalFits : ℕ → Run → Pass → Bool

@@ -1,9 +1,9 @@
--- The calls that open a pass of small mode, and the return to small mode, which is refused.
+-- The calls that open a pass of small mode.
 use Prim.Native.Nat.{ℕ}
 use mathlib.Core.Bool.{Bool}
 use mathlib.Core.List.{[]}
 use Rattle.refusal.specs.Number as number
-use Rattle.refusal.specs.Outcome.{Outcome, answered, refused, require}
+use Rattle.refusal.specs.Outcome.{Outcome, answered, require}
 use Rattle.field.specs.Number.{isNonzero}
 use Rattle.kernel.specs.declared.Kernel.{Kernel}
 use Rattle.kernel.specs.declared.Points.{Points}
@@ -41,7 +41,3 @@ unfoldable pub openAtCall : ℕ → Run → Pass → ℕ → Outcome Out
 openAtCall p r s b =
     require (mayOpenAt p r s) number.order
     (require (isNonzero p b) number.argument (answered (opened r (pointsOf p b) (paddedKernel r))))
-
--- "A change between a message and its challenge is refused, and so is full to small"
-unfoldable pub toSmallCall : Run → Pass → Outcome Out
-toSmallCall r s = refused number.order

@@ -20,7 +20,7 @@ pub data Reply : Type 0 where
   ends : ℕ → ℕ → Reply
   -- "Opening at point b": its values stand beside the answer
   opening : Reply
-  -- the run is in full mode
+  -- the run is in the other mode
   changed : Reply
   -- the length of the proof file
   written : ℕ → Reply

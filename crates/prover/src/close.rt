@@ -6,7 +6,7 @@ ghost use mathlib.Core.List.{[]};
 ghost use Rattle.item.specs.Start.{modulusOf};
 ghost use Rattle.phase.specs.Order.{roundFits};
 ghost use Rattle.prover.specs.Records.{out};
-ghost use Rattle.prover.specs.Close.{totalStep, messageStep, endsStep, openingStep, changedStep, finished, closing, closeCall, leavesStep, withMessage, withEnds, inFull};
+ghost use Rattle.prover.specs.Close.{totalStep, messageStep, endsStep, openingStep, changedStep, finished, closing, closeCall, leavesStep, withMessage, withEnds, inMode};
 use super::Answer;
 use super::Run;
 use super::Step;
@@ -106,19 +106,17 @@ fn close_openings(run: Run, pass: Pass) -> Step
     }
 }
 
-fn in_full(run: Run) -> Run
-    ensures { λ r. ⌜ r ≡ inFull run ⌝ }
+pub(crate) fn in_mode(run: Run, mode: Mode) -> Run
+    ensures { λ r. ⌜ r ≡ inMode run mode ⌝ }
 {
-    Run {
-        mode: Mode::Full,
-        ..run
-    }
+    Run { mode, ..run }
 }
 
 fn close_change(run: Run) -> Step
     ensures { λ r. ⌜ r ≡ changedStep run ⌝ }
 {
-    answered(in_full(run), empty_pass(Kind::Shut), Answer::Changed)
+    let full = in_mode(run, Mode::Full);
+    answered(full, empty_pass(Kind::Shut), Answer::Changed)
 }
 
 fn finish(run: Run, pass: Pass) -> Step

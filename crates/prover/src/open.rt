@@ -1,9 +1,9 @@
-// The calls that open a pass of small mode, and the return to small mode, which is refused.
+// The calls that open a pass of small mode.
 ghost use mathlib.Core.Path.{_≡_};
 ghost use mathlib.Core.List.{[]};
 ghost use Rattle.item.specs.Start.{modulusOf};
 ghost use Rattle.prover.specs.Records.{out, leaves};
-ghost use Rattle.prover.specs.Open.{openCall, openAtCall, toSmallCall};
+ghost use Rattle.prover.specs.Open.{openCall, openAtCall};
 use super::Answer;
 use super::Run;
 use super::Step;
@@ -48,12 +48,5 @@ impl Run {
         };
         let fresh = open::asked_at(p, stage_of(self), b.to_u32());
         answered(self, fresh, Answer::Opened)
-    }
-
-    // From full to small: refused.
-    pub fn to_small(self, pass: Pass) -> Step
-        ensures { λ r. ⌜ out r [] [] ≡ leaves self pass [] [] (toSmallCall self pass) ⌝ }
-    {
-        refuse(self, pass, refusal::ORDER)
     }
 }
