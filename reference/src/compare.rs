@@ -17,7 +17,8 @@ const LISTS_IN_BATCH: u64 = 50;
 /// How many calls before a difference are shown.
 const CALLS_SHOWN: usize = 30;
 
-/// `count` trips, each in three modes, and five times as many lists.
+/// `count` trips, each in small mode, in full mode, with a change and by two words of modes, and five
+/// times as many lists.
 pub fn compare(programs: &Path, seed: u64, count: u64) -> Result<String, String> {
     let programs =
         programs.canonicalize().map_err(|error| format!("{}: {error}", programs.display()))?;
@@ -48,8 +49,9 @@ fn compare_all(programs: &Path, scratch: &Path, seed: u64, count: u64) -> Result
     for k in 0..count {
         let files = trip_files(&mut random);
         let change = random.below(files.rounds as u64 + 4);
+        let words = [(); 2].map(|()| word_of_modes(&mut random, files.rounds as u64 + 5));
         let folder = scratch.join(format!("trip-{k}"));
-        compare_trip(programs, &folder, &files, change, &mut report)
+        compare_trip(programs, &folder, &files, change, &words, &mut report)
             .map_err(|difference| format!("trip {k}\n{}{difference}", describe(&files)))?;
     }
     let batches = (count * LISTS_PER_TRIP).div_ceil(LISTS_IN_BATCH);
@@ -75,11 +77,18 @@ fn compare_all(programs: &Path, scratch: &Path, seed: u64, count: u64) -> Result
     report.finish()
 }
 
+/// For fewer steps than a run has, for as many or for more.
+fn word_of_modes(random: &mut Random, most: u64) -> String {
+    let length = random.between(1, most);
+    (0..length).map(|_| random.pick(&['s', 'f'])).collect()
+}
+
 fn compare_trip(
     programs: &Path,
     folder: &PathBuf,
     files: &TripFiles,
     change: u64,
+    words: &[String; 2],
     report: &mut Report,
 ) -> Result<(), String> {
     fs::create_dir_all(folder).map_err(|error| error.to_string())?;
@@ -90,9 +99,11 @@ fn compare_trip(
     }
     let expected = trip::output_of_folder(folder);
     let change = change.to_string();
-    for arguments in [&[][..], &["full"], &["change", &change]] {
+    let [first, second] = words;
+    let by_word = [&["modes", first][..], &["modes", second]];
+    for arguments in [&[][..], &["full"], &["change", &change]].iter().chain(&by_word) {
         let mut command = Command::new(programs.join("trip"));
-        let got = stdout_of(command.args(arguments).current_dir(folder), Stdio::null())?;
+        let got = stdout_of(command.args(*arguments).current_dir(folder), Stdio::null())?;
         same_text(&format!("trip {}", arguments.join(" ")), &expected, &got)?;
     }
     fs::remove_dir_all(folder).ok();
@@ -102,7 +113,9 @@ fn compare_trip(
 
 /// Arguments that `trip` does not know: a usage line beside the output, and no output.
 fn compare_usage(programs: &Path, folder: &Path) -> Result<(), String> {
-    let unknown = ["other", "change", "change x", "full 1"];
+    let unknown = [
+        "other", "change", "change x", "full 1", "modes", "modes ", "modes x", "modes sfS", "modes s f",
+    ];
     for arguments in unknown {
         let mut command = Command::new(programs.join("trip"));
         let command = command.args(arguments.split(' ')).current_dir(folder);

@@ -8,6 +8,7 @@ mod noise;
 mod plan;
 mod prover_list;
 pub mod reached;
+pub mod returns;
 mod rule_list;
 pub mod script;
 pub mod trip_files;

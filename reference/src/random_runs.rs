@@ -1,4 +1,4 @@
-//! Random honest runs for the self-check: twisted, with a change of mode somewhere.
+//! Random honest runs for the self-check: twisted, each step in a mode of its own.
 
 use crate::field::mul;
 use crate::prover::{Answer, Buffers, Call};
@@ -16,14 +16,14 @@ pub fn random_run(random: &mut Random) -> Result<(), String> {
     let twists: Vec<u64> = (0..rounds).map(|_| random.usable()).collect();
     let challenges: Vec<u64> = (0..rounds).map(|_| random.usable()).collect();
     let trip: Vec<(u64, u64)> = (0..items).map(|_| (random.field(), random.field())).collect();
-    let change = random.below(rounds as u64 + 3) as usize;
+    let full: Vec<bool> = (0..rounds + 2).map(|_| random.chance(500)).collect();
     let mut buffers = (vec![7; 64], vec![7; 64]);
     let mut run =
         Run::start_twisted(items as u64, &twists).map_err(|refusal| refusal.to_string())?;
     let mut verifier = Verifier::start_twisted(items as u64, &twists, &challenges).unwrap();
     trip.iter().for_each(|&(a, b)| verifier.field_item(a, b).unwrap());
     let point = random.usable();
-    for step in 0..2 * rounds + 5 {
+    for step in 0..3 * rounds + 8 {
         let place = match run.next {
             Next::Message(i) => i,
             Next::Ends => rounds,
@@ -33,19 +33,25 @@ pub fn random_run(random: &mut Random) -> Result<(), String> {
         let call = match run.next {
             Next::Challenge(i) => Call::Challenge(challenges[i]),
             Next::Openings if rounds == 0 => break,
-            _ if run.mode == Mode::Small && place == change => Call::ToFull,
+            Next::Total => Call::Open,
+            _ if run.mode == Mode::Small && full[place] => Call::ToFull,
+            _ if run.mode == Mode::Full && !full[place] => Call::ToSmall,
             Next::Openings if run.mode == Mode::Small => Call::OpenAt(point),
             _ if run.mode == Mode::Small => Call::Open,
             Next::Message(_) => Call::Message,
             Next::Ends => Call::Ends,
             _ => {
                 // A change before the openings has left fold 0 in the buffers.
-                if change <= rounds {
+                if full[rounds] {
                     lend_fold_0(&mut buffers, &trip, &twists);
                 }
                 Call::Opening(point)
             }
         };
+        if call == Call::ToSmall {
+            // They may be lent elsewhere from now on.
+            buffers = (vec![u32::MAX as u64; 64], vec![7; 64]);
+        }
         let lent = &mut Buffers { f: &mut buffers.0, g: &mut buffers.1 };
         let answer = run.call(call, lent).map_err(|refusal| format!("step {step}: {refusal}"))?;
         let answer = match answer {

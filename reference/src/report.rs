@@ -2,6 +2,7 @@
 
 use crate::generate::blocks::{Counts, ALWAYS_REFUSED, WHERE};
 use crate::generate::reached::Reached;
+use crate::generate::returns::Returns;
 use crate::generate::script::Script;
 
 /// Blocks and batches stand apart from the other calls of a prover and a verifier.
@@ -47,6 +48,7 @@ pub struct Report {
     no: u64,
     batches: [u64; FOUND.len()],
     reached: Reached,
+    returns: Returns,
     trips: u64,
     lists: u64,
     pub programs: u64,
@@ -83,6 +85,7 @@ impl Report {
         }
         self.count_batches(script);
         self.reached.add(&script.reached);
+        self.returns.add(&script.returns);
         let counted = self.blocks.iter_mut().flatten().flatten();
         for (sum, count) in counted.zip(script.blocks.iter().flatten().flatten()) {
             *sum += count;
@@ -117,7 +120,8 @@ impl Report {
         let missing = self.missing_refusals()
             + &self.missing_blocks()
             + &self.missing_batches()
-            + &self.reached.missing();
+            + &self.reached.missing()
+            + &self.returns.missing();
         match missing.is_empty() {
             true => Ok(self.table()),
             false => Err(missing + &self.table()),
@@ -156,11 +160,12 @@ impl Report {
 
     fn table(&self) -> String {
         let columns = self.columns(0..4) + &self.columns(4..8) + &self.columns(8..11);
-        let mut text = columns + &self.places() + &self.reached.table();
+        let mut text =
+            columns + &self.places() + &self.reached.table() + &self.returns.table();
         let calls =
             self.refused[1..].iter().flatten().chain(&self.answered[1..]).copied().sum::<u64>();
         text += &format!(
-            "{} trips in three modes, {} lists, {calls} calls, {} verdicts yes, {} no, {} batches yes, \
+            "{} trips, each in small mode, in full mode, with a change and by two words of modes, {} lists, {calls} calls, {} verdicts yes, {} no, {} batches yes, \
              {} no at 0, {} no at a j, {} example programs: all alike\n",
             self.trips,
             self.lists,

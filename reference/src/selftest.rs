@@ -73,8 +73,9 @@ pub fn run() -> Result<String, String> {
             false => return Err(format!("compartments wanting: {line}")),
         }
     }
-    for change in 0..=4 {
-        alike(&format!("change before {change}"), PAPER_TRIP, &replayed(change))?;
+    for modes in 0..16 {
+        let full = [0, 1, 2, 3].map(|step| modes >> step & 1 == 1);
+        alike(&format!("full mode in steps {full:?}"), PAPER_TRIP, &replayed(full))?;
     }
     for program in [Program::Runs, Program::Files] {
         alike(program.name(), &known_by_paper(program), &known(program))?;
@@ -117,23 +118,30 @@ fn rule_verdicts() -> String {
     verdicts.join(" ")
 }
 
-/// The paper's trip by calls of the tool, changing mode before round `change`, the ends (2), the
-/// openings (3) or never (4), with the answers worded as `trip` words them.
-fn replayed(change: usize) -> String {
+/// The paper's trip by calls of the tool, round 0, round 1, the ends and the opening each in its mode,
+/// with the answers worded as `trip` words them.
+fn replayed(full: [bool; 4]) -> String {
     let tool = &mut Tool::new(Program::Runs);
     tool.lent = (4, 4);
     call(tool, 10, [3, 1, 0]);
     let mut text = pass(tool, 13, 0) + "\n";
     let (mut messages, mut opening) = (Vec::new(), Vec::new());
     for step in 0..=3 {
-        if step == change {
-            assert_eq!(pass(tool, 22, 0), "changed");
+        match (step > 0 && full[step - 1], full[step]) {
+            (false, true) => assert_eq!(pass(tool, 22, 0), "changed"),
+            (true, false) => {
+                assert_eq!(call(tool, 23, [0; 3]), "changed");
+                // The buffers are lent elsewhere.
+                (tool.f[0], tool.g[1]) = (u32::MAX as u64, 7);
+            }
+            _ => {}
         }
-        let answer = match (change <= step, step) {
+        let answer = match (full[step], step) {
             (false, 3) => pass(tool, 14, POINT),
             (false, _) => pass(tool, 13, 0),
             (true, 3) => {
-                if change < 3 {
+                // A change before the opening has left fold 0 in the buffers.
+                if full[2] {
                     lend_fold_0(tool);
                 }
                 call(tool, 21, [POINT, 0, 0])

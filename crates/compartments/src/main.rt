@@ -1,4 +1,5 @@
-// A van with three compartments: its logs opened as one batch in small mode, in full mode and with a change between, and checked.
+// A van with three compartments: its logs opened as one batch in small mode, in full mode and with changes between, there and back, and
+// checked.
 mod logs;
 mod output;
 mod run;
@@ -39,12 +40,13 @@ fn full(f: &mut [u32; 4], g: &mut [u32; 4]) -> [u32; 6] {
     run::values(run::opened_full(s, f, g))
 }
 
-// An opening in small mode, the change, and one in full mode.
+// An opening in small mode, the change, one in full mode, the return, and one in small mode again.
 fn changing(f: &mut [u32; 4], g: &mut [u32; 4]) -> [u32; 6] {
     let s = run::opened_small(logs::begin(logs::LOGS, logs::Z), f, g);
     six(b"before the change", run::values(s));
-    let s = run::changed(s, f, g);
-    run::values(run::opened_full(s, f, g))
+    let s = run::opened_full(run::changed(s, f, g), f, g);
+    six(b"after the change", run::values(s));
+    run::values(run::opened_small(run::returned(s), f, g))
 }
 
 fn check(values: [u32; 6], own: [u32; 3]) -> Verdict {
@@ -86,7 +88,7 @@ fn main() {
     let values = small(&mut f, &mut g);
     six(b"small", values);
     six(b"full", full(&mut f, &mut g));
-    six(b"after the change", changing(&mut f, &mut g));
+    six(b"after the return", changing(&mut f, &mut g));
     checks(values, own);
     refusals();
 }

@@ -32,6 +32,12 @@ pub(crate) fn changed(s: Step, f: &mut [u32; 4], g: &mut [u32; 4]) -> Step {
     streamed(run.to_full(pass, f, g), f, g)
 }
 
+pub(crate) fn returned(s: Step) -> Step {
+    let run = s.run;
+    let pass = s.pass;
+    run.to_small(pass)
+}
+
 pub(crate) fn opened_full(s: Step, f: &mut [u32; 4], g: &mut [u32; 4]) -> Step {
     let run = s.run;
     let pass = s.pass;

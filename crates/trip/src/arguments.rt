@@ -1,13 +1,14 @@
-// The program's arguments: none, `full`, or `change K`.
+// The program's arguments: none, `full`, `change K` or `modes WORD`.
+use super::modes;
 use check::same;
 
-// No stage of a run has this number.
+// No step of a run has this number.
 const NEVER: u64 = 4294967297;
 
-pub enum Plan {
-    // To full mode before this stage: the rounds in order, then the ends, then the openings.
-    Change(u64),
-    Unknown,
+pub struct Plan {
+    // Whether the arguments are known, and then the letters of the steps (`modes`).
+    pub known: bool,
+    pub letters: [u8; 17],
 }
 
 enum Number {
@@ -15,42 +16,71 @@ enum Number {
     Nothing,
 }
 
+// Linux hands a program no longer argument than the second buffer holds.
 pub(crate) fn read() -> Plan {
     let count = os::arg_count();
     let mut word = io::buffer();
     let size = os::arg(1, &mut word);
-    let mut number = io::buffer();
-    let digits = os::arg(2, &mut number);
-    plan_of(count, &word[..size], &number[..digits])
+    let mut second = [0u8; 131072];
+    let second_size = os::arg(2, &mut second);
+    plan_of(count, &word[..size], &second[..second_size])
 }
 
-fn plan_of(count: usize, word: &[u8], number: &[u8]) -> Plan {
+fn known(letters: [u8; 17]) -> Plan {
+    Plan {
+        known: true,
+        letters,
+    }
+}
+
+fn unknown() -> Plan {
+    Plan {
+        known: false,
+        letters: [0u8; 17],
+    }
+}
+
+fn plan_of(count: usize, word: &[u8], second: &[u8]) -> Plan {
     if count < 2 {
-        return Plan::Change(NEVER);
+        return known(modes::changing_at(NEVER));
     }
     if count == 2 {
         return read_full(word);
     }
     if count == 3 {
-        return read_change(word, number);
+        return read_two(word, second);
     }
-    Plan::Unknown
+    unknown()
 }
 
 fn read_full(word: &[u8]) -> Plan {
     if same(word, b"full") {
-        return Plan::Change(0);
+        return known(modes::changing_at(0));
     }
-    Plan::Unknown
+    unknown()
+}
+
+fn read_two(word: &[u8], second: &[u8]) -> Plan {
+    if same(word, b"modes") {
+        return read_modes(second);
+    }
+    read_change(word, second)
+}
+
+fn read_modes(word: &[u8]) -> Plan {
+    if modes::is_word(word) {
+        return known(modes::letters_of(word));
+    }
+    unknown()
 }
 
 fn read_change(word: &[u8], number: &[u8]) -> Plan {
     if same(word, b"change") {} else {
-        return Plan::Unknown;
+        return unknown();
     }
     match decimal(number) {
-        Number::Is(stage) => Plan::Change(stage),
-        Number::Nothing => Plan::Unknown,
+        Number::Is(step) => known(modes::changing_at(step)),
+        Number::Nothing => unknown(),
     }
 }
 
@@ -74,7 +104,7 @@ fn decimal(digits: &[u8]) -> Number {
     Number::Is(n)
 }
 
-// A number past every stage stays so.
+// A number past every step stays so.
 fn append(n: u64, digit: u8) -> u64 {
     if n >= NEVER {
         return n;

@@ -6,7 +6,10 @@ use libc::STDOUT_FILENO;
 use prover::Step;
 
 pub(crate) fn usage() {
-    io::write_all(STDERR_FILENO, b"usage: trip [full | change K]\n");
+    io::write_all(
+        STDERR_FILENO,
+        b"usage: trip [full | change K | modes WORD]\n",
+    );
 }
 
 pub(crate) fn refused(k: u8) {

@@ -1,4 +1,4 @@
-// A whole run of the prover, in small mode until its change.
+// A whole run of the prover, each of its steps in the mode of its letter.
 ghost use mathlib.Core.Path.{_≡_};
 ghost use Rattle.vector.specs.Slice.{overwrite};
 ghost use Rattle.item.specs.Item.{partsOf};
@@ -7,6 +7,7 @@ ghost use Rattle.field.specs.Modulus.{modulus};
 ghost use Rattle.vector.specs.Power.{sizeIn32};
 ghost use Rattle.trip.specs.Items.{zeroPair, orZero, pairAt, fAt, gAt};
 use super::input;
+use super::modes;
 use item::Given;
 use item::Item;
 use item::Parts;
@@ -24,7 +25,7 @@ pub(crate) fn prove(
     started: Step,
     log: &[u8],
     numbers: &[u8],
-    change: u64,
+    modes: &[u8],
     f: &mut [u32],
     g: &mut [u32],
 ) -> Step {
@@ -33,34 +34,34 @@ pub(crate) fn prove(
     let Answer::Total(_) = answer else {
         return first;
     };
-    prove_total(first, log, numbers, change, f, g)
+    prove_total(first, log, numbers, modes, f, g)
 }
 
 fn prove_total(
     first: Step,
     log: &[u8],
     numbers: &[u8],
-    change: u64,
+    modes: &[u8],
     f: &mut [u32],
     g: &mut [u32],
 ) -> Step {
-    let folded = give_messages(first, log, numbers, change, f, g);
-    finish(folded, log, numbers, change, f, g)
+    let folded = give_messages(first, log, numbers, modes, f, g);
+    finish(folded, log, numbers, modes, f, g)
 }
 
 fn finish(
     folded: Step,
     log: &[u8],
     numbers: &[u8],
-    change: u64,
+    modes: &[u8],
     f: &mut [u32],
     g: &mut [u32],
 ) -> Step {
-    let ended = answer(folded, log, change, f, g);
+    let ended = answer(folded, log, modes, f, g);
     if ended.run.start.rounds == 0 {
         return ended;
     }
-    give_opening(ended, log, numbers, change, f, g)
+    give_opening(ended, log, numbers, modes, f, g)
 }
 
 // Every message, each with its challenge.
@@ -68,7 +69,7 @@ fn give_messages(
     first: Step,
     log: &[u8],
     numbers: &[u8],
-    change: u64,
+    modes: &[u8],
     f: &mut [u32],
     g: &mut [u32],
 ) -> Step {
@@ -76,7 +77,7 @@ fn give_messages(
     let mut left = first.run.start.rounds;
     while left > 0 {
         left -= 1;
-        step = give_message(step, log, numbers, change, f, g);
+        step = give_message(step, log, numbers, modes, f, g);
     }
     step
 }
@@ -85,19 +86,19 @@ fn give_message(
     before: Step,
     log: &[u8],
     numbers: &[u8],
-    change: u64,
+    modes: &[u8],
     f: &mut [u32],
     g: &mut [u32],
 ) -> Step {
-    let step = answer(before, log, change, f, g);
+    let step = answer(before, log, modes, f, g);
     let pass = step.pass;
     let c = input::number(numbers, step.run.round);
     step.run.challenge(pass, c, f, g)
 }
 
 // The next message, or the ends.
-fn answer(before: Step, log: &[u8], change: u64, f: &mut [u32], g: &mut [u32]) -> Step {
-    let step = change_mode(before, log, change, f, g);
+fn answer(before: Step, log: &[u8], modes: &[u8], f: &mut [u32], g: &mut [u32]) -> Step {
+    let step = change_mode(before, log, modes, f, g);
     if is_small(step) {
         return pass(step, log, f, g);
     }
@@ -118,11 +119,11 @@ fn give_opening(
     before: Step,
     log: &[u8],
     numbers: &[u8],
-    change: u64,
+    modes: &[u8],
     f: &mut [u32],
     g: &mut [u32],
 ) -> Step {
-    let step = change_mode(before, log, change, f, g);
+    let step = change_mode(before, log, modes, f, g);
     let point = input::number(numbers, step.run.start.rounds);
     if is_small(step) {
         return open_by_pass(step, log, point, f, g);
@@ -142,21 +143,37 @@ fn open_in_full(step: Step, log: &[u8], point: u32, f: &mut [u32], g: &mut [u32]
     step.run.opening(pass, point, f, g)
 }
 
-// The change to full mode, where it comes before this stage.
-fn change_mode(step: Step, log: &[u8], change: u64, f: &mut [u32], g: &mut [u32]) -> Step {
-    if stage(step.run) != change {
+// To the mode of the next step.
+fn change_mode(step: Step, log: &[u8], modes: &[u8], f: &mut [u32], g: &mut [u32]) -> Step {
+    let full = modes::full_at(modes, next_step(step.run));
+    if is_small(step) {
+        return leave_small(step, full, log, f, g);
+    }
+    leave_full(step, full)
+}
+
+fn leave_small(step: Step, full: bool, log: &[u8], f: &mut [u32], g: &mut [u32]) -> Step {
+    if full {
+        let pass = step.pass;
+        return close(give_items(step.run.to_full(pass, f, g), log, f, g));
+    }
+    step
+}
+
+fn leave_full(step: Step, full: bool) -> Step {
+    if full {
         return step;
     }
     let pass = step.pass;
-    close(give_items(step.run.to_full(pass, f, g), log, f, g))
+    step.run.to_small(pass)
 }
 
-// The run's stages: its rounds, the ends, the openings.
-fn stage(run: Run) -> u64 {
+// The steps of a run: its rounds, the ends, the openings.
+fn next_step(run: Run) -> usize {
     let next = run.next;
     match next {
-        Next::Openings => run.start.rounds as u64 + 1,
-        _ => run.round as u64,
+        Next::Openings => run.start.rounds as usize + 1,
+        _ => run.round as usize,
     }
 }
 

@@ -3,7 +3,7 @@
 
 use super::file_list::{damage, spoil_log};
 use super::noise;
-use super::plan::{Kind, Plan};
+use super::plan::{modes, Kind, Plan};
 use super::prover_list::{go_on, numbers, Openings};
 use super::script::Script;
 use crate::field::P;
@@ -146,7 +146,9 @@ fn open(script: &mut Script, logs: &Logs) -> Openings {
     let mut plan = Plan::of(&mut script.random, Kind::Twisted, combined);
     plan.twists = vec![1; rounds];
     plan.challenges = logs.challenges.clone();
-    plan.change_before = script.random.pick(&[rounds + 1, rounds + 2]);
+    // The first opening is step n + 1.
+    let modes = modes(&mut script.random, 3);
+    plan.full = [vec![false; rounds + 1], modes].concat();
     plan.openings = script.random.between(1, 3) as usize;
     go_on(script, &mut plan)
 }

@@ -1,4 +1,4 @@
-//! What one run is meant to be: its trip, its challenges, when it changes mode, how unruly it is.
+//! What one run is meant to be: its trip, its challenges, the modes of its steps, how unruly it is.
 
 use super::blocks::longest;
 use crate::files::{readings, Item};
@@ -20,8 +20,8 @@ pub struct Plan {
     pub items: Vec<(u64, u64)>,
     pub twists: Vec<u64>,
     pub challenges: Vec<u64>,
-    /// 0 to n - 1 a round, n the ends, n + 1 the openings, above them never.
-    pub change_before: usize,
+    /// Whether a step is made in full mode: 0 to n - 1 a round, n the ends, then each opening.
+    pub full: Vec<bool>,
     pub openings: usize,
     /// What a rule check claims in place of the total.
     pub claim: Option<u64>,
@@ -63,13 +63,14 @@ impl Plan {
     pub fn large(random: &mut Random, items: usize, version: u64) -> Plan {
         let trip = light_items(random, version, items);
         let mut plan = Plan::of(random, Kind::Plain(version), trip);
-        plan.change_before = rounds_of(items).saturating_sub(12);
+        plan.full = full_from(rounds_of(items).saturating_sub(12));
         plan.openings = 0;
         plan.calmed()
     }
 
     /// A run of many items whose blocks come again, so that they stay in the slots or the scratch
-    /// list. A plain one changes mode as the one above, a twisted one never.
+    /// list. A plain one changes mode as the one above and returns before its ends, a twisted one
+    /// never changes.
     pub fn large_in_blocks(random: &mut Random, items: usize, kind: Kind) -> Plan {
         let repeated = match kind {
             Kind::Plain(version) => light_items(random, version, 7 * longest(version)),
@@ -78,9 +79,10 @@ impl Plan {
         let trip = (0..items).map(|i| repeated[i % repeated.len()]).collect();
         let mut plan = Plan::of(random, kind, trip);
         let rounds = rounds_of(items);
-        (plan.change_before, plan.openings) = match kind {
-            Kind::Plain(_) => (rounds.saturating_sub(12), 0),
-            _ => (rounds + 2, 1),
+        let full_rounds = rounds.saturating_sub(12)..rounds;
+        (plan.full, plan.openings) = match kind {
+            Kind::Plain(_) => ((0..=rounds).map(|step| full_rounds.contains(&step)).collect(), 0),
+            _ => (vec![false], 1),
         };
         let mut plan = plan.calmed();
         (plan.blocks, plan.faults, plan.aligned) = (1_000, 2, true);
@@ -104,11 +106,7 @@ impl Plan {
             items,
             twists,
             challenges: (0..rounds).map(|_| random.usable()).collect(),
-            change_before: match random.below(4) {
-                0 => 0,
-                1 => rounds + 2,
-                _ => random.below(rounds as u64 + 2) as usize,
-            },
+            full: modes(random, rounds + 1),
             openings: random.below(3) as usize,
             claim: None,
             noise: random.pick(&[0, 0, 20, 80, 250]),
@@ -118,6 +116,11 @@ impl Plan {
             faults: random.pick(&[0, 50, 150]),
             aligned: false,
         }
+    }
+
+    /// Steps past the last one named stay in its mode.
+    pub fn is_full(&self, step: usize) -> bool {
+        self.full[step.min(self.full.len() - 1)]
     }
 
     pub fn plain(&self) -> bool {
@@ -139,6 +142,20 @@ impl Plan {
         }
         self.strays = 0;
     }
+}
+
+/// In one mode throughout, with one change, or there and back at random.
+pub fn modes(random: &mut Random, most: usize) -> Vec<bool> {
+    match random.below(6) {
+        0 => vec![true],
+        1 => vec![false],
+        2 => full_from(random.below(most as u64 + 1) as usize),
+        _ => (0..most + 2).map(|_| random.chance(500)).collect(),
+    }
+}
+
+fn full_from(step: usize) -> Vec<bool> {
+    (0..=step).map(|k| k == step).collect()
 }
 
 pub fn plain_items(random: &mut Random, version: u64, count: usize) -> Vec<(u64, u64)> {

@@ -84,8 +84,56 @@ fn step(script: &mut Script, plan: &mut Plan, openings: &mut Openings) {
             let aim = pass.aim;
             close(script, plan, openings, aim);
         }
-        None if run.mode == Mode::Small => open(script, plan),
-        None => full_call(script, plan, openings),
+        None => between_passes(script, plan, openings),
+    }
+}
+
+fn between_passes(script: &mut Script, plan: &Plan, openings: &mut Openings) {
+    if change_mode(script, plan, openings.len()) {
+        return;
+    }
+    match script.tool.run.as_ref().unwrap().mode {
+        Mode::Small => open(script, plan),
+        Mode::Full => full_call(script, plan, openings),
+    }
+}
+
+/// To the mode of the next step, where it is the other one.
+fn change_mode(script: &mut Script, plan: &Plan, openings: usize) -> bool {
+    let run = script.tool.run.as_ref().unwrap();
+    let Some(level) = change_level(run) else { return false };
+    let step = match run.next {
+        Next::Message(i) => i,
+        Next::Ends => run.rounds,
+        _ => run.rounds + 1 + openings,
+    };
+    let size = run.size() >> level;
+    match (run.mode, plan.is_full(step)) {
+        (Mode::Small, true) if size <= PLACES => {
+            script.lend(size);
+            script.call(22, 0, 0);
+            true
+        }
+        (Mode::Full, false) => {
+            script.call(23, 0, 0);
+            use_elsewhere(script);
+            true
+        }
+        _ => false,
+    }
+}
+
+/// After a return the buffers may hold anything and be of any length.
+fn use_elsewhere(script: &mut Script) {
+    let size = script.tool.run.as_ref().unwrap().size().min(PLACES) as u64;
+    for _ in 0..script.random.below(6) {
+        let random = &mut script.random;
+        let (vector, place, value) = (random.below(2), random.below(size), random.any());
+        script.call3(4, vector, place, value);
+    }
+    if script.random.chance(300) {
+        let [f, g] = [(); 2].map(|()| script.random.below(size + 1));
+        script.call(3, f, g);
     }
 }
 
@@ -153,28 +201,11 @@ fn close(script: &mut Script, plan: &mut Plan, openings: &mut Openings, aim: Aim
 }
 
 fn open(script: &mut Script, plan: &Plan) {
-    let run = script.tool.run.as_ref().unwrap();
-    let place = match run.next {
-        Next::Message(i) => i,
-        Next::Ends => run.rounds,
-        Next::Openings => run.rounds + 1,
+    match script.tool.run.as_ref().unwrap().next {
         Next::Challenge(i) => {
             script.call(19, plan.challenges[i], 0);
-            return;
         }
-        Next::Total => {
-            script.call(13, 0, 0);
-            return;
-        }
-    };
-    let change = change_level(run).map(|level| run.size() >> level);
-    let openings_next = run.next == Next::Openings;
-    match change {
-        Some(size) if place == plan.change_before && size <= PLACES => {
-            script.lend(size);
-            script.call(22, 0, 0);
-        }
-        _ if openings_next => {
+        Next::Openings => {
             let point = script.random.usable();
             script.call(14, point, 0);
         }

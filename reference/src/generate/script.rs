@@ -2,6 +2,7 @@
 
 use super::blocks::Counts;
 use super::reached::Reached;
+use super::returns::Returns;
 use crate::random::Random;
 use crate::replay::{Program, Record, Tool, PLACES};
 
@@ -14,6 +15,7 @@ pub struct Script {
     pub lists: Vec<usize>,
     pub blocks: Counts,
     pub reached: Reached,
+    pub returns: Returns,
     /// The slot that is filled next.
     slot: usize,
 }
@@ -28,6 +30,7 @@ impl Script {
             lists: Vec::new(),
             blocks: Counts::default(),
             reached: Reached::default(),
+            returns: Returns::default(),
             slot: 0,
         }
     }
@@ -40,6 +43,7 @@ impl Script {
         let record = [op, a as u32, b as u32, c as u32];
         let answer = self.tool.step(record);
         self.reached.note(&self.tool, record, &answer);
+        self.returns.note(&self.tool, record, &answer);
         self.records.push(record);
         self.answers.push(answer);
         self.answers.last().unwrap().trim_end()

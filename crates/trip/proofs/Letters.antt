@@ -1,0 +1,33 @@
+-- The letters that the program holds say of each step what the arguments say.
+use mathlib.Core.Path.{_≡_, refl, ap, _∙_}
+use mathlib.Core.Bool.{Bool, true, false, cond}
+use mathlib.Core.List.{List}
+use Prim.Native.Nat.{ℕ, _-_, _<_}
+use native.Mathlib.Omega.{arith}
+use lib.Dec.{eqb, leb, ltb}
+use lib.ListN.{length, replicate}
+use borrow.Author.Tests.{lt-ltb}
+use Rattle.vector.proofs.Overwrite.{overwrite-length, overwrite-written}
+use Rattle.vector.specs.Vector.{at}
+use Rattle.vector.specs.Slice.{overwrite}
+use Rattle.trip.specs.Modes.{letterAt, fullAt, lettersOf, letterFrom, changingAt}
+
+held : (v : ℕ → ℕ) (i : ℕ) → i < 17 → letterAt (overwrite v 17 (replicate 17 0)) i ≡ v i
+unfolding letterAt
+held v i h =
+    let xs : List ℕ = overwrite v 17 (replicate 17 0) in
+    let long : length xs ≡ 17 = overwrite-length v (replicate 17 0) 17 in
+    ap (λ b. at xs (cond b i (length xs - 1))) (lt-ltb i (length xs) (omega (arith, long)))
+    ∙ overwrite-written v (replicate 17 0) 17 i (omega arith) h
+
+-- of a word
+pub letters-full : (w : List ℕ) (i : ℕ) → i < 17 → fullAt (lettersOf w) i ≡ fullAt w i
+letters-full w i h = ap (λ x. eqb x 102) (held (letterAt w) i h)
+
+-- of a change before step k
+pub changing-full : (k i : ℕ) → i < 17 → fullAt (changingAt k) i ≡ leb k i
+changing-full k i h = ap (λ x. eqb x 102) (held (letterFrom k) i h) ∙ by (leb k i)
+  where
+    by : (b : Bool) → eqb (cond b 102 115) 102 ≡ b
+    by true = refl
+    by false = refl
