@@ -9,6 +9,7 @@ pub mod NewPass
 pub mod OpenTurns
 pub mod OpenLaws
 pub mod FullFacts
+pub mod ReturnLaws
 pub mod FullOutcomes
 pub mod FullLaws
 pub mod OpeningLaws

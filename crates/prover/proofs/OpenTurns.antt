@@ -54,7 +54,7 @@ pass-taken n message = refl
 pass-taken n ends = refl
 
 -- tests one after the other, all true
-both-true : (a b : Bool) → a ≡ true → b ≡ true → cond a b false ≡ true
+pub both-true : (a b : Bool) → a ≡ true → b ≡ true → cond a b false ≡ true
 both-true true b h e = e
 both-true false b h e = absurd (true≢false (sym h))
 

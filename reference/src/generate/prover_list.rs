@@ -144,8 +144,9 @@ fn near_miss(script: &mut Script) {
         Some(Aim::Change(level)) => run.size() >> level,
         _ => fold_size(run),
     };
-    let closes = script.random.chance(250);
+    let (closes, returns) = (script.random.chance(250), script.random.chance(250));
     let op = match (&run.pass, run.mode, run.next) {
+        _ if returns => 23,
         (Some(_), ..) if closes => 17,
         (Some(_), ..) if run.plain => 15,
         (Some(_), ..) => 16,
