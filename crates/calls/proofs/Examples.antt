@@ -1,4 +1,4 @@
--- "One trip, whole", in small mode, in full mode and with a change: the lists are answered as written, by computation.
+-- "One trip, whole", in small mode, in full mode, with a change, and there and back: the lists are answered as written, by computation.
 use Prim.Native.Nat.{ℕ}
 use mathlib.Core.Path.{refl}
 use mathlib.Core.Bool.{true}

@@ -24,7 +24,7 @@ use Rattle.calls.specs.declared.Call.{Call}
 use Rattle.calls.specs.declared.Call.the-variants as call
 use Rattle.calls.specs.Step.{Lent}
 use Rattle.calls.specs.State.{State, inPass, closed}
-use Rattle.calls.specs.Table.{passWaits, openingsNext, changeWaits, bothLong, totalFits}
+use Rattle.calls.specs.Table.{passWaits, openingsNext, changeWaits, totalFits}
 use Rattle.calls.specs.Proper.{ItemFits, Valid, Room, itemsBelow, wholePass, Host, lends, hostOn}
 use Rattle.calls.proofs.Turns.{both}
 use Rattle.calls.proofs.Agrees.{tripAt}

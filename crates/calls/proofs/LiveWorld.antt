@@ -97,13 +97,6 @@ held m k = isFull m || isChange k
 abbrev pub lentAnew : Mode → Next → Bool
 lentAnew m t = isFull m && waits next.Openings t
 
-pub not-anew : (m : Mode) (t : Next) → waits next.Openings t ≡ false → lentAnew m t ≡ false
-not-anew m t e = by (isFull m) (waits next.Openings t) e
-  where
-    by : (x y : Bool) → y ≡ false → (x && y) ≡ false
-    by true y e = e
-    by false y e = refl
-
 -- a call that writes nothing
 pub still : (a b : State) (l x : Lent) (v u : Vector) → b .buffers .f ≡ a .buffers .f → b .buffers .g ≡ a .buffers .g → Written v 0 0 (l .f) (x .f) → Written u 0 0 (l .g) (x .g) → SameBuffers l a → SameBuffers x b
 still a b l x v u ef eg wf wg left j =

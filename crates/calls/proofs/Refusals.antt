@@ -53,7 +53,7 @@ use Rattle.calls.specs.Demand3.{AllDecided}
 use Rattle.calls.specs.Starts.{Startable}
 use Rattle.calls.proofs.Records.{Notes, noNotes, noted, refusal-noted, runOf, passOf}
 use Rattle.calls.proofs.Guards.{challengeDoes}
-use Rattle.calls.proofs.Steps.{some-none, closeStep, does, refusedResult, settled, steps}
+use Rattle.calls.proofs.Steps.{closeStep, does, refusedResult, settled, steps}
 use Rattle.calls.proofs.Fits.{Fits, few, run-formed, formed, kind-is, taken-is, sum-is, messages-below}
 use Rattle.calls.proofs.Follows.{Follows, positive, no-items, open-follows, open-at-follows, to-full-follows, to-small-follows, item-follows, close-follows, message-follows, ends-follows, challenge-follows}
 

@@ -95,7 +95,7 @@ pub record Demand3 (p : ℕ) : Type 0 where
   -- every buffer and every proof file is as document 01 says, after every call
   pub answers : (through : Bool) (T : Trip) → Whole T → (b : Begin) → CanBegin (T .start) b → (f g : List ℕ) (ms : List Made)
       → (let w : World = begun (T .start) b f g in AllKept p through T w ms → AllRight p through T w ms)
-  -- and in small mode, but for a change's own items, this asks nothing of the buffers: what holds of a call holds of it whatever it is lent
+  -- where the buffers are free: in small mode, but for a change's own items, what is asked of a call is asked of it whatever it is lent
   pub unbound : (through : Bool) (T : Trip) (a : State) → inUse a ≡ false → (c : Call) (l m : Lent) → table p a c m ≡ none
       → Kept p T through a c l → Kept p T through a c m
   -- A PROPER RUN IS ANSWERED THROUGHOUT, whichever of its steps are made in full mode and whatever the buffers hold while it does not work on
@@ -106,8 +106,8 @@ pub record Demand3 (p : ℕ) : Type 0 where
   pub properBatch : (T : Trip) → Valid p T → (full : ℕ → Bool) (cs bs : List ℕ) (idle : Call → ℕ → Lent) → Brings p T full cs bs idle
       → Opens (T .start) cs → full (T .start .rounds) ≡ false → (f g : List ℕ)
       → AllProper p cs T (openingsWorld (T .start) cs f g) (batchRun p T full cs bs idle f g)
-  -- ALIKE: two lists for the same trip, each in any mode and with any number of changes either way; where the same challenges were taken and the same is asked,
-  -- the same is answered
+  -- ALIKE: two lists for the same trip, each in any mode and with any number of changes either way; where the same challenges were taken and
+  -- the same is asked, the same is answered
   pub alike : (T : Trip) → Whole T → (b b′ : Begin) → CanBegin (T .start) b → CanBegin (T .start) b′ → (th th′ : Bool) (f g f′ g′ : List ℕ)
       (ms ns : List Made) (m n : Made)
       → (let w : World = begun (T .start) b f g in

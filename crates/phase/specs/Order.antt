@@ -50,7 +50,8 @@ openNext Challenge = false
 openNext Ends = true
 openNext Openings = false
 
--- where the mode may change, either way: "Before any later pass (round, ends, openings)"; not between a message and its challenge, and for openings not with n = 0
+-- where the mode may change, either way: "Before any later pass (round, ends, openings)"; not between a message and its challenge, and for
+-- openings not with n = 0
 abbrev pub changeAt : Next → ℕ → Bool
 changeAt Total n = false
 changeAt Message n = true

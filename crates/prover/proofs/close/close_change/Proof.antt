@@ -1,6 +1,3 @@
-use mathlib.Core.Path.{_≡_}
-use mir.Syntax.{w64}
-use mir.Val.{toZ, ofZ}
 use borrow.Author.Needs.{needs}
 use Rattle.prover.proofs.close.close_change.Statement.{statement}
 use Rattle.prover.proofs.close.close_change.Tie as tie
