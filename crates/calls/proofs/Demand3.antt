@@ -44,7 +44,7 @@ use Rattle.calls.proofs.HeardFollows.{Follows}
 use Rattle.calls.proofs.HeardLists.{says-trip, follows-next, fresh-follows}
 use Rattle.calls.proofs.VerdictLists.{every-verdict}
 use Rattle.calls.proofs.StartRows.{all-starts}
-use Rattle.calls.proofs.Unbound.{unbound-kept}
+use Rattle.calls.proofs.Unbound.{unbound-kept, return-frees}
 
 -- WHAT THE RUN GAVE IS THE TRIP'S
 module _ (p : ℕ) (large : maxWeight < p) (through : Bool) (T : Trip) (whole : Whole T) (cs : List ℕ) (w : World) {past : Notes}
@@ -102,6 +102,7 @@ module _ (p : ℕ) (large : maxWeight < p) (prime : Prime p) (odd : p % 2 ≡ 1)
         refusals = λ s b h f g ms. all-decided p large (begun s b f g) (begun-faithful p large s b h f g) ms;
         answers = λ through T whole b h f g ms kept.
             all-right p large through T (whole .items) (begun (T .start) b f g) (begun-going p large through T (whole .items) b h f g) ms kept;
+        freed = return-frees p;
         unbound = unbound-kept p;
         proper = proper-run p large prime odd word;
         properBatch = batch-proper p large;

@@ -49,11 +49,11 @@ pub mod Longer
 pub mod Alike
 pub mod Hits
 pub mod Links
-pub mod Unbound
 pub mod LiveTable
 pub mod LiveStep
 pub mod LiveVectors
 pub mod LiveWorld
+pub mod Unbound
 pub mod Pointed
 pub mod BatchTakes
 pub mod OpeningChecks

@@ -1,21 +1,29 @@
--- In small mode, but for the items of a change, nothing is asked of what a call is lent.
-use mathlib.Core.Path.{_≡_, refl, sym, _∙_}
-use mathlib.Core.Bool.{Bool, true, false, _&&_, _||_, true≢false}
+-- While the run works on other buffers nothing is asked of what a call is lent; a return frees them up to the next change.
+use mathlib.Core.Path.{_≡_, refl, sym, ap, ap₂, _∙_}
+use mathlib.Core.Bool.{Bool, true, false, cond, _&&_, _||_, true≢false}
+use mathlib.Core.List.{List, [], _∷_}
 use mathlib.Core.Option.{none}
 use Prim.Native.Nat.{ℕ}
+use Rattle.phase.specs.declared.Next.{Next}
 use Rattle.phase.specs.declared.Next.the-variants as next
+use Rattle.phase.specs.declared.Kind.{Kind}
+use Rattle.phase.specs.declared.Kind.the-variants.{Shut, Asked, Change}
 use Rattle.phase.specs.Cases.{isChange, isFull, waits}
 use Rattle.runs.specs.Trip.{Trip}
 use Rattle.calls.specs.declared.Call.{Call}
 use Rattle.calls.specs.declared.Call.the-variants as call
-use Rattle.calls.specs.Step.{Lent}
-use Rattle.calls.specs.State.{State}
+use Rattle.calls.specs.Lists.{along, always}
+use Rattle.calls.specs.Step.{Lent, isAnswered}
+use Rattle.calls.specs.State.{State, takesChallenge, closed, goesOn}
+use Rattle.calls.specs.World.{Made, World, came, onward}
 use Rattle.calls.specs.Table.{openingsNext, table}
 use Rattle.calls.specs.Meaning.{Kept}
 use Rattle.calls.specs.Proper.{inUse}
+use Rattle.calls.specs.Demand3.{goesBack}
 use Rattle.calls.proofs.Steps.{row-passed}
 use Rattle.calls.proofs.Turns.{both}
 use Rattle.calls.proofs.KeptCalls.{KeptBy, kept-by, by-kept}
+use Rattle.calls.proofs.LiveWorld.{buffers-same}
 
 neither : (x y : Bool) → (x || y) ≡ false → (x ≡ false) × (y ≡ false)
 neither false y e = (refl, e)
@@ -48,3 +56,51 @@ module _ (p : ℕ) (through : Bool) (T : Trip) (a : State) (idle : inUse a ≡ f
 
   pub unbound-kept : (c : Call) (l m : Lent) → table p a c m ≡ none → Kept p T through a c l → Kept p T through a c m
   unbound-kept c l m e h = by-kept p T through a c m (kept-too c l m e (kept-by p T through a c l h))
+
+-- FREED by a return, and free as long as other change is opened
+closed-free : (a : State) (t : Next) (k : Kind) → isFull (a .turn .mode) ≡ false → isChange k ≡ false → a .pass .kind ≡ k → inUse (closed a t k) ≡ false
+closed-free a t Shut m k e = ap₂ _||_ m (ap isChange e)
+closed-free a next.Total Asked m k e = ap (λ b. b || false) m
+closed-free a next.Message Asked m k e = ap (λ b. b || false) m
+closed-free a next.Challenge Asked m k e = ap₂ _||_ m (ap isChange e)
+closed-free a next.Ends Asked m k e = ap (λ b. b || false) m
+closed-free a next.Openings Asked m k e = ap (λ b. b || false) m
+closed-free a t Change m k e = absurd (true≢false k)
+
+goes-free : (a : State) (c : Call) (l : Lent) → (c ≡ call.ToFull → ⊥) → inUse a ≡ false → inUse (goesOn a c l) ≡ false
+goes-free a call.OpenPass l other h = ap (λ b. b || false) (neither (isFull (a .turn .mode)) (isChange (a .pass .kind)) h .0)
+goes-free a (call.OpenAt b) l other h = ap (λ b. b || false) (neither (isFull (a .turn .mode)) (isChange (a .pass .kind)) h .0)
+goes-free a call.ToFull l other h = absurd (other refl)
+goes-free a call.ToSmall l other h = refl
+goes-free a (call.Give x) l other h = buffers-same inUse (λ a l. refl) (isChange (a .pass .kind)) _ l ∙ h
+goes-free a call.Close l other h =
+    let q = neither (isFull (a .turn .mode)) (isChange (a .pass .kind)) h in
+    closed-free a (a .turn .next) (a .pass .kind) (q .0) (q .1) refl
+goes-free a call.Message l other h = ap (λ b. b || false) (neither (isFull (a .turn .mode)) (isChange (a .pass .kind)) h .0)
+goes-free a (call.Challenge c) l other h =
+    buffers-same inUse (λ a l. refl) (isFull (a .turn .mode)) (takesChallenge a c) l ∙ ap (λ b. b || false) (neither (isFull (a .turn .mode)) (isChange (a .pass .kind)) h .0)
+goes-free a call.Ends l other h = ap (λ b. b || false) (neither (isFull (a .turn .mode)) (isChange (a .pass .kind)) h .0)
+goes-free a (call.Opening b) l other h = h
+goes-free a call.WriteProof l other h = h
+
+module _ (p : ℕ) where
+  follow-free : (w : World) (m : Made) → (m .call ≡ call.ToFull → ⊥) → inUse (w .state) ≡ false → inUse (onward p w m .state) ≡ false
+  follow-free w m other h = by (isAnswered (came p w m .answer))
+    where
+      by : (b : Bool) → inUse (cond b (goesOn (w .state) (m .call) (came p w m .lent)) (w .state)) ≡ false
+      by true = goes-free (w .state) (m .call) (came p w m .lent) other h
+      by false = h
+
+  stays-free : (w : World) (ms : List Made) → inUse (w .state) ≡ false → along (onward p) (λ u m. m .call ≡ call.ToFull → ⊥) w ms
+      → always (onward p) (λ u. inUse (u .state) ≡ false) w ms
+  unfolding along always
+  stays-free w [] h other = h
+  stays-free w (m ∷ ms) h other = (h, stays-free (onward p w m) ms (follow-free w m (other .0) h) (other .1))
+
+  pub return-frees : (w : World) (l : Lent) (ms : List Made)
+      → (let v : World = onward p w (goesBack l) in
+      isAnswered (came p w (goesBack l) .answer) ≡ true → along (onward p) (λ u m. m .call ≡ call.ToFull → ⊥) v ms
+      → always (onward p) (λ u. inUse (u .state) ≡ false) v ms)
+  return-frees w l ms answered other =
+      stays-free (onward p w (goesBack l)) ms
+      (ap (λ b. inUse (cond b (goesOn (w .state) call.ToSmall (came p w (goesBack l) .lent)) (w .state))) answered) other

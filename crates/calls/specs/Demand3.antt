@@ -13,6 +13,7 @@ use Rattle.vector.specs.Vector.{at}
 use Rattle.item.specs.declared.Start.{Start}
 use Rattle.runs.specs.Trip.{Trip}
 use Rattle.calls.specs.declared.Call.{Call}
+use Rattle.calls.specs.declared.Call.the-variants as call
 use Rattle.calls.specs.Lists.{after, along, always}
 use Rattle.calls.specs.Step.{Lent, isAnswered}
 use Rattle.calls.specs.State.{State}
@@ -30,6 +31,10 @@ use Rattle.calls.specs.Blocks.{Wide, wideOn, WideDecided, expanded, Wide
 use Rattle.calls.specs.Starts.{Startable, Opens, Whole, batchRows, Starts}
 use Rattle.calls.specs.Begins.{Begin, CanBegin, begun, openingsWorld, batchRun}
 use Rattle.calls.specs.BatchTrip.{batchTrip}
+
+-- the call that returns to small mode
+abbrev pub goesBack : Lent → Made
+goesBack l = record { call = call.ToSmall; lent = l }
 
 -- ALONG A RUN'S LIST
 module _ (p : ℕ) where
@@ -95,7 +100,12 @@ pub record Demand3 (p : ℕ) : Type 0 where
   -- every buffer and every proof file is as document 01 says, after every call
   pub answers : (through : Bool) (T : Trip) → Whole T → (b : Begin) → CanBegin (T .start) b → (f g : List ℕ) (ms : List Made)
       → (let w : World = begun (T .start) b f g in AllKept p through T w ms → AllRight p through T w ms)
-  -- where the buffers are free: in small mode, but for a change's own items, what is asked of a call is asked of it whatever it is lent
+  -- AN ANSWERED RETURN FREES THE BUFFERS up to the next change that is opened
+  pub freed : (w : World) (l : Lent) (ms : List Made)
+      → (let v : World = onward p w (goesBack l) in
+      isAnswered (came p w (goesBack l) .answer) ≡ true → along (onward p) (λ u m. m .call ≡ call.ToFull → ⊥) v ms
+      → always (onward p) (λ u. inUse (u .state) ≡ false) v ms)
+  -- and while they are free nothing is asked of them: what is asked of a call is asked of it whatever it is lent
   pub unbound : (through : Bool) (T : Trip) (a : State) → inUse a ≡ false → (c : Call) (l m : Lent) → table p a c m ≡ none
       → Kept p T through a c l → Kept p T through a c m
   -- A PROPER RUN IS ANSWERED THROUGHOUT, whichever of its steps are made in full mode and whatever the buffers hold while it does not work on

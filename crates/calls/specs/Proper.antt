@@ -100,7 +100,7 @@ pub record Host : Type 0 where
   pub count : ℕ
   pub lent : Lent
 
--- the run works on the buffers
+-- the run works on the buffers: in full mode, and in a change pass
 abbrev pub inUse : State → Bool
 inUse a = isFull (a .turn .mode) || isChange (a .pass .kind)
 
