@@ -113,10 +113,9 @@ fn compare_trip(
 
 /// Arguments that `trip` does not know: a usage line beside the output, and no output.
 fn compare_usage(programs: &Path, folder: &Path) -> Result<(), String> {
-    let unknown = [
-        "other", "change", "change x", "full 1", "modes", "modes ", "modes x", "modes sfS", "modes s f",
-    ];
-    for arguments in unknown {
+    let unknown = ["other", "change", "change x", "full 1"];
+    let no_word = ["modes", "modes ", "modes x", "modes sfS", "modes s f"];
+    for arguments in unknown.into_iter().chain(no_word) {
         let mut command = Command::new(programs.join("trip"));
         let command = command.args(arguments.split(' ')).current_dir(folder);
         let output = command.output().map_err(|error| error.to_string())?;

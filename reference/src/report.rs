@@ -160,12 +160,12 @@ impl Report {
 
     fn table(&self) -> String {
         let columns = self.columns(0..4) + &self.columns(4..8) + &self.columns(8..11);
-        let mut text =
-            columns + &self.places() + &self.reached.table() + &self.returns.table();
+        let mut text = columns + &self.places() + &self.reached.table() + &self.returns.table();
         let calls =
             self.refused[1..].iter().flatten().chain(&self.answered[1..]).copied().sum::<u64>();
         text += &format!(
-            "{} trips, each in small mode, in full mode, with a change and by two words of modes, {} lists, {calls} calls, {} verdicts yes, {} no, {} batches yes, \
+            "{} trips, each in small mode, in full mode, with a change and by two words of modes, \
+             {} lists, {calls} calls, {} verdicts yes, {} no, {} batches yes, \
              {} no at 0, {} no at a j, {} example programs: all alike\n",
             self.trips,
             self.lists,
