@@ -16,14 +16,11 @@ enum Number {
     Nothing,
 }
 
-// Linux hands a program no longer argument than the second buffer holds.
 pub(crate) fn read() -> Plan {
     let count = os::arg_count();
     let mut word = io::buffer();
     let size = os::arg(1, &mut word);
-    let mut second = [0u8; 131072];
-    let second_size = os::arg(2, &mut second);
-    plan_of(count, &word[..size], &second[..second_size])
+    plan_of(count, &word[..size])
 }
 
 fn known(letters: [u8; 17]) -> Plan {
@@ -40,7 +37,7 @@ fn unknown() -> Plan {
     }
 }
 
-fn plan_of(count: usize, word: &[u8], second: &[u8]) -> Plan {
+fn plan_of(count: usize, word: &[u8]) -> Plan {
     if count < 2 {
         return known(modes::changing_at(NEVER));
     }
@@ -48,7 +45,7 @@ fn plan_of(count: usize, word: &[u8], second: &[u8]) -> Plan {
         return read_full(word);
     }
     if count == 3 {
-        return read_two(word, second);
+        return read_two(word);
     }
     unknown()
 }
@@ -60,7 +57,14 @@ fn read_full(word: &[u8]) -> Plan {
     unknown()
 }
 
-fn read_two(word: &[u8], second: &[u8]) -> Plan {
+// Linux hands a program no longer argument than the buffer holds.
+fn read_two(word: &[u8]) -> Plan {
+    let mut second = [0u8; 131072];
+    let size = os::arg(2, &mut second);
+    read_second(word, &second[..size])
+}
+
+fn read_second(word: &[u8], second: &[u8]) -> Plan {
     if same(word, b"modes") {
         return read_modes(second);
     }
