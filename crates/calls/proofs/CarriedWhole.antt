@@ -204,3 +204,11 @@ module _ (p : ℕ) (large : maxWeight < p) (T : Trip) (valid : Valid p T) (full 
       ap₂ (λ file xs. itemsOf (T .items) ++ record { query = query.Proof; shown = record { file = file; values = []; logs = [] } } ∷ xs) e
       (all-so (λ q x. checks (T .start .rounds) q (x .values)) (byCheck p T cs) (each-check p large true T (valid .whole .items) cs)
       ∙ checks-whole p T cs bs (T .start .rounds))
+
+-- IN ANY MODES a proper run gives the same total, messages, ends and openings, to be carried over
+pub any-modes : (p : ℕ) (large : maxWeight < p) (T : Trip) (valid : Valid p T) (cs bs : List ℕ) (full full′ : ℕ → Bool) (idle idle′ : Call → ℕ → Lent)
+    → Brings p T full cs bs idle → Brings p T full′ cs bs idle′ → (f g f′ g′ : List ℕ)
+    → byMessages p T (freshWorld (T .start) f g) (properRun p T full cs bs idle f g)
+    ≡ byMessages p T (freshWorld (T .start) f′ g′) (properRun p T full′ cs bs idle′ f′ g′)
+any-modes p large T valid cs bs full full′ idle idle′ h h′ f g f′ g′ =
+    messages-list p large T valid full cs bs idle h f g ∙ sym (messages-list p large T valid full′ cs bs idle′ h′ f′ g′)

@@ -112,7 +112,7 @@ pub record Demand3 (p : ℕ) : Type 0 where
   -- them; it meets what is asked above, and takes the challenges that it is brought
   pub proper : (T : Trip) → Valid p T → (full : ℕ → Bool) (cs bs : List ℕ) (idle : Call → ℕ → Lent) → Brings p T full cs bs idle → (f g : List ℕ)
       → AllProper p cs T (freshWorld (T .start) f g) (properRun p T full cs bs idle f g)
-  -- A BATCH'S OWN LIST, which begins in small mode after its ends, likewise
+  -- A BATCH'S OWN LIST, which begins before step n + 1 in small mode, likewise
   pub properBatch : (T : Trip) → Valid p T → (full : ℕ → Bool) (cs bs : List ℕ) (idle : Call → ℕ → Lent) → Brings p T full cs bs idle
       → Opens (T .start) cs → full (T .start .rounds) ≡ false → (f g : List ℕ)
       → AllProper p cs T (openingsWorld (T .start) cs f g) (batchRun p T full cs bs idle f g)

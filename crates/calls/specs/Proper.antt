@@ -64,7 +64,7 @@ module _ (T : Trip) where
 
   -- WHICH STEPS ARE MADE IN FULL MODE: step i is round i, step n the ends, step n + 1 + j the opening at point j
   module _ (full : ℕ → Bool) where
-    -- the mode in which step i is come to: "The total always takes a small pass"
+    -- the mode before step i: "The total always takes a small pass"
     abbrev pub before : ℕ → Bool
     before zero = false
     before (suc i) = full i
@@ -81,7 +81,7 @@ module _ (T : Trip) where
     abbrev pub endCalls : List Call
     endCalls = changeBefore (T .start .rounds) ++ answerBy (full (T .start .rounds)) call.OpenPass call.Ends
 
-    -- the last change comes where no opening follows it
+    -- a change may come after the last point too
     unfoldable pub openingsFrom : ℕ → List ℕ → List Call
     openingsFrom i [] = changeBefore i
     openingsFrom i (b ∷ bs) = changeBefore i ++ answerBy (full i) (call.OpenAt b) (call.Opening b) ++ openingsFrom (suc i) bs
@@ -118,8 +118,8 @@ module _ (p : ℕ) (T : Trip) where
   abbrev pub working : State → Lent → Lent
   working a l = cond (isFull (a .turn .mode) && waits next.Openings (a .turn .next)) (foldZero l) l
 
--- ELSE IT LENDS ANYTHING, document 02, (c): up to a change, and from a return to the next change, the buffers may be lent elsewhere. `idle c j`
--- is what it lends a call c then that is its j-th
+-- ELSE IT LENDS ANYTHING, `idle c j` to a call c that is its j-th. Document 02, (c), "lends its buffers to the route map": up to a change,
+-- and from a return to the next change, they are free
 module _ (p : ℕ) (T : Trip) (idle : Call → ℕ → Lent) where
   abbrev pub lends : Host → Call → Lent
   lends h c = cond (inUse (h .world .state)) (working p T (h .world .state) (h .lent)) (idle c (h .count))

@@ -147,12 +147,12 @@ fn open_in_full(step: Step, log: &[u8], point: u32, f: &mut [u32], g: &mut [u32]
 fn change_mode(step: Step, log: &[u8], modes: &[u8], f: &mut [u32], g: &mut [u32]) -> Step {
     let full = modes::full_at(modes, next_step(step.run));
     if is_small(step) {
-        return leave_small(step, full, log, f, g);
+        return from_small(step, full, log, f, g);
     }
-    leave_full(step, full)
+    from_full(step, full)
 }
 
-fn leave_small(step: Step, full: bool, log: &[u8], f: &mut [u32], g: &mut [u32]) -> Step {
+fn from_small(step: Step, full: bool, log: &[u8], f: &mut [u32], g: &mut [u32]) -> Step {
     if full {
         let pass = step.pass;
         return close(give_items(step.run.to_full(pass, f, g), log, f, g));
@@ -160,7 +160,7 @@ fn leave_small(step: Step, full: bool, log: &[u8], f: &mut [u32], g: &mut [u32])
     step
 }
 
-fn leave_full(step: Step, full: bool) -> Step {
+fn from_full(step: Step, full: bool) -> Step {
     if full {
         return step;
     }
