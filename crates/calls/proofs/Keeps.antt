@@ -29,6 +29,7 @@ use Rattle.refusal.specs.Outcome.{Outcome, answered}
 use Rattle.prover.specs.Reply.{Reply, answerIn}
 use Rattle.prover.specs.Reply as reply
 use Rattle.item.specs.declared.Given.{Given}
+use Rattle.prover.proofs.ReturnLaws.{full-is}
 use Rattle.runs.specs.Trip.{Trip, tripItem, vectorF, vectorG, totalOf}
 use Rattle.runs.specs.Passes.{passAfter, Gives}
 use Rattle.runs.specs.Buffers.{Written}
@@ -56,10 +57,6 @@ small-none h q Full k o through s c = absurd (true≢false (sym s))
 small-change : (h q : ℕ) (m : Mode) (o through : Bool) → isSmall m ≡ true → knownIn h q m Change o through ≡ cond (through || not o) (h - q) h
 small-change h q Small o through s = refl
 small-change h q Full o through s = absurd (true≢false (sym s))
-
-is-full : (m : Mode) → isFull m ≡ true → m ≡ Full
-is-full Full e = refl
-is-full Small e = absurd (true≢false (sym e))
 
 full-some : (h q : ℕ) (k : Kind) (o through : Bool) → knownIn h q Full k o through ≡ cond o h 0
 full-some h q Shut o through = refl
@@ -346,13 +343,13 @@ module _ (p : ℕ) (large : maxWeight < p) (through : Bool) (its : List Given) (
   -- IN FULL MODE
   full-places : (b : State) → b .turn .mode ≡ a .turn .mode → isFull (a .turn .mode) ≡ true → waits next.Openings (b .turn .next) ≡ false → known through b ≡ 0
   full-places b em f w =
-      ap (λ m. knownIn (long b) (taken b / 2 ^ level b) m (b .pass .kind) (waits next.Openings (b .turn .next)) through) (em ∙ is-full (a .turn .mode) f)
+      ap (λ m. knownIn (long b) (taken b / 2 ^ level b) m (b .pass .kind) (waits next.Openings (b .turn .next)) through) (em ∙ full-is (a .turn .mode) f)
       ∙ full-some (long b) (taken b / 2 ^ level b) (b .pass .kind) (waits next.Openings (b .turn .next)) through
       ∙ ap (λ o. cond o (long b) 0) w
 
   full-none : (b : State) → b .turn .mode ≡ a .turn .mode → isFull (a .turn .mode) ≡ true → waits next.Openings (b .turn .next) ≡ true → known through b ≡ long b
   full-none b em f w =
-      ap (λ m. knownIn (long b) (taken b / 2 ^ level b) m (b .pass .kind) (waits next.Openings (b .turn .next)) through) (em ∙ is-full (a .turn .mode) f)
+      ap (λ m. knownIn (long b) (taken b / 2 ^ level b) m (b .pass .kind) (waits next.Openings (b .turn .next)) through) (em ∙ full-is (a .turn .mode) f)
       ∙ full-some (long b) (taken b / 2 ^ level b) (b .pass .kind) (waits next.Openings (b .turn .next)) through
       ∙ ap (λ o. cond o (long b) 0) w
 

@@ -39,7 +39,7 @@ pub record ReturnTurn (p : ℕ) (r : Run) (s : Pass) : Type 0 where
   pub full : r .mode ≡ Full
   pub next : TakesChange (r .start .rounds) (r .next)
 
-full-is : (m : Mode) → isFull m ≡ true → m ≡ Full
+pub full-is : (m : Mode) → isFull m ≡ true → m ≡ Full
 full-is Full e = refl
 full-is Small e = absurd (true≢false (sym e))
 

@@ -23,16 +23,12 @@ letterAt w i = at w (cond (ltb i (length w)) i (length w - 1))
 abbrev pub fullAt : List ℕ → ℕ → Bool
 fullAt w i = eqb (letterAt w i) 102
 
--- as the program holds them: a run has fifteen rounds at most
-abbrev pub lettersOf : List ℕ → List ℕ
-lettersOf w = overwrite (letterAt w) 17 (replicate 17 0)
+-- as the program holds them, a run having fifteen rounds at most: in full mode from step k on (`change K`), before it by the word
+abbrev pub letterFrom : List ℕ → ℕ → ℕ → ℕ
+letterFrom w k i = cond (leb k i) 102 (letterAt w i)
 
--- a change before step k
-abbrev pub letterFrom : ℕ → ℕ → ℕ
-letterFrom k i = cond (leb k i) 102 115
-
-abbrev pub changingAt : ℕ → List ℕ
-changingAt k = overwrite (letterFrom k) 17 (replicate 17 0)
+abbrev pub lettersOf : List ℕ → ℕ → List ℕ
+lettersOf w k = overwrite (letterFrom w k) 17 (replicate 17 0)
 
 -- `modes sf`
 example-word : isWord (115 ∷ 102 ∷ []) ≡ true

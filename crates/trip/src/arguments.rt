@@ -37,9 +37,14 @@ fn unknown() -> Plan {
     }
 }
 
+// In small mode up to this step, in full mode from it on.
+fn changing(step: u64) -> Plan {
+    known(modes::letters_of(b"s", step))
+}
+
 fn plan_of(count: usize, word: &[u8]) -> Plan {
     if count < 2 {
-        return known(modes::changing_at(NEVER));
+        return changing(NEVER);
     }
     if count == 2 {
         return read_full(word);
@@ -52,7 +57,7 @@ fn plan_of(count: usize, word: &[u8]) -> Plan {
 
 fn read_full(word: &[u8]) -> Plan {
     if same(word, b"full") {
-        return known(modes::changing_at(0));
+        return changing(0);
     }
     unknown()
 }
@@ -73,7 +78,7 @@ fn read_second(word: &[u8], second: &[u8]) -> Plan {
 
 fn read_modes(word: &[u8]) -> Plan {
     if modes::is_word(word) {
-        return known(modes::letters_of(word));
+        return known(modes::letters_of(word, NEVER));
     }
     unknown()
 }
@@ -83,7 +88,7 @@ fn read_change(word: &[u8], number: &[u8]) -> Plan {
         return unknown();
     }
     match decimal(number) {
-        Number::Is(step) => known(modes::changing_at(step)),
+        Number::Is(step) => changing(step),
         Number::Nothing => unknown(),
     }
 }

@@ -1,6 +1,6 @@
 // In which mode each step of a run is made, as a word of the letters s and f: one for each round, for the ends and for the openings.
 ghost use mathlib.Core.Path.{_≡_};
-ghost use Rattle.trip.specs.Modes.{isLetter, isWord, letterAt, lettersOf, letterFrom, changingAt, fullAt};
+ghost use Rattle.trip.specs.Modes.{isLetter, isWord, letterAt, fullAt, letterFrom, lettersOf};
 
 pub(crate) fn is_word(word: &[u8]) -> bool
     ensures { λ r. ⌜ r ≡ isWord (now (word .entry)) ⌝ }
@@ -27,17 +27,26 @@ fn is_letter(letter: u8) -> bool
     letter == b'f'
 }
 
-// The letters of the steps: a run has seventeen at most.
-pub(crate) fn letters_of(word: &[u8]) -> [u8; 17]
-    ensures { λ r. ⌜ r ≡ lettersOf (now (word .entry)) ⌝ }
+// The letters of the steps, of which a run has seventeen at most: f from a step on, before it by the word.
+pub(crate) fn letters_of(word: &[u8], from: u64) -> [u8; 17]
+    ensures { λ r. ⌜ r ≡ lettersOf (now (word .entry)) from ⌝ }
 {
     let mut letters = [0u8; 17];
     let mut i: usize = 0;
     while i < 17 {
-        letters[i] = letter_at(word, i);
+        letters[i] = letter_from(word, from, i);
         i += 1;
     }
     letters
+}
+
+fn letter_from(word: &[u8], from: u64, step: usize) -> u8
+    ensures { λ r. ⌜ r ≡ letterFrom (now (word .entry)) from step ⌝ }
+{
+    if from <= step as u64 {
+        return b'f';
+    }
+    letter_at(word, step)
 }
 
 // A step past the word has its last letter; none where there is no word.
@@ -51,28 +60,6 @@ fn letter_at(word: &[u8], step: usize) -> u8
         return 0;
     }
     word[word.len() - 1]
-}
-
-// Those of a change before a step.
-pub(crate) fn changing_at(step: u64) -> [u8; 17]
-    ensures { λ r. ⌜ r ≡ changingAt step ⌝ }
-{
-    let mut letters = [0u8; 17];
-    let mut i: usize = 0;
-    while i < 17 {
-        letters[i] = letter_from(step, i as u64);
-        i += 1;
-    }
-    letters
-}
-
-fn letter_from(step: u64, i: u64) -> u8
-    ensures { λ r. ⌜ r ≡ letterFrom step i ⌝ }
-{
-    if step <= i {
-        return b'f';
-    }
-    b's'
 }
 
 // Whether a step is made in full mode.

@@ -5,22 +5,22 @@ use lib.ListN.{length, replicate, set}
 use borrow.Author.Needs.{needs}
 use Rattle.vector.proofs.Overwrite.{overwrite-next, overwrite-length}
 use Rattle.vector.specs.Slice.{overwrite}
-use Rattle.trip.specs.Modes.{letterAt}
+use Rattle.trip.specs.Modes.{letterFrom}
 use Rattle.trip.proofs.modes.letters_of.Statement.{statement}
 use Rattle.trip.proofs.modes.letters_of.Tie as tie
 
 abbrev Inv-loop : tie.InvT-loop
-Inv-loop word letters₀ i₀ letters i = (i ≤ 17) × (letters ≡ overwrite (letterAt word) i (replicate 17 0)) × (17 ≡ length letters)
+Inv-loop word from letters₀ i₀ letters i = (i ≤ 17) × (letters ≡ overwrite (letterFrom word from) i (replicate 17 0)) × (17 ≡ length letters)
 
 abbrev μ-loop : tie.MeasureT-loop
-μ-loop word letters₀ i₀ letters i = 17 - i
+μ-loop word from letters₀ i₀ letters i = 17 - i
 
 loop-holds : tie.Need-loop-holds Inv-loop μ-loop
 unfolding overwrite
 loop-holds c = (omega arith, refl, refl)
 
-letter-at-requires : tie.Need-letter-at-requires Inv-loop μ-loop
-letter-at-requires c κs = search needs
+letter-from-requires : tie.Need-letter-from-requires Inv-loop μ-loop
+letter-from-requires c κs = search needs
 
 array-write-letters : tie.Need-array-write-letters Inv-loop μ-loop
 array-write-letters c = search needs
@@ -34,14 +34,14 @@ loop-less c = search needs
 loop-again : tie.Need-loop-again Inv-loop μ-loop
 loop-again c =
     let l = c .before .before .loop in
-    let k = c .before .before .before .before .args .word .now in
-    let next = ap (λ x. set (l .letters) (l .i) x) (c .letter-at .ensures) ∙ ap (λ xs. set xs (l .i) (letterAt k (l .i))) (l .inv .1) ∙ overwrite-next (letterAt k) (replicate 17 0) (l .i) in
-    (omega arith, next, sym (ap length next ∙ overwrite-length (letterAt k) (replicate 17 0) _))
+    let k = c .before .before .before .before .args in
+    let next = ap (λ x. set (l .letters) (l .i) x) (c .letter-from .ensures) ∙ ap (λ xs. set xs (l .i) (letterFrom (k .word .now) (k .from) (l .i))) (l .inv .1) ∙ overwrite-next (letterFrom (k .word .now) (k .from)) (replicate 17 0) (l .i) in
+    (omega arith, next, sym (ap length next ∙ overwrite-length (letterFrom (k .word .now) (k .from)) (replicate 17 0) _))
 
 returns : tie.Need-returns Inv-loop μ-loop
 returns c =
     let all : c .before .loop .i ≡ 17 = omega arith in
-    c .before .loop .inv .1 ∙ ap (λ m. overwrite (letterAt (c .before .before .before .args .word .now)) m (replicate 17 0)) all
+    c .before .loop .inv .1 ∙ ap (λ m. overwrite (letterFrom (c .before .before .before .args .word .now) (c .before .before .before .args .from)) m (replicate 17 0)) all
 
 pub letters-of-spec : {M : Type 1} → statement M
 letters-of-spec =
@@ -50,7 +50,7 @@ letters-of-spec =
     Inv-loop
     μ-loop
     loop-holds
-    letter-at-requires
+    letter-from-requires
     array-write-letters
     add-i
     loop-less
