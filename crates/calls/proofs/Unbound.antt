@@ -1,4 +1,4 @@
--- While the run works on other buffers nothing is asked of what a call is lent; a return frees them up to the next change.
+-- While the run works on no buffers nothing is asked of what a call is lent; a return frees them up to the next change.
 use mathlib.Core.Path.{_≡_, refl, sym, ap, ap₂, _∙_}
 use mathlib.Core.Bool.{Bool, true, false, cond, _&&_, _||_, true≢false}
 use mathlib.Core.List.{List, [], _∷_}
@@ -29,12 +29,16 @@ neither : (x y : Bool) → (x || y) ≡ false → (x ≡ false) × (y ≡ false)
 neither false y e = (refl, e)
 neither true y e = absurd (true≢false e)
 
+module _ (a : State) (idle : inUse a ≡ false) where
+  is-small : isFull (a .turn .mode) ≡ false
+  is-small = neither (isFull (a .turn .mode)) (isChange (a .pass .kind)) idle .0
+
+  no-change : isChange (a .pass .kind) ≡ false
+  no-change = neither (isFull (a .turn .mode)) (isChange (a .pass .kind)) idle .1
+
 module _ (p : ℕ) (through : Bool) (T : Trip) (a : State) (idle : inUse a ≡ false) where
   not-full : isFull (a .turn .mode) ≡ true → ⊥
-  not-full y = true≢false (sym y ∙ neither (isFull (a .turn .mode)) (isChange (a .pass .kind)) idle .0)
-
-  not-change : isChange (a .pass .kind) ≡ true → ⊥
-  not-change y = true≢false (sym y ∙ neither (isFull (a .turn .mode)) (isChange (a .pass .kind)) idle .1)
+  not-full y = true≢false (sym y ∙ is-small a idle)
 
   -- a call of full mode is not let through
   kept-too : (c : Call) (l m : Lent) → table p a c m ≡ none → KeptBy p T through a c l → KeptBy p T through a c m
@@ -43,7 +47,7 @@ module _ (p : ℕ) (through : Bool) (T : Trip) (a : State) (idle : inUse a ≡ f
   kept-too (call.OpenAt b) l m e h = tt
   kept-too call.ToFull l m e h = tt
   kept-too call.ToSmall l m e h = tt
-  kept-too (call.Give x) l m e h = (h .0, λ y. absurd (not-change (both (isChange (a .pass .kind)) _ y .0)))
+  kept-too (call.Give x) l m e h = (h .0, λ y. absurd (true≢false (sym (both (isChange (a .pass .kind)) _ y .0) ∙ no-change a idle)))
   kept-too call.Close l m e h = tt
   kept-too call.Message l m e h =
       absurd (not-full (both (isFull (a .turn .mode)) (waits next.Message (a .turn .next)) (row-passed (isFull (a .turn .mode) && waits next.Message (a .turn .next)) 10 _ e .0) .0))
@@ -57,7 +61,7 @@ module _ (p : ℕ) (through : Bool) (T : Trip) (a : State) (idle : inUse a ≡ f
   pub unbound-kept : (c : Call) (l m : Lent) → table p a c m ≡ none → Kept p T through a c l → Kept p T through a c m
   unbound-kept c l m e h = by-kept p T through a c m (kept-too c l m e (kept-by p T through a c l h))
 
--- FREED by a return, and free as long as other change is opened
+-- FREED by a return, and free as long as no change is opened
 closed-free : (a : State) (t : Next) (k : Kind) → isFull (a .turn .mode) ≡ false → isChange k ≡ false → a .pass .kind ≡ k → inUse (closed a t k) ≡ false
 closed-free a t Shut m k e = ap₂ _||_ m (ap isChange e)
 closed-free a next.Total Asked m k e = ap (λ b. b || false) m
@@ -67,19 +71,21 @@ closed-free a next.Ends Asked m k e = ap (λ b. b || false) m
 closed-free a next.Openings Asked m k e = ap (λ b. b || false) m
 closed-free a t Change m k e = absurd (true≢false k)
 
+-- another pass than a change's, in the same mode
+same-mode : (a : State) → inUse a ≡ false → (isFull (a .turn .mode) || false) ≡ false
+same-mode a h = ap (λ b. b || false) (is-small a h)
+
 goes-free : (a : State) (c : Call) (l : Lent) → (c ≡ call.ToFull → ⊥) → inUse a ≡ false → inUse (goesOn a c l) ≡ false
-goes-free a call.OpenPass l other h = ap (λ b. b || false) (neither (isFull (a .turn .mode)) (isChange (a .pass .kind)) h .0)
-goes-free a (call.OpenAt b) l other h = ap (λ b. b || false) (neither (isFull (a .turn .mode)) (isChange (a .pass .kind)) h .0)
+goes-free a call.OpenPass l other h = same-mode a h
+goes-free a (call.OpenAt b) l other h = same-mode a h
 goes-free a call.ToFull l other h = absurd (other refl)
 goes-free a call.ToSmall l other h = refl
 goes-free a (call.Give x) l other h = buffers-same inUse (λ a l. refl) (isChange (a .pass .kind)) _ l ∙ h
-goes-free a call.Close l other h =
-    let q = neither (isFull (a .turn .mode)) (isChange (a .pass .kind)) h in
-    closed-free a (a .turn .next) (a .pass .kind) (q .0) (q .1) refl
-goes-free a call.Message l other h = ap (λ b. b || false) (neither (isFull (a .turn .mode)) (isChange (a .pass .kind)) h .0)
+goes-free a call.Close l other h = closed-free a (a .turn .next) (a .pass .kind) (is-small a h) (no-change a h) refl
+goes-free a call.Message l other h = same-mode a h
 goes-free a (call.Challenge c) l other h =
-    buffers-same inUse (λ a l. refl) (isFull (a .turn .mode)) (takesChallenge a c) l ∙ ap (λ b. b || false) (neither (isFull (a .turn .mode)) (isChange (a .pass .kind)) h .0)
-goes-free a call.Ends l other h = ap (λ b. b || false) (neither (isFull (a .turn .mode)) (isChange (a .pass .kind)) h .0)
+    buffers-same inUse (λ a l. refl) (isFull (a .turn .mode)) (takesChallenge a c) l ∙ same-mode a h
+goes-free a call.Ends l other h = same-mode a h
 goes-free a (call.Opening b) l other h = h
 goes-free a call.WriteProof l other h = h
 

@@ -20,7 +20,7 @@ held v i h =
     ap (λ b. at xs (cond b i (length xs - 1))) (lt-ltb i (length xs) (omega (arith, long)))
     ∙ overwrite-written v (replicate 17 0) 17 i (omega arith) h
 
--- of a word, where no step is past it
+-- of a word, before step k
 pub letters-full : (w : List ℕ) (k i : ℕ) → i < 17 → i < k → fullAt (lettersOf w k) i ≡ fullAt w i
 letters-full w k i h before = ap (λ x. eqb x 102) (held (letterFrom w k) i h ∙ ap (λ b. cond b 102 (letterAt w i)) (lt-leb k i before))
 
