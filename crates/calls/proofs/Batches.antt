@@ -16,6 +16,7 @@ use Rattle.vector.specs.Opening.{evaluate, openingOf}
 use Rattle.vector.proofs.Horner.{evaluate-same}
 use Rattle.item.specs.declared.Given.the-variants.{Reading}
 use Rattle.item.specs.Item.{contributes, readingNumber}
+use Rattle.wire.specs.Header.{versionOf}
 use Rattle.wire.specs.Log.{Head, logCount, readingOf, weightOf, readLog}
 use Rattle.wire.proofs.LogSays.{GoodLog, items-found}
 use Rattle.runs.specs.Trip.{Trip, vectorF}
@@ -87,8 +88,8 @@ module _ (p z : ℕ) (log : List ℕ) (rest : List (List ℕ)) (head : Head) (go
   unfolding mostItems
   one-most = let e : max 0 (logCount log) ≡ logCount log = omega arith in e
 
-  reading-at : (i : ℕ) → i < logCount log → readingsOf p log i ≡ readingNumber p (readingOf log i)
-  reading-at i less = ap (numberOf p) (items-found log head counted i less)
+  reading-at : (i : ℕ) → i < logCount log → readingsOf p log i ≡ readingNumber p (versionOf log) (readingOf log i)
+  reading-at i less = ap (numberOf p (versionOf log)) (items-found log head counted i less)
 
   one-vector : vectorF p (logTrip log) ≡ padded (logCount log) (readingsOf p log)
   one-vector =

@@ -14,7 +14,8 @@ use Rattle.refusal.specs.Outcome.{Outcome, answered, require, requireAt, requir
 use Rattle.item.specs.declared.Start.{Start}
 use Rattle.item.specs.declared.Given.{Given}
 use Rattle.item.specs.declared.Given.the-variants.{Reading, Numbers}
-use Rattle.item.specs.Version.{itemSize, inRange}
+use Rattle.item.specs.Version.{itemSize}
+use Rattle.item.specs.Mark.{readingFits}
 use Rattle.item.specs.Item.{contributes, partsOf}
 use Rattle.block.specs.Block.{Block, count, itemAt, isWhole, tornNumber}
 use Rattle.block.specs.Checks.{isOfKind, passing, blockChecks}
@@ -55,7 +56,7 @@ module _ (p : ℕ) (s : Start) where
   given-row : (x : Given) (i : ℕ) (later : Outcome ℕ) (rest : ℕ → Outcome Out) (t : Option Refusal) (o : Outcome Out) → andThen later rest ≡ decided t o
       → andThen (passing (partsOf p s i x) later) rest ≡ decided (givenRows p s i x t) o
   unfolding partsOf
-  given-row (Reading z w) i later rest t o e = by (s .plain) (leb w maxWeight) (inRange (s .version) z)
+  given-row (Reading z w) i later rest t o e = by (s .plain) (leb w maxWeight) (readingFits (s .version) z)
     where
       by : (plain fits ranged : Bool)
           → andThen (passing (require plain 10 (requireAt fits 5 i (requireAt ranged 18 i (answered (contributes p s (Reading z w)))))) later) rest
@@ -73,7 +74,7 @@ module _ (p : ℕ) (s : Start) where
       by true true = e
 
   pub given-passes : (x : Given) (i : ℕ) (t : Option Refusal) → givenRows p s i x t ≡ none → Passes p s x × (t ≡ none)
-  given-passes (Reading z w) i t = by (s .plain) (leb w maxWeight) (inRange (s .version) z)
+  given-passes (Reading z w) i t = by (s .plain) (leb w maxWeight) (readingFits (s .version) z)
     where
       by : (plain fits ranged : Bool) → row plain 10 (rowAt fits 5 i (rowAt ranged 18 i t)) ≡ none
           → ((i : ℕ) (t : Option Refusal) → row plain 10 (rowAt fits 5 i (rowAt ranged 18 i t)) ≡ t) × (t ≡ none)

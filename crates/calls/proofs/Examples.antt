@@ -33,6 +33,7 @@ use Rattle.pass.specs.Formed.{passFormed, turnFormed}
 use Rattle.prover.specs.WellFormed.{wellFormed}
 use Rattle.prover.specs.Written.{writeCall}
 use Rattle.item.specs.Version.{inRange}
+use Rattle.item.specs.Mark.{isMark}
 use Rattle.item.specs.Item.{partsOf}
 use Rattle.runs.specs.Trip.{sumOf}
 use Rattle.calls.specs.Lists.{each}
@@ -48,7 +49,7 @@ use Rattle.calls.proofs.ExampleKept.{allTrue, all-kept}
 
 module _ (f g : List ℕ) where
   pub small-run : TripList smallCalls (freshWorld tripStart f g)
-  unfolding each allTrue lastOf callsOf answersOf refusalsOf table sumOf step messageCall giveCall itemChecks openCall openAtCall closeCall challengeCall toFullCall writeCall wellFormed turnFormed passFormed powers firstFrom inLimits sizeIn32 partsOf takes takesIn entersIn summedItem enteredIn plus image residue negMod addMod mulMod valuesOf tripleValues bytes bits allBelow numbers proofHeader writeProof writtenIn hornerAt arrived topAt climbFrom evaluatedFrom climbed evaluated meetsAt summed settled sumsAfter stacksFit entered streamed paddingFrom paddingBelow left placed placedAll placedIn inRange
+  unfolding each allTrue lastOf callsOf answersOf refusalsOf table sumOf step messageCall giveCall itemChecks openCall openAtCall closeCall challengeCall toFullCall writeCall wellFormed turnFormed passFormed powers firstFrom inLimits sizeIn32 partsOf takes takesIn entersIn summedItem enteredIn plus image residue negMod addMod mulMod valuesOf tripleValues bytes bits allBelow numbers proofHeader writeProof writtenIn hornerAt arrived topAt climbFrom evaluatedFrom climbed evaluated meetsAt summed settled sumsAfter stacksFit entered streamed paddingFrom paddingBelow left placed placedAll placedIn inRange isMark
   small-run =
       record {
         kept = all-kept P true trip (freshWorld tripStart f g) (callsOf smallCalls) refl;
@@ -58,7 +59,7 @@ module _ (f g : List ℕ) where
       }
 
   pub full-run : TripList fullCalls (freshWorld tripStart f g)
-  unfolding each allTrue lastOf callsOf answersOf refusalsOf every table sumOf step messageGiven messageCall endsCall giveCall itemChecks openCall closeCall challengedFull challengeCall cleared toFullCall openingGiven openingCall writeCall wellFormed turnFormed passFormed powers firstFrom inLimits sizeIn32 partsOf takes takesIn entersIn summedItem enteredIn plus image residue negMod addMod mulMod sum foldWith overwrite foldSlice messageSlice tripleValues bytes bits allBelow numbers proofHeader writeProof writtenIn hornerAt arrived topAt climbFrom evaluatedFrom climbed evaluated meetsAt summed settled sumsAfter stacksFit entered streamed paddingFrom paddingBelow left placed placedAll placedIn inRange
+  unfolding each allTrue lastOf callsOf answersOf refusalsOf every table sumOf step messageGiven messageCall endsCall giveCall itemChecks openCall closeCall challengedFull challengeCall cleared toFullCall openingGiven openingCall writeCall wellFormed turnFormed passFormed powers firstFrom inLimits sizeIn32 partsOf takes takesIn entersIn summedItem enteredIn plus image residue negMod addMod mulMod sum foldWith overwrite foldSlice messageSlice tripleValues bytes bits allBelow numbers proofHeader writeProof writtenIn hornerAt arrived topAt climbFrom evaluatedFrom climbed evaluated meetsAt summed settled sumsAfter stacksFit entered streamed paddingFrom paddingBelow left placed placedAll placedIn inRange isMark
   full-run =
       record {
         kept = all-kept P true trip (freshWorld tripStart f g) (callsOf fullCalls) refl;
@@ -68,7 +69,7 @@ module _ (f g : List ℕ) where
       }
 
   pub changing-run : TripList changing (freshWorld tripStart f g)
-  unfolding each allTrue lastOf callsOf answersOf refusalsOf every table sumOf step messageGiven messageCall endsCall giveCall itemChecks openCall openAtCall closeCall challengedFull challengeCall cleared toFullCall openingGiven openingCall writeCall wellFormed turnFormed passFormed powers firstFrom inLimits sizeIn32 partsOf takes takesIn entersIn summedItem enteredIn plus image residue negMod addMod mulMod sum foldWith overwrite foldSlice messageSlice tripleValues bytes bits allBelow numbers proofHeader writeProof writtenIn hornerAt arrived topAt climbFrom evaluatedFrom climbed evaluated meetsAt summed settled sumsAfter stacksFit entered streamed paddingFrom paddingBelow left placed placedAll placedIn inRange
+  unfolding each allTrue lastOf callsOf answersOf refusalsOf every table sumOf step messageGiven messageCall endsCall giveCall itemChecks openCall openAtCall closeCall challengedFull challengeCall cleared toFullCall openingGiven openingCall writeCall wellFormed turnFormed passFormed powers firstFrom inLimits sizeIn32 partsOf takes takesIn entersIn summedItem enteredIn plus image residue negMod addMod mulMod sum foldWith overwrite foldSlice messageSlice tripleValues bytes bits allBelow numbers proofHeader writeProof writtenIn hornerAt arrived topAt climbFrom evaluatedFrom climbed evaluated meetsAt summed settled sumsAfter stacksFit entered streamed paddingFrom paddingBelow left placed placedAll placedIn inRange isMark
   changing-run =
       record {
         kept = all-kept P true trip (freshWorld tripStart f g) (callsOf changing) refl;
@@ -78,7 +79,7 @@ module _ (f g : List ℕ) where
       }
 
   pub returning-run : TripList returning (freshWorld tripStart f g)
-  unfolding each allTrue lastOf callsOf answersOf refusalsOf every table sumOf step messageGiven messageCall endsCall giveCall itemChecks openCall openAtCall closeCall challengedFull challengeCall cleared toFullCall toSmallCall openingGiven openingCall writeCall wellFormed turnFormed passFormed powers firstFrom inLimits sizeIn32 partsOf takes takesIn entersIn summedItem enteredIn plus image residue negMod addMod mulMod sum foldWith overwrite foldSlice messageSlice valuesOf tripleValues bytes bits allBelow numbers proofHeader writeProof writtenIn hornerAt arrived topAt climbFrom evaluatedFrom climbed evaluated meetsAt summed settled sumsAfter stacksFit entered streamed paddingFrom paddingBelow left placed placedAll placedIn inRange
+  unfolding each allTrue lastOf callsOf answersOf refusalsOf every table sumOf step messageGiven messageCall endsCall giveCall itemChecks openCall openAtCall closeCall challengedFull challengeCall cleared toFullCall toSmallCall openingGiven openingCall writeCall wellFormed turnFormed passFormed powers firstFrom inLimits sizeIn32 partsOf takes takesIn entersIn summedItem enteredIn plus image residue negMod addMod mulMod sum foldWith overwrite foldSlice messageSlice valuesOf tripleValues bytes bits allBelow numbers proofHeader writeProof writtenIn hornerAt arrived topAt climbFrom evaluatedFrom climbed evaluated meetsAt summed settled sumsAfter stacksFit entered streamed paddingFrom paddingBelow left placed placedAll placedIn inRange isMark
   returning-run =
       record {
         kept = all-kept P true trip (freshWorld tripStart f g) (callsOf returning) refl;

@@ -66,7 +66,7 @@ pub record PassFits (p : ℕ) (s : Start) (m : Mode) (t : Next) (k : Kind) (xs :
   pub kind : kindFits k m t ≡ true
   pub idle : k ≡ Shut → xs ≡ []
   pub count : length xs ≤ s .items
-  pub within : AllWithin xs
+  pub within : AllWithin s xs
   pub fine : (q : ℕ) → Fine p s (getD xs q (Numbers 0 0))
 
 pub record Fits (p : ℕ) (a : State) (past : Notes) : Type 0 where
@@ -130,7 +130,7 @@ module _ (p : ℕ) (a : State) {past : Notes} (h : Fits p a past) where
   pub taken-is : passOf p a past .taken ≡ length (a .pass .items)
   taken-is = after-taken p (runOf a past) (a .pass .kind) (a .pass .point) (a .pass .items)
 
-  pub sum-is : waits next.Total (a .turn .next) ≡ true → passOf p a past .total ≡ sumOf (a .pass .items)
+  pub sum-is : waits next.Total (a .turn .next) ≡ true → passOf p a past .total ≡ sumOf (a .start) (a .pass .items)
   sum-is e = after-total p (runOf a past) (a .pass .kind) (a .pass .point) e (a .pass .items) (h .pass .within) (omega (arith, h .pass .count, h .run .most))
 
   pub messages-below : 0 < p → allBelow p (λ k. getD (runOf a past .messages) k 0) (3 * a .start .rounds) ≡ true

@@ -61,6 +61,7 @@ use Rattle.calls.proofs.Arrays.{array-next}
 use Rattle.calls.proofs.Guards.{challengeDoes}
 use Rattle.calls.proofs.Steps.{row-passed, keepingStep, closeStep, does}
 use Rattle.calls.proofs.Turns.{both, pass-kind, openings-kind, change-kind, full-shut, challenge-shut}
+use Rattle.item.specs.Mark.{countsAs}
 use Rattle.calls.proofs.ItemRows.{Limits, item-admitted}
 use Rattle.calls.proofs.Fits.{Fine, givenAt, RunFits, PassFits, Fits, few, run-formed, kind-is}
 use Rattle.calls.proofs.Numbers.{own-message, own-ends, slice-below}
@@ -116,7 +117,7 @@ module _ (p : ℕ) (large : maxWeight < p) where
 
   -- AN ITEM IS TAKEN
   one-more : (s : Start) (m : Mode) (t : Next) (k : Kind) (xs : List Given) (x : Given) → PassFits p s m t k xs → isOpen k ≡ true → length xs < s .items
-      → Within x → Fine p s x → PassFits p s m t k (x ∷ xs)
+      → Within s x → Fine p s x → PassFits p s m t k (x ∷ xs)
   unfolding AllWithin
   one-more s m t k xs x h o l w f =
       record { kind = h .kind; idle = λ e. absurd (true≢false (sym o ∙ ap isOpen e)); count = omega arith; within = (w, h .within); fine = fines }
@@ -130,7 +131,7 @@ module _ (p : ℕ) (large : maxWeight < p) where
   with-or-without true a l o h = record { run = h .run; pass = h .pass; fits = record { run = h .fits .run; pass = h .fits .pass } }
   with-or-without false a l o h = h
 
-  take-follows : (a : State) {past : Notes} → Fits p a past → (x : Given) (l m : Lent) → isOpen (a .pass .kind) ≡ true → length (a .pass .items) < a .start .items → Within x → Fine p (a .start) x
+  take-follows : (a : State) {past : Notes} → Fits p a past → (x : Given) (l m : Lent) → isOpen (a .pass .kind) ≡ true → length (a .pass .items) < a .start .items → Within (a .start) x → Fine p (a .start) x
       → (o : Result) → o .run ≡ runOf a past → o .pass ≡ takes p (runOf a past) (passOf p a past) (contributes p (a .start) x) (l .f) (l .g) .pass
       → Follows p (buffersIn (isChange (a .pass .kind)) (inPass a (a .pass .kind) (a .pass .point) (x ∷ a .pass .items)) m) past o
   take-follows a {past} h x l m op less w f o er ep =
@@ -142,12 +143,12 @@ module _ (p : ℕ) (large : maxWeight < p) where
       })
 
   -- an item within its limits
-  within : (x : Given) → Limits p x → Within x
-  within (Reading z w) h = h
-  within (Numbers a b) h = tt
+  within : (s : Start) (x : Given) → Limits p s x → Within s x
+  within s (Reading z w) h = h
+  within s (Numbers a b) h = tt
 
-  fine : (s : Start) (x : Given) → Limits p x → Fine p s x
-  fine s (Reading z w) h = (omega (arith, image-lt p z, base-of p positive), omega (arith, h .1))
+  fine : (s : Start) (x : Given) → Limits p s x → Fine p s x
+  fine s (Reading z w) h = (omega (arith, image-lt p (countsAs (s .version) z), base-of p positive), omega (arith, h .1))
   fine s (Numbers a b) h = h
 
   pub item-follows : (a : State) {past : Notes} → Fits p a past → (x : Given) (l : Lent)
@@ -155,7 +156,7 @@ module _ (p : ℕ) (large : maxWeight < p) where
       → (let o : Result = does p (runOf a past) (passOf p a past) (call.Give x) l in Follows p (goesOn a (call.Give x) (o .lent)) past o)
   item-follows a {past} h x l e =
       let q = item-admitted p a l x e in
-      take-follows a h x l (does p (runOf a past) (passOf p a past) (call.Give x) l .lent) (q .opened) (q .more) (within x (q .limits)) (fine (a .start) x (q .limits))
+      take-follows a h x l (does p (runOf a past) (passOf p a past) (call.Give x) l .lent) (q .opened) (q .more) (within (a .start) x (q .limits)) (fine (a .start) x (q .limits))
       (does p (runOf a past) (passOf p a past) (call.Give x) l) (takes-run p (runOf a past) (passOf p a past) (contributes p (a .start) x) (l .f) (l .g)) refl
 
   -- WHAT IS NEXT after the total and after a challenge

@@ -40,7 +40,7 @@ use Rattle.prover.specs.Challenge.{challengedSmall, challengedFull, challenged,
 use Rattle.prover.specs.Opening.{openingGiven, openingCall}
 use Rattle.pass.proofs.Facts.{size-32}
 use Rattle.item.specs.declared.Given.the-variants.{Reading, Numbers}
-use Rattle.item.specs.Version.{inRange}
+use Rattle.item.specs.Mark.{readingFits}
 use Rattle.item.specs.Item.{contributes, partsOf}
 use Rattle.runs.specs.Trip.{sumOf}
 use Rattle.calls.specs.Step.{Lent}
@@ -202,7 +202,7 @@ module _ (p : ℕ) (a : State) (past : Notes) (few : a .start .rounds ≤ 15) wh
           → andThen (partsOf p (a .start) (a .start .items - 1 - s .taken) x) (itemPlaces p R s (l .f) (l .g))
           ≡ decided (givenRows p (a .start) (a .start .items - 1 - length (a .pass .items)) x (placeRow a l)) (answered (takes p R s (contributes p (a .start) x) (l .f) (l .g)))
       unfolding partsOf
-      own-rows (Reading z w) l = by (a .start .plain) (leb w maxWeight) (inRange (a .start .version) z)
+      own-rows (Reading z w) l = by (a .start .plain) (leb w maxWeight) (readingFits (a .start .version) z)
         where
           at : ℕ → ℕ
           at n = a .start .items - 1 - n
@@ -228,18 +228,18 @@ module _ (p : ℕ) (a : State) (past : Notes) (few : a .start .rounds ≤ 15) wh
       unfolding table
       item-decided x l = give-rows p R s x (l .f) (l .g) ∙ like-row _ _ 10 _ _ _ open-test (like-row _ _ 8 _ _ _ wanted-test (own-rows x l))
 
-      total-test : (waits next.Total (a .turn .next) ≡ true → s .total ≡ sumOf (a .pass .items)) → close.totalFits p R s ≡ totalFits p a
+      total-test : (waits next.Total (a .turn .next) ≡ true → s .total ≡ sumOf (a .start) (a .pass .items)) → close.totalFits p R s ≡ totalFits p a
       total-test sums = by (waits next.Total (a .turn .next)) refl refl
         where
           by : (first : Bool) → waits next.Total (a .turn .next) ≡ first → first ≡ waits next.Total (a .turn .next)
               → cond first (cond (a .start .plain) (inLimits p (s .total)) true) true ≡ totalFits p a
           by true e w =
               ap (λ z. cond (a .start .plain) (inLimits p z) true) (sums e)
-              ∙ fits-test true (a .start .plain) (inLimits p (sumOf (a .pass .items)))
-              ∙ ap (λ first. not (first && a .start .plain) || inLimits p (sumOf (a .pass .items))) w
-          by false e w = ap (λ first. not (first && a .start .plain) || inLimits p (sumOf (a .pass .items))) w
+              ∙ fits-test true (a .start .plain) (inLimits p (sumOf (a .start) (a .pass .items)))
+              ∙ ap (λ first. not (first && a .start .plain) || inLimits p (sumOf (a .start) (a .pass .items))) w
+          by false e w = ap (λ first. not (first && a .start .plain) || inLimits p (sumOf (a .start) (a .pass .items))) w
 
-      pub close-decided : (waits next.Total (a .turn .next) ≡ true → s .total ≡ sumOf (a .pass .items)) → (l : Lent)
+      pub close-decided : (waits next.Total (a .turn .next) ≡ true → s .total ≡ sumOf (a .start) (a .pass .items)) → (l : Lent)
           → closeCall p R s ≡ decided (table p a call.Close l) (closing R s (s .kind))
       unfolding closeCall table
       close-decided sums l =

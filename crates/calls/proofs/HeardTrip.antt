@@ -26,6 +26,7 @@ use Rattle.vector.proofs.EndValues.{weighted, end-padded}
 use Rattle.item.specs.declared.Start.{Start}
 use Rattle.item.specs.declared.Given.{Given}
 use Rattle.item.specs.declared.Given.the-variants.{Reading, Numbers}
+use Rattle.item.specs.Mark.{countsAs}
 use Rattle.item.specs.Item.{contributes}
 use Rattle.runs.specs.Trip.{Trip, tripItem, entersAs, vectorF, vectorG, worth, sumOf, totalOf}
 
@@ -54,7 +55,7 @@ module _ (p : ℕ) (large : maxWeight < p) (s : Start) where
   fine-f : (kind : Bool) (k : ℕ) (x : Given) → Fine p kind x
       → residue p (cond kind (contributes p s x .f) (mulMod p (contributes p s x .f) k)) ≡ cond kind (contributes p s x .f) (mulMod p (contributes p s x .f) k)
   unfolding mulMod
-  fine-f true k (Reading z w) h = image-residue p z
+  fine-f true k (Reading z w) h = image-residue p (countsAs (s .version) z)
   fine-f true k (Numbers x y) h = absurd h
   fine-f false k x h = residue-twice p (contributes p s x .f * k)
 
@@ -65,19 +66,20 @@ module _ (p : ℕ) (large : maxWeight < p) (s : Start) where
   fine-g false (Numbers x y) h = let less = h .1 in residue-small p y (omega arith)
 
   -- one item more
-  worth-more : (x : Given) → Fine p true x → (t : ℤ) → image p (t +ℤ worth x) ≡ addMod p (image p t) (mulMod p (contributes p s x .f) (contributes p s x .g))
+  worth-more : (x : Given) → Fine p true x → (t : ℤ) → image p (t +ℤ worth s x) ≡ addMod p (image p t) (mulMod p (contributes p s x .f) (contributes p s x .g))
   worth-more (Reading z w) h t =
-      ap (image p) (+ℤ-comm t (z *ℤ pos w)) ∙ image-step p z w t ∙ add-commutes p (mulMod p (image p z) w) (image p t)
+      let r = countsAs (s .version) z in
+      ap (image p) (+ℤ-comm t (r *ℤ pos w)) ∙ image-step p r w t ∙ add-commutes p (mulMod p (image p r) w) (image p t)
   worth-more (Numbers x y) h t = absurd h
 
   abbrev product : List Given → Vector
   product xs i = contributes p s (getD xs i (Numbers 0 0)) .f * contributes p s (getD xs i (Numbers 0 0)) .g
 
-  sum-image : (xs : List Given) → ((i : ℕ) → i < length xs → Fine p true (getD xs i (Numbers 0 0))) → image p (sumOf xs) ≡ residue p (sum (length xs) (product xs))
+  sum-image : (xs : List Given) → ((i : ℕ) → i < length xs → Fine p true (getD xs i (Numbers 0 0))) → image p (sumOf s xs) ≡ residue p (sum (length xs) (product xs))
   unfolding sumOf sum image
   sum-image [] h = refl
   sum-image (x ∷ xs) h =
-      worth-more x (h 0 (omega arith)) (sumOf xs)
+      worth-more x (h 0 (omega arith)) (sumOf s xs)
       ∙ ap (λ t. addMod p t (mulMod p (contributes p s x .f) (contributes p s x .g))) (sum-image xs (λ i l. h (suc i) (omega arith)))
       ∙ running-product p (sum (length xs) (product xs)) (contributes p s x .f) (contributes p s x .g)
       ∙ ap (residue p) (add-comm (sum (length xs) (product xs)) (product (x ∷ xs) 0) ∙ sym (sum-first (length xs) (product (x ∷ xs))))

@@ -43,6 +43,7 @@ use Rattle.verifier.specs.Claims.{closedWith, passedWith, failedNow, hears, fin
 use Rattle.verifier.specs.Calls.{passOpen, give, close, verdictTurn, verdict}
 use Rattle.verifier.specs.ProofFile.{hearsNext, hearsFirst, endsAgree, compares, afterFile, proof}
 use Rattle.item.specs.Version.{inRange}
+use Rattle.item.specs.Mark.{isMark}
 use Rattle.item.specs.declared.Given.the-variants.{Reading}
 use Rattle.item.specs.Item.{partsOf}
 use Rattle.runs.specs.Trip.{Trip, tripItem, sumOf}
@@ -82,7 +83,7 @@ unfolding powers firstFrom
 single-whole = record { start = record { version = refl; least = omega arith; most = omega arith; rounds = refl }; items = refl }
 
 single-valid : Valid P single
-unfolding powers firstFrom inLimits sumOf inRange
+unfolding powers firstFrom inLimits sumOf inRange isMark
 single-valid = record { whole = single-whole; items = fits; total = λ e. refl }
   where
     fits : (i : ℕ) → i < 1 → ItemFits P (single .start) (tripItem single i)
@@ -120,7 +121,7 @@ pub single-replies :
     ∷ says reply.taken
     ∷ says (reply.ends 2147465647 10)
     ∷ []
-unfolding each itemsBelow roundsFrom openingsFrom step endsCall giveCall itemChecks openCall closeCall cleared toFullCall wellFormed turnFormed passFormed powers firstFrom inLimits sizeIn32 partsOf takes takesIn entersIn summedItem enteredIn plus image residue negMod addMod mulMod sum foldWith overwrite every hornerAt arrived topAt climbFrom evaluatedFrom climbed evaluated meetsAt summed settled sumsAfter stacksFit entered streamed paddingFrom paddingBelow left placed placedAll placedIn inRange
+unfolding each itemsBelow roundsFrom openingsFrom step endsCall giveCall itemChecks openCall closeCall cleared toFullCall wellFormed turnFormed passFormed powers firstFrom inLimits sizeIn32 partsOf takes takesIn entersIn summedItem enteredIn plus image residue negMod addMod mulMod sum foldWith overwrite every hornerAt arrived topAt climbFrom evaluatedFrom climbed evaluated meetsAt summed settled sumsAfter stacksFit entered streamed paddingFrom paddingBelow left placed placedAll placedIn inRange isMark
 single-replies = refl
 
 -- and with a change before the ends
@@ -134,7 +135,7 @@ pub single-changed :
     ∷ says reply.changed
     ∷ says (reply.ends 2147465647 10)
     ∷ []
-unfolding each itemsBelow roundsFrom openingsFrom step endsCall giveCall itemChecks openCall closeCall cleared toFullCall wellFormed turnFormed passFormed powers firstFrom inLimits sizeIn32 partsOf takes takesIn entersIn summedItem enteredIn plus image residue negMod addMod mulMod sum foldWith overwrite every hornerAt arrived topAt climbFrom evaluatedFrom climbed evaluated meetsAt summed settled sumsAfter stacksFit entered streamed paddingFrom paddingBelow left placed placedAll placedIn inRange
+unfolding each itemsBelow roundsFrom openingsFrom step endsCall giveCall itemChecks openCall closeCall cleared toFullCall wellFormed turnFormed passFormed powers firstFrom inLimits sizeIn32 partsOf takes takesIn entersIn summedItem enteredIn plus image residue negMod addMod mulMod sum foldWith overwrite every hornerAt arrived topAt climbFrom evaluatedFrom climbed evaluated meetsAt summed settled sumsAfter stacksFit entered streamed paddingFrom paddingBelow left placed placedAll placedIn inRange isMark
 single-changed = refl
 
 -- its verifier's own list: the item, the close and the verdict; or the item and the file of 18 bytes
@@ -149,21 +150,21 @@ singleByFile =
     plainly (query.Give (Reading (negsuc 17999) 10)) ∷ (record { query = query.Proof; shown = record { file = singleFile; values = []; logs = [] } }) ∷ []
 
 pub single-list : wholeByMessages P single [] (2 ∷ []) ≡ singleList
-unfolding messagesFrom sumOf
+unfolding messagesFrom sumOf isMark
 single-list = refl
 
 pub single-file-list : wholeByFile P single [] (2 ∷ []) ≡ singleByFile
-unfolding messagesTo sumOf foldWith image residue negMod bytes bits fileNumbers proofHeader
+unfolding messagesTo sumOf isMark foldWith image residue negMod bytes bits fileNumbers proofHeader
 single-file-list = refl
 
 pub single-told :
     toldAll (freshHearing (single .start) []) singleList
     ≡ answered (said.replies heard.taken) ∷ answered (said.replies heard.closed) ∷ answered (said.finds yes) ∷ []
-unfolding each ask give passOpen verifierFormed turnOf partsOf oneMore verifierEntering freshVerifier fifteen overwrite powers firstFrom weight image residue addMod negMod mulMod close closedWith inLimits hears passedWith failedNow verdict verdictTurn finds inRange
+unfolding each ask give passOpen verifierFormed turnOf partsOf oneMore verifierEntering freshVerifier fifteen overwrite powers firstFrom weight image residue addMod negMod mulMod close closedWith inLimits hears passedWith failedNow verdict verdictTurn finds inRange isMark
 single-told = refl
 
 pub single-file-told : toldAll (freshHearing (single .start) []) singleByFile ≡ answered (said.replies heard.taken) ∷ answered (said.finds yes) ∷ []
-unfolding each ask give passOpen verifierFormed turnOf partsOf oneMore verifierEntering freshVerifier fifteen overwrite powers firstFrom weight image residue addMod negMod mulMod closedWith inLimits hears passedWith failedNow finds proof readProofOf readProof marked allBelow numAt num bytes signed bits proofHeader fileNumbers hearsNext hearsFirst endsAgree compares afterFile inRange
+unfolding each ask give passOpen verifierFormed turnOf partsOf oneMore verifierEntering freshVerifier fifteen overwrite powers firstFrom weight image residue addMod negMod mulMod closedWith inLimits hears passedWith failedNow finds proof readProofOf readProof marked allBelow numAt num bytes signed bits proofHeader fileNumbers hearsNext hearsFirst endsAgree compares afterFile inRange isMark
 single-file-told = refl
 
 -- what demand 3 says of them, whatever the mode

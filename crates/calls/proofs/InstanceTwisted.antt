@@ -43,6 +43,7 @@ use Rattle.verifier.specs.Claims.{closedWith, passedWith, failedNow, hears, fin
 use Rattle.verifier.specs.Openings.{firstFault, openingFinds}
 use Rattle.verifier.specs.Calls.{passOpen, give, closeClaim, messageTurn, allReduced3, message, verdictTurn, verdict, hasRounds, checkOpening}
 use Rattle.item.specs.Version.{inRange}
+use Rattle.item.specs.Mark.{isMark}
 use Rattle.item.specs.declared.Given.the-variants.{Numbers}
 use Rattle.item.specs.Item.{partsOf}
 use Rattle.runs.specs.Trip.{Trip, tripItem}
@@ -144,7 +145,7 @@ pub twisted-replies :
     ++ (says reply.changed ∷ says (reply.ends 231 45) ∷ says reply.changed ∷ [])
     ++ items3
     ++ ((record { answer = answered reply.opening; values = inNinety 2 twistedOpening }) ∷ [])
-unfolding each itemsBelow roundsFrom openingsFrom step messageGiven messageCall endsCall giveCall itemChecks openCall openAtCall closeCall challengedFull challengeCall cleared toFullCall toSmallCall openingGiven openingCall wellFormed turnFormed passFormed powers firstFrom inLimits sizeIn32 partsOf takes takesIn entersIn weight summedItem enteredIn plus image residue negMod addMod mulMod sum foldWith overwrite foldSlice messageSlice valuesOf tripleValues every hornerAt arrived topAt climbFrom evaluatedFrom climbed evaluated meetsAt summed settled sumsAfter stacksFit entered streamed paddingFrom paddingBelow left placed placedAll placedIn inRange
+unfolding each itemsBelow roundsFrom openingsFrom step messageGiven messageCall endsCall giveCall itemChecks openCall openAtCall closeCall challengedFull challengeCall cleared toFullCall toSmallCall openingGiven openingCall wellFormed turnFormed passFormed powers firstFrom inLimits sizeIn32 partsOf takes takesIn entersIn weight summedItem enteredIn plus image residue negMod addMod mulMod sum foldWith overwrite foldSlice messageSlice valuesOf tripleValues every hornerAt arrived topAt climbFrom evaluatedFrom climbed evaluated meetsAt summed settled sumsAfter stacksFit entered streamed paddingFrom paddingBelow left placed placedAll placedIn inRange isMark
 twisted-replies = refl
 
 -- its verifier's own list: the items, the claim, two messages, the verdict and a check
@@ -175,7 +176,7 @@ pub twisted-told :
     ∷ answered (said.finds yes)
     ∷ answered (said.opens holds)
     ∷ []
-unfolding each ask give passOpen verifierFormed turnOf partsOf oneMore verifierEntering freshVerifier fifteen overwrite powers firstFrom weight image residue addMod negMod mulMod closeClaim closedWith inLimits message messageTurn allReduced3 hears passedWith failedNow verdict verdictTurn finds checkOpening hasRounds every openingFinds firstFault opens divMod inverseMod inverseIn halfMod halfOne subMod inRange
+unfolding each ask give passOpen verifierFormed turnOf partsOf oneMore verifierEntering freshVerifier fifteen overwrite powers firstFrom weight image residue addMod negMod mulMod closeClaim closedWith inLimits message messageTurn allReduced3 hears passedWith failedNow verdict verdictTurn finds checkOpening hasRounds every openingFinds firstFault opens divMod inverseMod inverseIn halfMod halfOne subMod inRange isMark
 twisted-told = refl
 
 -- what demand 3 says of them

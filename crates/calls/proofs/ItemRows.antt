@@ -9,8 +9,9 @@ use lib.ListN.{length}
 use borrow.Author.Tests.{leb-true, ltb-true}
 use Rattle.phase.specs.Cases.{isOpen}
 use Rattle.refusal.specs.Limit.{maxWeight, maxFine}
-use Rattle.item.specs.Version.{inRange}
-use Rattle.item.proofs.Versions.{range-bound}
+use Rattle.item.specs.Mark.{countsAs, readingFits}
+use Rattle.item.proofs.Marks.{counts-bound}
+use Rattle.item.specs.declared.Start.{Start}
 use Rattle.item.specs.declared.Given.{Given}
 use Rattle.item.specs.declared.Given.the-variants.{Reading, Numbers}
 use Rattle.calls.specs.declared.Call.the-variants as call
@@ -21,24 +22,24 @@ use Rattle.calls.proofs.Steps.{row-passed}
 use Rattle.calls.proofs.Turns.{both, row-at-passed}
 
 -- an item within its limits, of either version
-abbrev pub Limits : ℕ → Given → Type 0
-Limits p (Reading z w) = (natAbs z ≤ maxFine) × (w ≤ maxWeight)
-Limits p (Numbers x y) = (x < p) × (y < p)
+abbrev pub Limits : ℕ → Start → Given → Type 0
+Limits p s (Reading z w) = (natAbs (countsAs (s .version) z) ≤ maxFine) × (w ≤ maxWeight)
+Limits p s (Numbers x y) = (x < p) × (y < p)
 
 pub record Admitted (p : ℕ) (a : State) (x : Given) (l : Lent) : Type 0 where
   pub opened : isOpen (a .pass .kind) ≡ true
   pub more : length (a .pass .items) < a .start .items
-  pub limits : Limits p x
+  pub limits : Limits p (a .start) x
   pub place : placeRow a l ≡ none
 
 module _ (p : ℕ) (a : State) (l : Lent) where
-  own-rows : (x : Given) → givenRows p (a .start) (a .start .items - 1 - length (a .pass .items)) x (placeRow a l) ≡ none → Limits p x × (placeRow a l ≡ none)
+  own-rows : (x : Given) → givenRows p (a .start) (a .start .items - 1 - length (a .pass .items)) x (placeRow a l) ≡ none → Limits p (a .start) x × (placeRow a l ≡ none)
   own-rows (Reading z w) e =
       let v = row-passed (a .start .plain) 10 _ e in
       let i : ℕ = a .start .items - 1 - length (a .pass .items) in
       let x = row-at-passed (leb w maxWeight) 5 i _ (v .1) in
-      let y = row-at-passed (inRange (a .start .version) z) 18 i _ (x .1) in
-      ((range-bound (a .start .version) z (y .0), leb-true w maxWeight (x .0)), y .1)
+      let y = row-at-passed (readingFits (a .start .version) z) 18 i _ (x .1) in
+      ((counts-bound (a .start .version) z (y .0), leb-true w maxWeight (x .0)), y .1)
   own-rows (Numbers x y) e =
       let v = row-passed (not (a .start .plain)) 10 _ e in
       let z = row-passed (ltb x p && ltb y p) 16 _ (v .1) in

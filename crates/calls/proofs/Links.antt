@@ -28,7 +28,7 @@ use Rattle.phase.specs.Cases.{waits}
 use Rattle.prover.specs.Reply as reply
 use Rattle.pass.specs.Values.{inNinety}
 use Rattle.pass.proofs.OpeningValues.{triples-length, triples-same}
-use Rattle.runs.specs.Trip.{Trip, vectorF, vectorG, totalOf}
+use Rattle.runs.specs.Trip.{Trip, vectorF, vectorG, sumOf, totalOf}
 use Rattle.calls.specs.declared.Call.{Call}
 use Rattle.calls.specs.declared.Call.the-variants as call
 use Rattle.calls.specs.State.{State}
@@ -169,7 +169,7 @@ module _ (p : ℕ) (large : maxWeight < p) (through : Bool) (T : Trip) (whole : 
       let left = h .right .proof write in
       let q = row-passed (b .start .plain && waits next.Openings (b .turn .next)) 10 _ (ap (λ c. table p b c (h .made .lent)) (sym write) ∙ h .free) .0 in
       let plain = both (b .start .plain) (waits next.Openings (b .turn .next)) q in
-      let same-total : h .past .total ≡ totalOf T = h .going .agrees .total (plain .0) (not-first (b .turn .next) (plain .1)) in (
+      let same-total : h .past .total ≡ totalOf T = h .going .agrees .total (plain .0) (not-first (b .turn .next) (plain .1)) ∙ ap (λ s. sumOf s (T .items)) (h .going .start) in (
         sym e
             ∙ ap₂ (λ k f. take (proofSize k) f) rounds left
             ∙ ap (λ k. take k (proofOfTrip p T ds ++ drop (proofSize (T .start .rounds)) (h .made .lent .file))) (sym (length-proof p T ds))

@@ -11,6 +11,7 @@ use Rattle.field.specs.Total.{inLimits}
 use Rattle.vector.specs.Rounds.{powers, firstFrom}
 use Rattle.item.specs.declared.Given.the-variants.{Reading}
 use Rattle.item.specs.Version.{inRange}
+use Rattle.item.specs.Mark.{isMark}
 use Rattle.runs.specs.Trip.{Trip, tripItem, sumOf}
 use Rattle.calls.specs.declared.Call.{Call}
 use Rattle.calls.specs.Step.{Lent}
@@ -33,7 +34,7 @@ trip =
     }
 
 valid : Valid P trip
-unfolding powers firstFrom inLimits sumOf inRange
+unfolding powers firstFrom inLimits sumOf inRange isMark
 valid = record { whole = record { start = record { version = refl; least = omega arith; most = omega arith; rounds = refl }; items = refl }; items = fits; total = λ e. refl }
   where
     fits : (i : ℕ) → i < 3 → ItemFits P (trip .start) (tripItem trip i)

@@ -154,12 +154,12 @@ module _ (p : ℕ) (large : maxWeight < p) (through : Bool) (T : Trip) (idle : C
     total-so : totalFits p here ≡ true
     total-so = by (here .start .plain) refl
       where
-        by : (plain : Bool) → here .start .plain ≡ plain → (not (waits next.Total (here .turn .next) && here .start .plain) || inLimits p (sumOf (here .pass .items))) ≡ true
+        by : (plain : Bool) → here .start .plain ≡ plain → (not (waits next.Total (here .turn .next) && here .start .plain) || inLimits p (sumOf (here .start) (here .pass .items))) ≡ true
         by true e =
-            let fits = ap (λ xs. inLimits p (sumOf xs)) all-items ∙ valid .total (ap (λ s. s .plain) (sym (st .going .start)) ∙ e) in
+            let fits = ap₂ (λ s xs. inLimits p (sumOf s xs)) (st .going .start) all-items ∙ valid .total (ap (λ s. s .plain) (sym (st .going .start)) ∙ e) in
             ap (λ b. not (waits next.Total (here .turn .next) && here .start .plain) || b) fits ∙ or-true (not (waits next.Total (here .turn .next) && here .start .plain))
         by false e =
-            ap (λ b. not b || inLimits p (sumOf (here .pass .items))) (ap (λ b. waits next.Total (here .turn .next) && b) e ∙ and-false (waits next.Total (here .turn .next)))
+            ap (λ b. not b || inLimits p (sumOf (here .start) (here .pass .items))) (ap (λ b. waits next.Total (here .turn .next) && b) e ∙ and-false (waits next.Total (here .turn .next)))
 
   -- after a change the run is full
   close-lives : (t : Next) (i : ℕ) (k : Kind) → isOpen k ≡ true → (m' : Mode) (t' : Next) → isFull m' ≡ isChange k

@@ -10,6 +10,7 @@ use Rattle.algebra.proofs.Congruence.{base-of}
 use Rattle.field.proofs.Integers.{image-lt}
 use Rattle.item.specs.declared.Given.{Given}
 use Rattle.item.specs.declared.Given.the-variants.{Reading, Numbers}
+use Rattle.item.specs.Mark.{countsAs}
 use Rattle.runs.specs.Trip.{Trip, tripItem, vectorF, vectorG}
 use Rattle.calls.specs.Proper.{ItemFits, Valid}
 use Rattle.calls.proofs.Follows.{positive}
@@ -18,7 +19,7 @@ use Rattle.calls.proofs.Numbers.{enters-below}
 
 module _ (p : ℕ) (large : maxWeight < p) (T : Trip) (valid : Valid p T) where
   item-below : (x : Given) → ItemFits p (T .start) x → Fine p (T .start) x
-  item-below (Reading r w) h = (omega (arith, image-lt p r, base-of p (positive p large)), omega (arith, h .2))
+  item-below (Reading r w) h = (omega (arith, image-lt p (countsAs (T .start .version) r), base-of p (positive p large)), omega (arith, h .2))
   item-below (Numbers a b) h = (h .1, h .2)
 
   padded-below : (j : ℕ) (b : Bool) (x : ℕ) → (b ≡ true → x < p) → cond b x 0 < p

@@ -28,7 +28,7 @@ use Rattle.verifier.proofs.Invariant.{formed-says}
 use Rattle.item.specs.declared.Start.{Start}
 use Rattle.item.specs.declared.Given.{Given}
 use Rattle.item.specs.declared.Given.the-variants.{Reading, Numbers}
-use Rattle.item.specs.Version.{inRange}
+use Rattle.item.specs.Mark.{readingFits}
 use Rattle.item.specs.Item.{contributes, partsOf}
 use Rattle.calls.specs.declared.query.Query.the-variants as query
 use Rattle.calls.specs.QueryStep.{Shown}
@@ -112,7 +112,7 @@ module _ (p : ℕ) (a : VerifierState) (v : Verifier) (s : Stands p a v) where
 
   rows : (b : Start) (i : ℕ) (x : Given) → withParts (partsOf p b i x) (takes p v) ≡ decided (givenRows p b i x none) (answered (takes p v (contributes p b x)))
   unfolding partsOf
-  rows b i (Reading z w) = by (b .plain) (leb w maxWeight) (inRange (b .version) z)
+  rows b i (Reading z w) = by (b .plain) (leb w maxWeight) (readingFits (b .version) z)
     where
       by : (plain fits ranged : Bool)
           → withParts (require plain 10 (requireAt fits 5 i (requireAt ranged 18 i (answered (contributes p b (Reading z w)))))) (takes p v)

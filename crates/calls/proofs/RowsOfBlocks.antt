@@ -15,7 +15,8 @@ use Rattle.wire.specs.Block.{readingIn, weightIn}
 use Rattle.item.specs.declared.Start.{Start}
 use Rattle.item.specs.declared.Given.{Given}
 use Rattle.item.specs.declared.Given.the-variants.{Reading, Numbers}
-use Rattle.item.specs.Version.{itemSize, inRange}
+use Rattle.item.specs.Version.{itemSize}
+use Rattle.item.specs.Mark.{readingFits}
 use Rattle.item.specs.Item.{contributes, partsOf}
 use Rattle.block.specs.Block.{Block, count, itemAt, isWhole, tornNumber}
 use Rattle.block.specs.Checks.{firstIndex, isOfKind, passing, blockChecks}
@@ -46,7 +47,7 @@ module _ (p : ℕ) (s : Start) (i : ℕ) where
   pub given-passing : {A : Type 0} (x : Given) (later : Outcome A) (t : Option Refusal) (o : Outcome A) → later ≡ decided t o
       → passing (partsOf p s i x) later ≡ decided (givenRows p s i x t) o
   unfolding partsOf
-  given-passing (Reading r w) later t o e = by (s .plain) (leb w maxWeight) (inRange (s .version) r)
+  given-passing (Reading r w) later t o e = by (s .plain) (leb w maxWeight) (readingFits (s .version) r)
     where
       by : (plain fits ranged : Bool) → passing (require plain 10 (requireAt fits 5 i (requireAt ranged 18 i (answered (contributes p s (Reading r w)))))) later
           ≡ decided (row plain 10 (rowAt fits 5 i (rowAt ranged 18 i t))) o
@@ -63,7 +64,7 @@ module _ (p : ℕ) (s : Start) (i : ℕ) where
       by true true = e
 
   pub given-before : (x : Given) (t : Option Refusal) → givenRows p s i x t ≡ before (givenRows p s i x none) t
-  given-before (Reading r w) t = by (s .plain) (leb w maxWeight) (inRange (s .version) r)
+  given-before (Reading r w) t = by (s .plain) (leb w maxWeight) (readingFits (s .version) r)
     where
       by : (plain fits ranged : Bool) → row plain 10 (rowAt fits 5 i (rowAt ranged 18 i t)) ≡ before (row plain 10 (rowAt fits 5 i (rowAt ranged 18 i none))) t
       by false fits ranged = refl

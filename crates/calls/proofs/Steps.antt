@@ -120,7 +120,7 @@ finishes r s Full t Asked h o e = absurd (true≢false (sym h))
 finishes r s m t Change h o e = refl
 
 module _ (p : ℕ) (a : State) (past : Notes) (few : a .start .rounds ≤ 15) (s : Pass) (wf : wellFormed p (runOf a past) s ≡ true) (kind : s .kind ≡ a .pass .kind)
-    (count : s .taken ≡ length (a .pass .items)) (sums : waits next.Total (a .turn .next) ≡ true → s .total ≡ sumOf (a .pass .items))
+    (count : s .taken ≡ length (a .pass .items)) (sums : waits next.Total (a .turn .next) ≡ true → s .total ≡ sumOf (a .start) (a .pass .items))
     (fits : kindFits (a .pass .kind) (a .turn .mode) (a .turn .next) ≡ true) where
   abbrev R : Run
   R = runOf a past

@@ -16,6 +16,7 @@ use Rattle.item.specs.declared.Start.{Start}
 use Rattle.item.specs.declared.Given.{Given}
 use Rattle.item.specs.declared.Given.the-variants.{Reading, Numbers}
 use Rattle.item.specs.Version.{inRange}
+use Rattle.item.specs.Mark.{isMark}
 use Rattle.runs.specs.Trip.{Trip, tripItem, vectorF, vectorG, totalOf}
 use Rattle.calls.specs.declared.Call.{Call}
 use Rattle.calls.specs.declared.Call.the-variants as call
@@ -25,9 +26,10 @@ use Rattle.calls.specs.State.{State}
 use Rattle.calls.specs.World.{Made, World, freshWorld, came, onward}
 use Rattle.calls.specs.Starts.{Whole}
 
--- "An item of a plain run is a reading and a weight, of a twisted run two field numbers", within their limits
+-- "An item of a plain run is a reading and a weight, of a twisted run two field numbers", within their limits; the mark for a broken wire is
+-- within them
 abbrev pub ItemFits : ℕ → Start → Given → Type 0
-ItemFits p s (Reading r w) = (s .plain ≡ true) × (inRange (s .version) r ≡ true) × (w ≤ maxWeight)
+ItemFits p s (Reading r w) = (s .plain ≡ true) × ((isMark (s .version) r || inRange (s .version) r) ≡ true) × (w ≤ maxWeight)
 ItemFits p s (Numbers a b) = (s .plain ≡ false) × (a < p) × (b < p)
 
 -- a trip that a run takes whole

@@ -26,6 +26,7 @@ use Rattle.verifier.specs.Openings.{firstFault, openingFinds}
 use Rattle.verifier.specs.Calls.{passOpen, give, close, messageTurn, allReduced3, message, verdictTurn, verdict, hasRounds, checkOpening, checkBatch}
 use Rattle.verifier.specs.ProofFile.{hearsNext, hearsFirst, endsAgree, compares, afterFile, proof}
 use Rattle.item.specs.Version.{inRange}
+use Rattle.item.specs.Mark.{isMark}
 use Rattle.item.specs.declared.Start.{Start}
 use Rattle.item.specs.declared.Given.the-variants.{Reading}
 use Rattle.item.specs.Item.{partsOf}
@@ -96,7 +97,7 @@ pub trip-told :
     ∷ answered (said.opens holds)
     ∷ answered (said.finds yes)
     ∷ []
-unfolding each ask give passOpen wellFormed turnOf partsOf oneMore entering freshVerifier fifteen overwrite powers firstFrom weight image residue addMod negMod mulMod close closedWith inLimits message messageTurn allReduced3 hears passedWith failedNow verdict verdictTurn finds checkOpening hasRounds every openingFinds firstFault opens divMod inverseMod inverseIn halfMod halfOne subMod inRange
+unfolding each ask give passOpen wellFormed turnOf partsOf oneMore entering freshVerifier fifteen overwrite powers firstFrom weight image residue addMod negMod mulMod close closedWith inLimits message messageTurn allReduced3 hears passedWith failedNow verdict verdictTurn finds checkOpening hasRounds every openingFinds firstFault opens divMod inverseMod inverseIn halfMod halfOne subMod inRange isMark
 trip-told = refl
 
 -- with the proof file, given once
@@ -109,7 +110,7 @@ pub trip-file-told :
     ∷ answered (said.finds yes)
     ∷ refused 10
     ∷ []
-unfolding each ask give passOpen wellFormed turnOf partsOf oneMore entering freshVerifier fifteen overwrite powers firstFrom weight image residue addMod negMod mulMod closedWith inLimits hears passedWith failedNow verdict verdictTurn finds proof readProofOf readProof marked allBelow numAt num bytes signed bits proofHeader numbers hearsNext hearsFirst endsAgree compares afterFile inRange
+unfolding each ask give passOpen wellFormed turnOf partsOf oneMore entering freshVerifier fifteen overwrite powers firstFrom weight image residue addMod negMod mulMod closedWith inLimits hears passedWith failedNow verdict verdictTurn finds proof readProofOf readProof marked allBelow numAt num bytes signed bits proofHeader numbers hearsNext hearsFirst endsAgree compares afterFile inRange isMark
 trip-file-told = refl
 
 -- document 02, (a): two logs, z = 3 and the point 2; the combined vector is -165, -154, 40, 0, and the logs' values are -370 and 19

@@ -11,6 +11,7 @@ use Rattle.wire.specs.Proof.{proofSize}
 use Rattle.vector.specs.Rounds.{size}
 use Rattle.vector.specs.Slice.{allReduced, isNonzero}
 use Rattle.item.specs.Version.{inRange}
+use Rattle.item.specs.Mark.{isMark}
 use Rattle.item.specs.declared.Start.{Start}
 use Rattle.item.specs.declared.Given.{Given}
 use Rattle.item.specs.declared.Given.the-variants.{Reading, Numbers}
@@ -99,10 +100,10 @@ bothLong a l = leb (long a) (length (l .f)) && leb (long a) (length (l .g))
 abbrev pub readRows : ℕ → State → Lent → Option Refusal
 readRows p a l = row (bothLong a l) 9 (row (allReduced p (long a) (l .f) && allReduced p (long a) (l .g)) 16 none)
 
--- an item of the other kind of run is not next; "weight over 1,440", then a reading "outside its version's range", with the index i; a
--- number "P or more"
+-- an item of the other kind of run is not next; "weight over 1,440", then a reading "outside its version's range", with the index i, the
+-- mark "looked for before 18"; a number "P or more"
 abbrev pub givenRows : ℕ → Start → ℕ → Given → Option Refusal → Option Refusal
-givenRows p s i (Reading r w) rest = row (s .plain) 10 (rowAt (leb w maxWeight) 5 i (rowAt (inRange (s .version) r) 18 i rest))
+givenRows p s i (Reading r w) rest = row (s .plain) 10 (rowAt (leb w maxWeight) 5 i (rowAt (isMark (s .version) r || inRange (s .version) r) 18 i rest))
 givenRows p s i (Numbers x y) rest = row (not (s .plain)) 10 (row (ltb x p && ltb y p) 16 rest)
 
 -- only a change pass has the buffers
@@ -111,7 +112,7 @@ placeRow a l = row (not (isChange (a .pass .kind)) || bothLong a l) 9 none
 
 -- 7: "plain total outside its limits", where the pass is the total's
 abbrev pub totalFits : ℕ → State → Bool
-totalFits p a = not (waits next.Total (a .turn .next) && a .start .plain) || inLimits p (sumOf (a .pass .items))
+totalFits p a = not (waits next.Total (a .turn .next) && a .start .plain) || inLimits p (sumOf (a .start) (a .pass .items))
 
 -- THE TABLE: none where the call is answered
 unfoldable pub table : ℕ → State → Call → Lent → Option Refusal

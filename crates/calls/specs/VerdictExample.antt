@@ -23,6 +23,7 @@ use Rattle.verifier.specs.Claims.{messageOf3, closedWith, passedWith, failedNow
 use Rattle.verifier.specs.Calls.{passOpen, give, close, closeClaim, messageTurn, allReduced3, message, verdictTurn, verdict}
 use Rattle.verifier.specs.ProofFile.{hearsNext, hearsFirst, endsAgree, compares, afterFile, proof}
 use Rattle.item.specs.Version.{inRange}
+use Rattle.item.specs.Mark.{isMark}
 use Rattle.item.specs.declared.Start.{Start}
 use Rattle.item.specs.declared.Given.the-variants.{Reading, Numbers}
 use Rattle.item.specs.Start.{plainStart, twistedStart}
@@ -86,16 +87,16 @@ pub trip-brought :
       messages = messageOf3 2147482047 2147478297 2147480147 ∷ messageOf3 2147457147 2147482997 200 ∷ [];
       ends = none;
     }
-unfolding after ask give passOpen wellFormed turnOf partsOf oneMore entering freshVerifier fifteen overwrite powers firstFrom weight image residue addMod negMod mulMod close closedWith inLimits message messageTurn allReduced3 hears passedWith failedNow verdict verdictTurn finds inRange
+unfolding after ask give passOpen wellFormed turnOf partsOf oneMore entering freshVerifier fifteen overwrite powers firstFrom weight image residue addMod negMod mulMod close closedWith inLimits message messageTurn allReduced3 hears passedWith failedNow verdict verdictTurn finds inRange isMark
 trip-brought = refl
 
 pub trip-yes : toldNext (plainStart 3 1) (2 ∷ 3 ∷ []) (tripCalls 200) (plainly query.Verdict) ≡ answered (said.finds yes)
-unfolding after ask give passOpen wellFormed turnOf partsOf oneMore entering freshVerifier fifteen overwrite powers firstFrom weight image residue addMod negMod mulMod close closedWith inLimits message messageTurn allReduced3 hears passedWith failedNow verdict verdictTurn finds inRange
+unfolding after ask give passOpen wellFormed turnOf partsOf oneMore entering freshVerifier fifteen overwrite powers firstFrom weight image residue addMod negMod mulMod close closedWith inLimits message messageTurn allReduced3 hears passedWith failedNow verdict verdictTurn finds inRange isMark
 trip-yes = refl
 
 -- another last message does not pass
 pub other-no : toldNext (plainStart 3 1) (2 ∷ 3 ∷ []) (tripCalls 201) (plainly query.Verdict) ≡ answered (said.finds (no 1))
-unfolding after ask give passOpen wellFormed turnOf partsOf oneMore entering freshVerifier fifteen overwrite powers firstFrom weight image residue addMod negMod mulMod close closedWith inLimits message messageTurn allReduced3 hears passedWith failedNow verdict verdictTurn finds inRange
+unfolding after ask give passOpen wellFormed turnOf partsOf oneMore entering freshVerifier fifteen overwrite powers firstFrom weight image residue addMod negMod mulMod close closedWith inLimits message messageTurn allReduced3 hears passedWith failedNow verdict verdictTurn finds inRange isMark
 other-no = refl
 
 -- the proof file brings the same, and its end values; others are no at n
@@ -107,11 +108,11 @@ pub file-brought :
       messages = messageOf3 2147482047 2147478297 2147480147 ∷ messageOf3 2147457147 2147482997 200 ∷ [];
       ends = some (2147483237, 65);
     }
-unfolding after fileMessages ask give passOpen wellFormed turnOf partsOf oneMore entering freshVerifier fifteen overwrite powers firstFrom weight image residue addMod negMod mulMod closedWith inLimits message messageTurn allReduced3 hears passedWith failedNow finds proof readProofOf readProof marked allBelow numAt num bytes signed bits proofHeader fileNumbers hearsNext hearsFirst endsAgree compares afterFile inRange
+unfolding after fileMessages ask give passOpen wellFormed turnOf partsOf oneMore entering freshVerifier fifteen overwrite powers firstFrom weight image residue addMod negMod mulMod closedWith inLimits message messageTurn allReduced3 hears passedWith failedNow finds proof readProofOf readProof marked allBelow numAt num bytes signed bits proofHeader fileNumbers hearsNext hearsFirst endsAgree compares afterFile inRange isMark
 file-brought = refl
 
 pub file-no : toldNext (plainStart 3 1) (2 ∷ 3 ∷ []) tripItems (file 66) ≡ answered (said.finds (no 2))
-unfolding after ask give passOpen wellFormed turnOf partsOf oneMore entering freshVerifier fifteen overwrite powers firstFrom weight image residue addMod negMod mulMod closedWith inLimits message messageTurn allReduced3 hears passedWith failedNow finds proof readProofOf readProof marked allBelow numAt num bytes signed bits proofHeader fileNumbers hearsNext hearsFirst endsAgree compares afterFile inRange
+unfolding after ask give passOpen wellFormed turnOf partsOf oneMore entering freshVerifier fifteen overwrite powers firstFrom weight image residue addMod negMod mulMod closedWith inLimits message messageTurn allReduced3 hears passedWith failedNow finds proof readProofOf readProof marked allBelow numAt num bytes signed bits proofHeader fileNumbers hearsNext hearsFirst endsAgree compares afterFile inRange isMark
 file-no = refl
 
 -- THE TWISTED RUN: its total 38, its message 2, 22, 36, its end values 19 and 10; a close of the other kind between
@@ -127,18 +128,18 @@ twistedCalls claim cross =
 pub twisted-brought :
     broughtBy (twistedStart 2 (3 ∷ [])) (2 ∷ []) (twistedCalls 38 22)
     ≡ record { items = Numbers 1 2 ∷ Numbers 3 4 ∷ []; claim = 38; messages = messageOf3 2 22 36 ∷ []; ends = none }
-unfolding after ask give passOpen wellFormed turnOf partsOf oneMore entering freshVerifier fifteen overwrite powers firstFrom weight residue addMod mulMod close closeClaim closedWith message messageTurn allReduced3 hears passedWith failedNow inRange
+unfolding after ask give passOpen wellFormed turnOf partsOf oneMore entering freshVerifier fifteen overwrite powers firstFrom weight residue addMod mulMod close closeClaim closedWith message messageTurn allReduced3 hears passedWith failedNow inRange isMark
 twisted-brought = refl
 
 pub twisted-yes : toldNext (twistedStart 2 (3 ∷ [])) (2 ∷ []) (twistedCalls 38 22) (plainly query.Verdict) ≡ answered (said.finds yes)
-unfolding after ask give passOpen wellFormed turnOf partsOf oneMore entering freshVerifier fifteen overwrite powers firstFrom weight residue addMod mulMod close closeClaim closedWith message messageTurn allReduced3 hears passedWith failedNow verdict verdictTurn finds inRange
+unfolding after ask give passOpen wellFormed turnOf partsOf oneMore entering freshVerifier fifteen overwrite powers firstFrom weight residue addMod mulMod close closeClaim closedWith message messageTurn allReduced3 hears passedWith failedNow verdict verdictTurn finds inRange isMark
 twisted-yes = refl
 
 -- another claim fails at round 0, another cross number at n
 pub twisted-no : toldNext (twistedStart 2 (3 ∷ [])) (2 ∷ []) (twistedCalls 39 22) (plainly query.Verdict) ≡ answered (said.finds (no 0))
-unfolding after ask give passOpen wellFormed turnOf partsOf oneMore entering freshVerifier fifteen overwrite powers firstFrom weight residue addMod mulMod close closeClaim closedWith message messageTurn allReduced3 hears passedWith failedNow verdict verdictTurn finds inRange
+unfolding after ask give passOpen wellFormed turnOf partsOf oneMore entering freshVerifier fifteen overwrite powers firstFrom weight residue addMod mulMod close closeClaim closedWith message messageTurn allReduced3 hears passedWith failedNow verdict verdictTurn finds inRange isMark
 twisted-no = refl
 
 pub twisted-last : toldNext (twistedStart 2 (3 ∷ [])) (2 ∷ []) (twistedCalls 38 23) (plainly query.Verdict) ≡ answered (said.finds (no 1))
-unfolding after ask give passOpen wellFormed turnOf partsOf oneMore entering freshVerifier fifteen overwrite powers firstFrom weight residue addMod mulMod close closeClaim closedWith message messageTurn allReduced3 hears passedWith failedNow verdict verdictTurn finds inRange
+unfolding after ask give passOpen wellFormed turnOf partsOf oneMore entering freshVerifier fifteen overwrite powers firstFrom weight residue addMod mulMod close closeClaim closedWith message messageTurn allReduced3 hears passedWith failedNow verdict verdictTurn finds inRange isMark
 twisted-last = refl

@@ -1,3 +1,4 @@
+pub mod Marks
 pub mod PartsRows
 pub mod Sizes
 pub mod Untwisted

@@ -81,7 +81,7 @@ module _ (p : ℕ) (r : Run) (b : ℕ) (formed : runFormed p r ≡ true) where
       (after-counts p r b e Change refl formed xs within, after-room p r b e Change refl formed xs within)
 
   -- with no pass open there are no items
-  pub after-formed : (k : Kind) (xs : List Given) → kindFits k (r .mode) (r .next) ≡ true → AllWithin xs → length xs ≤ r .start .items
+  pub after-formed : (k : Kind) (xs : List Given) → kindFits k (r .mode) (r .next) ≡ true → AllWithin (r .start) xs → length xs ≤ r .start .items
       → (k ≡ Shut → xs ≡ []) → wellFormed p r (passAfter p r k b xs) ≡ true
   after-formed k xs fits good within none =
       let s : Pass = passAfter p r k b xs in

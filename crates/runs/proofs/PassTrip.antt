@@ -195,11 +195,11 @@ gives-all T xs h all count =
     (λ q l. h q l ∙ ap (tripItem T) (let e : T .start .items - length xs + q ≡ q = omega arith in e))
 
 -- and a plain run's total is the trip's
-pub after-sum : (p : ℕ) (r : Run) (k : Kind) (b : ℕ) (xs : List Given) → runFormed p r ≡ true → waits next.Total (r .next) ≡ true → AllWithin xs → length xs ≡ r .start .items
+pub after-sum : (p : ℕ) (r : Run) (k : Kind) (b : ℕ) (xs : List Given) → runFormed p r ≡ true → waits next.Total (r .next) ≡ true → AllWithin (r .start) xs → length xs ≡ r .start .items
     → (T : Trip) → T .start ≡ r .start → Gives T xs → length (T .items) ≡ T .start .items → passAfter p r k b xs .total ≡ totalOf T
 after-sum p r k b xs formed e good all T same h count =
     let whole : length xs ≡ T .start .items = all ∙ ap (λ s. s .items) (sym same) in
-    after-total p r k b e xs good (omega (arith, bounds p r formed .most)) ∙ ap sumOf (gives-all T xs h whole count)
+    after-total p r k b e xs good (omega (arith, bounds p r formed .most)) ∙ ap₂ sumOf (sym same) (gives-all T xs h whole count)
 
 -- ANY ITEMS are the last of a trip of their own
 module _ (r : Run) (xs : List Given) (within : length xs ≤ r .start .items) where

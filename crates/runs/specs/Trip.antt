@@ -7,7 +7,6 @@ use Rattle.vector.specs.Vector.{Vector, padded}
 use Rattle.item.specs.declared.Start.{Start}
 use Rattle.item.specs.declared.Given.{Given}
 use Rattle.item.specs.declared.Given.the-variants.{Numbers}
-use Rattle.item.specs.Start.{noStart}
 use Rattle.item.specs.Item.{contributes}
 pub use Rattle.prover.specs.Take.{entersAs}
 
@@ -26,14 +25,14 @@ vectorF p T = padded (T .start .items) (λ i. entersAs p (T .start) i (contribut
 abbrev pub vectorG : ℕ → Trip → Vector
 vectorG p T = padded (T .start .items) (λ i. contributes p (T .start) (tripItem T i) .g)
 
--- readings times minutes: what an item contributes to the total, whatever the modulus and the start
-abbrev pub worth : Given → ℤ
-worth x = contributes 0 noStart x .worth
+-- readings times minutes: what an item contributes to the total, whatever the modulus
+abbrev pub worth : Start → Given → ℤ
+worth s x = contributes 0 s x .worth
 
-unfoldable pub sumOf : List Given → ℤ
-sumOf [] = pos 0
-sumOf (x ∷ xs) = sumOf xs +ℤ worth x
+unfoldable pub sumOf : Start → List Given → ℤ
+sumOf s [] = pos 0
+sumOf s (x ∷ xs) = sumOf s xs +ℤ worth s x
 
 -- "readings times minutes" over the whole trip
 abbrev pub totalOf : Trip → ℤ
-totalOf T = sumOf (T .items)
+totalOf T = sumOf (T .start) (T .items)

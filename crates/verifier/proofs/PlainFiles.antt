@@ -24,7 +24,8 @@ use Rattle.vector.specs.Message as vector
 use Rattle.wire.specs.Proof.{proofSize, proofFile, proofValues, writeProof, writtenIn}
 use Rattle.wire.proofs.ProofOf.{own-file}
 use Rattle.wire.proofs.RoundTrip.{thirds, ReadsAs, good, messages-same, ends-same, write-reads-back}
-use Rattle.item.specs.Version.{versionFits, inRange}
+use Rattle.item.specs.Version.{versionFits}
+use Rattle.item.specs.Mark.{readingFits}
 use Rattle.item.specs.Start.{countFits, listFits}
 use Rattle.verifier.specs.declared.Verifier.{Verifier}
 use Rattle.verifier.specs.Records.{yes}
@@ -35,7 +36,7 @@ use Rattle.verifier.proofs.CallRows.{same-message}
 use Rattle.verifier.proofs.FileFacts.{row-file}
 use Rattle.verifier.proofs.EndSums.{state, few}
 use Rattle.verifier.proofs.Verdicts.{AllPass, verdict-yes, true-messages, claim-of-same}
-use Rattle.verifier.proofs.PlainRuns.{readingVector, weightVector, afterPlain, plainState, kept, plain-agree, plain-reaches, plain-open, plain-ends, plain-claim}
+use Rattle.verifier.proofs.PlainRuns.{counted, readingVector, weightVector, afterPlain, plainState, kept, plain-agree, plain-reaches, plain-open, plain-ends, plain-claim}
 use Rattle.verifier.proofs.FileVerdicts.{FileSays, fileClaim, file-verdict-says, file-verdict-yes, file-verdict-same}
 use Rattle.verifier.proofs.ProofFiles.{proof-answered, file-finds}
 
@@ -54,7 +55,7 @@ read-message p file n t ms f g r m l i h =
 
 module _ (p items version : ℕ) (cs : List ℕ) (readings : ℕ → ℤ) (weights : Vector) (large : maxWeight < p) (known : versionFits version ≡ true) (count : countFits items ≡ true)
     (list : listFits p (roundsOf items) cs ≡ true) (fine : (i : ℕ) → i < items → weights i ≤ maxWeight)
-    (ranged : (i : ℕ) → i < items → inRange version (readings i) ≡ true) where
+    (ranged : (i : ℕ) → i < items → readingFits version (readings i) ≡ true) where
   abbrev n : ℕ
   n = roundsOf items
 
@@ -100,7 +101,7 @@ module _ (p items version : ℕ) (cs : List ℕ) (readings : ℕ → ℤ) (weigh
 
   -- the trip's own total and messages
   abbrev pub total : ℤ
-  total = tripTotal readings weights items
+  total = tripTotal (counted p items version cs readings weights) weights items
 
   abbrev pub roundMessage : ℕ → Message
   roundMessage = vector.message p n (at cs) (readingVector p items version cs readings weights) (weightVector p items version cs readings weights)

@@ -25,7 +25,8 @@ use Rattle.vector.proofs.Rounds.{rounds-enough}
 use Rattle.vector.proofs.Sums.{running-product}
 use Rattle.vector.proofs.Overwrite.{fifteen-at}
 use Rattle.vector.proofs.Messages.{dot-padded}
-use Rattle.item.specs.Version.{versionFits, inRange}
+use Rattle.item.specs.Version.{versionFits}
+use Rattle.item.specs.Mark.{countsAs, readingFits}
 use Rattle.item.specs.Start.{countFits, listFits, plainStart}
 use Rattle.item.proofs.PartsRows.{reading-taken}
 use Rattle.verifier.specs.declared.Verifier.{Verifier}
@@ -53,9 +54,13 @@ trip-image p readings weights (suc m) =
     ∙ running-product p (sum m (λ i. image p (readings i) * weights i)) (image p (readings m)) (weights m)
 
 module _ (p items version : ℕ) (cs : List ℕ) (readings : ℕ → ℤ) (weights : Vector) where
+  -- what each reading counts as
+  abbrev pub counted : ℕ → ℤ
+  counted i = countsAs version (readings i)
+
   -- document 01's f and g: readings and weights, then zeros
   abbrev pub readingVector : Vector
-  readingVector = padded items (λ i. image p (readings i))
+  readingVector = padded items (λ i. image p (counted i))
 
   abbrev pub weightVector : Vector
   weightVector = padded items weights
@@ -66,7 +71,7 @@ module _ (p items version : ℕ) (cs : List ℕ) (readings : ℕ → ℤ) (weigh
 
   module _ (large : maxWeight < p) (known : versionFits version ≡ true) (count : countFits items ≡ true) (list : listFits p (roundsOf items) cs ≡ true)
       (fine : (i : ℕ) → i < items → weights i ≤ maxWeight)
-      (ranged : (i : ℕ) → i < items → inRange version (readings i) ≡ true) where
+      (ranged : (i : ℕ) → i < items → readingFits version (readings i) ≡ true) where
     abbrev pub kept : List ℕ
     kept = fifteen (roundsOf items) cs
 
@@ -76,7 +81,7 @@ module _ (p items version : ℕ) (cs : List ℕ) (readings : ℕ → ℤ) (weigh
     pub plain-agree : (k : ℕ) → k < roundsOf items → at kept k ≡ at cs k
     plain-agree = fifteen-at (roundsOf items) cs (few items count) (omega (arith, list-length p (roundsOf items) cs list))
 
-    plain-same : (i : ℕ) → i < items → entering p (plainStart items version) i (image p (readings i)) ≡ image p (readings i)
+    plain-same : (i : ℕ) → i < items → entering p (plainStart items version) i (image p (counted i)) ≡ image p (counted i)
     unfolding entering
     plain-same i h = refl
 
@@ -92,9 +97,9 @@ module _ (p items version : ℕ) (cs : List ℕ) (readings : ℕ → ℤ) (weigh
           agree = plain-agree;
           given = readingItems readings weights;
           fits = λ i h. reading-taken p (plainStart items version) i (readings i) (weights i) refl (le-leb (weights i) maxWeight (fine i h)) (ranged i h);
-          F = λ i. image p (readings i);
+          F = λ i. image p (counted i);
           same = plain-same;
-          reduced-f = λ i h. image-residue p (readings i);
+          reduced-f = λ i h. image-residue p (counted i);
           reduced-g = λ i h. residue-small p (weights i) (omega (arith, fine i h));
         }
 
@@ -128,22 +133,22 @@ module _ (p items version : ℕ) (cs : List ℕ) (readings : ℕ → ℤ) (weigh
         ∙ run-verdict p plain-run (image p total) m reduced
 
     -- the trip's total as a claim
-    pub plain-claim : image p (tripTotal readings weights items) ≡ dot p (2 ^ roundsOf items) readingVector weightVector
+    pub plain-claim : image p (tripTotal counted weights items) ≡ dot p (2 ^ roundsOf items) readingVector weightVector
     plain-claim =
-        trip-image p readings weights items
-        ∙ sym (dot-padded p items (2 ^ roundsOf items) (rounds-enough items (limit items count)) (λ i. image p (readings i)) weights)
+        trip-image p counted weights items
+        ∙ sym (dot-padded p items (2 ^ roundsOf items) (rounds-enough items (limit items count)) (λ i. image p (counted i)) weights)
 
     -- (d) COMPLETENESS: the trip's own total, if it is within its limits, with the messages of its vectors
-    pub plain-accepts : inLimits p (tripTotal readings weights items) ≡ true
+    pub plain-accepts : inLimits p (tripTotal counted weights items) ≡ true
         → verdict p
         (afterCalls (messages p (vector.message p (roundsOf items) (at cs) readingVector weightVector))
-        (leaves afterPlain (close p afterPlain (tripTotal readings weights items)) .verifier)
+        (leaves afterPlain (close p afterPlain (tripTotal counted weights items)) .verifier)
         (roundsOf items))
         ≡ answered yes
     plain-accepts h =
         let n = roundsOf items in
         let m = vector.message p n (at cs) readingVector weightVector in
         let product = mulMod p (endValue p (at cs) n readingVector) (endValue p (at cs) n weightVector) in
-        plain-verdict (tripTotal readings weights items) m h (message-reduced p n (at cs) readingVector weightVector (omega arith))
+        plain-verdict (tripTotal counted weights items) m h (message-reduced p n (at cs) readingVector weightVector (omega arith))
         ∙ ap answered
         (ap (λ x. verdictOf p (at cs) n x m product) plain-claim ∙ true-messages p n (at cs) readingVector weightVector)

@@ -1,5 +1,6 @@
 pub mod Numbers
 pub mod Told
+pub mod Unmarked
 pub mod Marks
 pub mod Layouts
 pub mod Blocks

@@ -16,7 +16,7 @@ use Rattle.wire.specs.Found.{Found, foundIf}
 use Rattle.wire.specs.Header.{marked, versionOf, requireHeader}
 use Rattle.wire.specs.Layout.{requireItem}
 use Rattle.wire.specs.Log.{Head, logCount, readLogWithin, readLog, logItem}
-use Rattle.wire.proofs.Layouts.{two-bytes}
+use Rattle.wire.proofs.Layouts.{two-fits}
 
 -- document 01's log: version 1, "then L items of four bytes", "Length 7 + 4L", and 5 alone
 abbrev pub requireItemOne : {A : Type 0} → List ℕ → ℕ → Outcome A → Outcome A
@@ -43,7 +43,7 @@ module _ (file : List ℕ) (other : versionOf file ≡ 2 → ⊥) where
   old = ne-eqb (versionOf file) 2 other
 
   same-item : {A : Type 0} (i : ℕ) (later : Outcome A) → requireItem (versionOf file) file 7 i later ≡ requireItemOne file i later
-  same-item i later = rw (old, two-bytes (versionOf file) (numAt 2 file (7 + 4 * i)) old)
+  same-item i later = rw (old, two-fits (versionOf file) (numAt 2 file (7 + 4 * i)) old)
 
   -- the items, and what is answered after them
   same-items : (count n i : ℕ)
