@@ -4,6 +4,7 @@
 mod batch_list;
 pub mod blocks;
 mod file_list;
+pub mod marks;
 mod noise;
 mod plan;
 mod prover_list;

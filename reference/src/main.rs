@@ -8,6 +8,7 @@ mod field;
 mod files;
 mod generate;
 mod make;
+mod mark_checks;
 mod prover;
 mod random;
 mod random_runs;

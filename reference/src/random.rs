@@ -1,12 +1,13 @@
 //! Seeded numbers (splitmix64), so that a difference can be met again.
 
 use crate::field::P;
-use crate::files::readings;
+use crate::files::{is_taken, mark, readings};
 
-/// At the limits of either version and past them, and where 32 bits and P end.
-pub const EDGE_READINGS: [i32; 12] = [
-    -32_768,
+/// At the limits of either version and past them, both marks, and where 32 bits and P end.
+pub const EDGE_READINGS: [i32; 14] = [
+    -32_767,
     32_767,
+    -32_768,
     -32_769,
     32_768,
     40_000,
@@ -15,6 +16,7 @@ pub const EDGE_READINGS: [i32; 12] = [
     -1_000_001,
     1_000_001,
     i32::MIN,
+    i32::MIN + 1,
     i32::MAX,
     i32::MAX - 1,
 ];
@@ -85,20 +87,21 @@ impl Random {
         self.pick(&[0, 3, 258, 65_537, 65_538, u32::MAX as u64])
     }
 
-    /// In the version's range.
+    /// In the version's range, or its mark.
     pub fn reading(&mut self, version: u64) -> i32 {
         let (low, high) = (*readings(version).start(), *readings(version).end());
-        match self.below(6) {
-            0 => self.edge_reading(|reading| readings(version).contains(reading)),
-            1 => self.pick(&[-1, 0, 1, low, high]),
-            2 => self.between(0, 400) as i32 - 300,
+        match self.below(12) {
+            0 => mark(version),
+            1..=2 => self.edge_reading(|reading| readings(version).contains(reading)),
+            3..=4 => self.pick(&[-1, 0, 1, low, high]),
+            5..=6 => self.between(0, 400) as i32 - 300,
             _ => low + self.below((high - low) as u64 + 1) as i32,
         }
     }
 
-    /// Out of the version's range.
+    /// Out of the version's range, and not its mark.
     pub fn reading_outside(&mut self, version: u64) -> i32 {
-        self.edge_reading(|reading| !readings(version).contains(reading))
+        self.edge_reading(|&reading| !is_taken(version, reading))
     }
 
     fn edge_reading(&mut self, wanted: impl Fn(&i32) -> bool) -> i32 {

@@ -1,6 +1,7 @@
 //! What a comparison has covered. What it should reach and did not makes it fail.
 
 use crate::generate::blocks::{Counts, ALWAYS_REFUSED, WHERE};
+use crate::generate::marks::Marks;
 use crate::generate::reached::Reached;
 use crate::generate::returns::Returns;
 use crate::generate::script::Script;
@@ -49,6 +50,7 @@ pub struct Report {
     batches: [u64; FOUND.len()],
     reached: Reached,
     returns: Returns,
+    marks: Marks,
     trips: u64,
     lists: u64,
     pub programs: u64,
@@ -58,6 +60,7 @@ impl Report {
     pub fn count_trip(&mut self, log: &[u8], output: &str) {
         self.trips += 1;
         self.reached.note_trip(log, output);
+        self.marks.note_trip(log, output);
         self.count(0, output);
     }
 
@@ -86,6 +89,7 @@ impl Report {
         self.count_batches(script);
         self.reached.add(&script.reached);
         self.returns.add(&script.returns);
+        self.marks.add(&script.marks);
         let counted = self.blocks.iter_mut().flatten().flatten();
         for (sum, count) in counted.zip(script.blocks.iter().flatten().flatten()) {
             *sum += count;
@@ -121,7 +125,8 @@ impl Report {
             + &self.missing_blocks()
             + &self.missing_batches()
             + &self.reached.missing()
-            + &self.returns.missing();
+            + &self.returns.missing()
+            + &self.marks.missing();
         match missing.is_empty() {
             true => Ok(self.table()),
             false => Err(missing + &self.table()),
@@ -160,7 +165,8 @@ impl Report {
 
     fn table(&self) -> String {
         let columns = self.columns(0..4) + &self.columns(4..8) + &self.columns(8..11);
-        let mut text = columns + &self.places() + &self.reached.table() + &self.returns.table();
+        let met = self.reached.table() + &self.returns.table() + &self.marks.table();
+        let mut text = columns + &self.places() + &met;
         let calls =
             self.refused[1..].iter().flatten().chain(&self.answered[1..]).copied().sum::<u64>();
         text += &format!(

@@ -6,7 +6,7 @@ use crate::files::write_log;
 use crate::random::Random;
 use crate::replay::{Program, Tool};
 use crate::text::listed;
-use crate::{batch, block_checks, random_runs, rules, trip, version_checks};
+use crate::{batch, block_checks, mark_checks, random_runs, rules, trip, version_checks};
 
 const PAPER_TRIP: &str = "total -5100
 round 0 2147482047 2147478297 2147480147
@@ -23,7 +23,6 @@ accepted
 const PAPER_EDGES: &str = "* claim 0 2147478547
 * claim 1 2147457347
 * claim 2 2147456997
-* reading -32768 2147450879
 * reading -1 2147483646
 * half 1 1073741824
 * rounds 1 0
@@ -55,6 +54,7 @@ pub fn run() -> Result<String, String> {
         CHALLENGES.iter().chain(&[POINT]).flat_map(|&c| (c as u32).to_le_bytes()).collect();
     alike("the paper's trip", PAPER_TRIP, &trip::output(&write_log(1, &TRIP), &numbers))?;
     version_checks::run(&numbers)?;
+    mark_checks::run(&numbers)?;
     let paper = PAPER_TRIP
         .replace("round", "* message")
         .replace("ends", "* ends")

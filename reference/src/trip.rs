@@ -30,7 +30,7 @@ fn accepted(log: &[u8], numbers: &[u8]) -> Result<String, Refusal> {
     let number = |bytes: &[u8]| u32::from_le_bytes(bytes.try_into().unwrap()) as u64;
     let numbers: Vec<u64> = numbers.chunks(4).map(number).collect();
     require(numbers.iter().all(|&number| is_usable(number)), 6)?;
-    let (f, g, total) = vector::plain_vectors(&items);
+    let (f, g, total) = vector::plain_vectors(version, &items);
     require(within_limits(total), 7)?;
     let (challenges, point) = (&numbers[..rounds], numbers[rounds]);
 

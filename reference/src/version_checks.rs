@@ -122,7 +122,7 @@ fn prepared() -> Tool {
         &TRIP,
         &[(-1_000_001, 1), (0, 1_441)],
         &[(0, 1_441), (1_000_001, 1)],
-        &[(i32::MIN, 1_441)],
+        &[(i32::MAX, 1_441)],
         &[],
         &[],
         &[(-1_000_000, 1_440), (1_000_000, 1_440)],
@@ -172,7 +172,7 @@ fn logs() -> Result<(), String> {
         (narrow.clone(), "log 3 1", "item -180 10"),
         (write_log(2, &second_outside), "refused 18 1", "item -18000 10"),
         (with(&[(3, (1_000_001, 0)), (4, (0, 1_441))]), "refused 18 3", "item 0 0"),
-        (with(&[(3, (0, 1_441)), (4, (i32::MIN, 0))]), "refused 5 3", "item 0 0"),
+        (with(&[(3, (0, 1_441)), (4, (i32::MIN + 1, 0))]), "refused 5 3", "item 0 0"),
         (with(&[(0, (i32::MAX, 65_535))]), "refused 5 0", "item 2147483647 65535"),
         (
             with(&[(0, (-1_000_000, 1_440)), (4, (1_000_000, 1_440))]),
@@ -204,7 +204,7 @@ fn proof_and_matrix() -> Result<(), String> {
     answers("matrix", &mut with_file(&matrix), &[([56, 0, 0, 0], "refused 2")])
 }
 
-fn with_file(bytes: &[u8]) -> Tool {
+pub fn with_file(bytes: &[u8]) -> Tool {
     let mut tool = Tool::new(Program::Files);
     tool.file = bytes.to_vec();
     tool

@@ -77,3 +77,6 @@ pub mod BatchOpenings
 pub mod Batches
 pub mod ExampleKept
 pub mod Examples
+pub mod Unmarked
+pub mod Marked
+pub mod InstanceMarks

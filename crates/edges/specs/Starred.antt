@@ -1,5 +1,5 @@
--- Document 01, "Edges": the starred cases, each a row of one table, in its order. To the left of `is` stands a case, whose numbers
--- come from the definitions that the contracts cite; to the right what document 01 states.
+-- Document 01, "Edges": the starred cases, each a row of one table, in its order; its case for -32,768 ended with document 02, (d). To the
+-- left of `is` stands a case, whose numbers come from the definitions that the contracts cite; to the right what document 01 states.
 use Prim.Native.Nat.{ℕ, zero, suc, _-_}
 use mathlib.Core.Path.{_≡_, refl}
 use mathlib.Core.Bool.{true}
@@ -16,6 +16,7 @@ use Rattle.vector.specs.Opening.{tripleValues, opening}
 use Rattle.verifier.specs.Trips.{claimAt}
 use Rattle.item.specs.declared.Given.{Given}
 use Rattle.item.specs.declared.Given.the-variants.{Reading}
+use Rattle.item.specs.Mark.{isMark}
 use Rattle.item.specs.Start.{plainStart}
 use Rattle.runs.specs.Trip.{Trip, vectorF, vectorG, sumOf, totalOf}
 
@@ -113,7 +114,6 @@ table item =
     ∷ 2147483197 ∷ 2147483037 ∷ 2147483237
     ∷ 70 ∷ 2147483637 ∷ 70
     ∷ 60 ∷ 40 ∷ 65 ∷ [])
-    ∷ (readingOf (minus 32768) is 2147450879 ∷ [])
     ∷ (readingOf (minus 1) is (P - 1) ∷ [])
     ∷ (half 1 is 1073741824 ∷ [])
     ∷ (rounds 1 is 0 ∷ [])
@@ -123,5 +123,5 @@ table item =
     ∷ []
 
 pub starred : (item : Given) → map left (table item) ≡ map right (table item)
-unfolding inOrder claimAt powers firstFrom tripleValues foldWith sum sumOf image residue addMod negMod mulMod halfOne halfMod
+unfolding inOrder claimAt powers firstFrom tripleValues foldWith sum sumOf isMark image residue addMod negMod mulMod halfOne halfMod
 starred item = refl

@@ -12,7 +12,6 @@ use prover::Run;
 use prover::Step;
 
 pub(crate) fn lines() {
-    reading(-32768);
     reading(-1);
     half(Field::ONE);
     rounds(b"* rounds", 1);

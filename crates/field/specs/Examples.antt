@@ -1,4 +1,4 @@
--- Document 01's starred cases about numbers.
+-- Numbers of document 01's starred cases, and at the ends of the widths that readings come in.
 use Prim.Native.Nat.{ℕ, _-_}
 use mathlib.Core.Path.{_≡_, refl}
 use mathlib.Core.Bool.{true, false}
@@ -10,10 +10,6 @@ use Rattle.field.specs.Total.{limit, inLimits}
 
 abbrev P : ℕ
 P = 2147483647
-
-pub lowest-reading : image P (negsuc 32767) ≡ 2147450879
-unfolding image negMod residue
-lowest-reading = refl
 
 pub reading-minus-one : image P (negsuc 0) ≡ P - 1
 unfolding image negMod residue
@@ -33,7 +29,12 @@ pub reading-minus-18000 : image P (negsuc 17999) ≡ 2147465647
 unfolding image negMod residue
 reading-minus-18000 = refl
 
--- the ends of 32 bits, where a reading is not its own sign: P is 0, and -2^31 is -1
+-- the least number of 16 bits
+pub least-half-word : image P (negsuc 32767) ≡ 2147450879
+unfolding image negMod residue
+least-half-word = refl
+
+-- the ends of 32 bits, where a number is not its own sign: P is 0, and -2^31 is -1
 pub greatest-word : image P (pos 2147483647) ≡ 0
 unfolding image residue
 greatest-word = refl

@@ -48,6 +48,9 @@ pub fn batches(script: &mut Script) {
         script.call(64, k, point);
     }
     check(script, &logs, &openings);
+    if script.random.chance(500) {
+        of_neither_version(script, &logs);
+    }
 }
 
 impl Logs {
@@ -75,11 +78,15 @@ impl Logs {
 fn fill(script: &mut Script, logs: &Logs) {
     for (slot, bytes) in logs.bytes.iter().enumerate() {
         if script.tool.slots[slot] != *bytes {
-            script.call(60, slot as u64, 0);
-            for &byte in bytes {
-                script.call(61, slot as u64, byte as u64);
-            }
+            write(script, slot as u64, bytes);
         }
+    }
+}
+
+fn write(script: &mut Script, slot: u64, bytes: &[u8]) {
+    script.call(60, slot, 0);
+    for &byte in bytes {
+        script.call(61, slot, byte as u64);
     }
 }
 
@@ -151,6 +158,18 @@ fn open(script: &mut Script, logs: &Logs) -> Openings {
     plan.full = [vec![false; rounds + 1], modes].concat();
     plan.openings = script.random.between(1, 3) as usize;
     go_on(script, &mut plan)
+}
+
+/// A log that names neither version has the items of version 1, marks too.
+fn of_neither_version(script: &mut Script, logs: &Logs) {
+    let random = &mut script.random;
+    let (slot, items) = (random.below(logs.count), random.between(1, 8));
+    let mut bytes = log(random, 1, items);
+    bytes[3..5].copy_from_slice(&random.pick(&[0u16, 3, 257, 258]).to_le_bytes());
+    write(script, slot, &bytes);
+    for i in 0..items {
+        script.call3(63, logs.count, logs.z, i);
+    }
 }
 
 /// By a verifier of the same n: plain, or one whose twists are ones.

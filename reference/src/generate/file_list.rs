@@ -4,7 +4,8 @@ use super::noise::{foreign, RUN_OPS};
 use super::rule_list::random_matrix;
 use super::script::Script;
 use crate::field::P;
-use crate::files::{item_size, layout_named, write_log, write_matrix, write_proof, Proof};
+use crate::files::{item_size, items_as_given, layout_named, mark, Proof};
+use crate::files::{write_items, write_log, write_matrix, write_proof};
 use crate::random::Random;
 
 pub fn files(script: &mut Script) {
@@ -54,7 +55,7 @@ pub fn spoil_log(random: &mut Random, log: &mut [u8]) {
     spoil_items(random, version, log.get_mut(7..).unwrap_or_default());
 }
 
-/// Weights and readings of one item, or of two next to each other, past their limits.
+/// One item, or two next to each other.
 pub fn spoil_items(random: &mut Random, version: u64, bytes: &mut [u8]) {
     let items = bytes.chunks_exact_mut(item_size(version));
     let first = random.below(items.len().max(1) as u64) as usize;
@@ -63,16 +64,20 @@ pub fn spoil_items(random: &mut Random, version: u64, bytes: &mut [u8]) {
     }
 }
 
-/// Two bytes of a version 1 reading hold none past its limits.
+/// Its reading or its weight past the limits, both, or its weight at a mark. Two bytes of version 1
+/// hold its readings and its mark alone, so that there the weight always is.
 fn spoil_item(random: &mut Random, version: u64, item: &mut [u8]) {
-    let weight_at = item.len() - 2;
-    let which = random.below(3);
-    if which != 0 || version == 1 {
-        item[weight_at..].copy_from_slice(&random.weight_over().to_le_bytes());
+    let (mut reading, mut weight) = items_as_given(version, item)[0];
+    let way = random.below(8);
+    if way > 2 || version == 1 {
+        weight = random.weight_over();
     }
-    if which != 1 && version == 2 {
-        item[..4].copy_from_slice(&random.reading_outside(2).to_le_bytes());
+    match way {
+        0..=4 if version == 2 => reading = random.reading_outside(2),
+        5 => reading = mark(version),
+        _ => {}
     }
+    item.copy_from_slice(&write_items(version, &[(reading, weight)]));
 }
 
 /// Another version in the header, known or not: a log of versions 1 and 2 then has the length of the

@@ -1,7 +1,7 @@
 //! What one run is meant to be: its trip, its challenges, the modes of its steps, how unruly it is.
 
 use super::blocks::longest;
-use crate::files::{readings, Item};
+use crate::files::{mark, readings, Item};
 use crate::random::{usual_weight, Random};
 use crate::vector::{rounds_of, rule_twists};
 
@@ -158,11 +158,14 @@ fn full_from(step: usize) -> Vec<bool> {
     (0..=step).map(|k| k == step).collect()
 }
 
+/// Now and then of nothing but marks.
 pub fn plain_items(random: &mut Random, version: u64, count: usize) -> Vec<(u64, u64)> {
-    let extreme = count > 16 && random.chance(400);
+    let marked = random.chance(110);
+    let extreme = !marked && count > 16 && random.chance(500);
     let reading = random.pick(&[*readings(version).start(), *readings(version).end()]);
     let item = |random: &mut Random| match extreme && !random.chance(20) {
         true => (in_record(reading), usual_weight(version) as u64),
+        false if marked => (in_record(mark(version)), random.weight(version) as u64),
         false => (in_record(random.reading(version)), random.weight(version) as u64),
     };
     (0..count).map(|_| item(random)).collect()

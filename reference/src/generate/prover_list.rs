@@ -6,6 +6,7 @@ use super::noise;
 use super::plan::{field_items, from_record, in_record, plain_items, Kind, Plan};
 use super::script::Script;
 use crate::field::{from_signed, is_reduced, mul};
+use crate::files::entered;
 use crate::replay::PLACES;
 use crate::state::{Aim, Mode, Next, Run};
 use crate::table::{change_level, fold_size};
@@ -246,7 +247,7 @@ fn lend_fold_0(script: &mut Script, plan: &Plan) {
     for i in 0..size.min(PLACES) {
         let (a, g) = *plan.items.get(i).unwrap_or(&(0, 0));
         let a = match plan.plain() {
-            true => from_signed(from_record(&(a, g)).0 as i64),
+            true => from_signed(entered(plan.version(), from_record(&(a, g)).0)),
             false => a,
         };
         let f = mul(twist_of(&twists, i), a);

@@ -1,6 +1,6 @@
 //! What a comparison of logs and runs of two versions has to meet, counted as the calls are made.
 
-use crate::files::{item_size, items_as_given, layout_named, log_item, readings, Item};
+use crate::files::{is_taken, item_size, items_as_given, layout_named, log_item, Item};
 use crate::random::EDGE_READINGS;
 use crate::replay::{Record, Tool};
 use crate::state::{Aim, Run};
@@ -69,10 +69,7 @@ impl Reached {
     pub fn note(&mut self, tool: &Tool, record: Record, answer: &str) {
         let [op, a, b, c] = record;
         let answer = answer.trim_end();
-        let version = match op < 30 {
-            true => tool.run.as_ref().map_or(0, |run| run.version),
-            false => tool.verifier.as_ref().map_or(0, |verifier| verifier.version),
-        };
+        let version = version_of(tool, op);
         let side = if op < 30 { "prover's" } else { "verifier's" };
         let slot = tool.slots.get(a as usize).map_or(&[][..], |bytes| bytes);
         if matches!(op, 15 | 26) && answer.starts_with("refused 18") && is_lent_short(tool) {
@@ -261,7 +258,7 @@ impl Reached {
     }
 }
 
-const SIDES: [&str; 2] = ["prover's", "verifier's"];
+pub const SIDES: [&str; 2] = ["prover's", "verifier's"];
 
 fn wanted() -> Vec<String> {
     let of_side = |side: &str| ON_BOTH_SIDES.map(|what| format!("{side} {what}"));
@@ -283,18 +280,26 @@ fn edge(side: &str, version: u64, reading: i32) -> String {
     format!("{side} reading {reading} in version {version}")
 }
 
+/// Of the run or the verifier that a call is made on; 0 for one that is told none.
+pub fn version_of(tool: &Tool, op: u32) -> u64 {
+    match op < 30 {
+        true => tool.run.as_ref().map_or(0, |run| run.version),
+        false => tool.verifier.as_ref().map_or(0, |verifier| verifier.version),
+    }
+}
+
 /// 0 for an answer that is no refusal.
-fn number_of(answer: &str) -> u32 {
+pub fn number_of(answer: &str) -> u32 {
     let number = answer.strip_prefix("refused ").and_then(|rest| rest.split(' ').next());
     number.map_or(0, |number| number.parse().unwrap())
 }
 
-fn heavy((_, weight): Item) -> bool {
+pub fn heavy((_, weight): Item) -> bool {
     weight > 1_440
 }
 
 fn outside(version: u64, (reading, _): Item) -> bool {
-    !readings(version).contains(&reading)
+    !is_taken(version, reading)
 }
 
 /// In a pass that changes the mode, with a buffer shorter than the fold.

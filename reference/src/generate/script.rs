@@ -1,6 +1,7 @@
 //! Records as they are written, with the reference's answer to each.
 
 use super::blocks::Counts;
+use super::marks::Marks;
 use super::reached::Reached;
 use super::returns::Returns;
 use crate::random::Random;
@@ -16,6 +17,7 @@ pub struct Script {
     pub blocks: Counts,
     pub reached: Reached,
     pub returns: Returns,
+    pub marks: Marks,
     /// The slot that is filled next.
     slot: usize,
 }
@@ -31,6 +33,7 @@ impl Script {
             blocks: Counts::default(),
             reached: Reached::default(),
             returns: Returns::default(),
+            marks: Marks::default(),
             slot: 0,
         }
     }
@@ -44,6 +47,7 @@ impl Script {
         let answer = self.tool.step(record);
         self.reached.note(&self.tool, record, &answer);
         self.returns.note(&self.tool, record, &answer);
+        self.marks.note(&self.tool, record, &answer);
         self.records.push(record);
         self.answers.push(answer);
         self.answers.last().unwrap().trim_end()

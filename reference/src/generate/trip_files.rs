@@ -3,7 +3,7 @@
 use super::file_list::{damage, spoil_log};
 use super::plan::{from_record, light_items, plain_items};
 use crate::field::{within_limits, P};
-use crate::files::{write_log, Item};
+use crate::files::{mark, write_log, Item};
 use crate::random::Random;
 use crate::vector::{plain_vectors, rounds_of};
 
@@ -30,9 +30,13 @@ pub fn trip_files(random: &mut Random) -> TripFiles {
         false => plain_items(random, version, items as usize),
     };
     let mut trip: Vec<Item> = trip.iter().map(from_record).collect();
+    // Of nothing but marks, long ones too.
+    if random.chance(80) {
+        trip.iter_mut().for_each(|item| item.0 = mark(version));
+    }
     let rounds = rounds_of(trip.len());
     let mut numbers: Vec<u32> = (0..=rounds).map(|_| random.usable() as u32).collect();
-    let large = !within_limits(plain_vectors(&trip).2);
+    let large = !within_limits(plain_vectors(version, &trip).2);
     if damaged && random.chance(300) || large && random.chance(300) {
         let place = random.below(rounds as u64 + 1) as usize;
         numbers[place] = random.pick(&[0, P as u32, P as u32 + 1, u32::MAX]);

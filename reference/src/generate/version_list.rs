@@ -5,7 +5,7 @@ use super::blocks::Taker;
 use super::file_list::{read_log, rename, spoil_items, spoil_log};
 use super::plan::{from_record, in_record, light_items};
 use super::script::Script;
-use crate::files::{write_items, write_log, Item};
+use crate::files::{mark, write_items, write_log, Item};
 use crate::random::EDGE_READINGS;
 use crate::vector::rounds_of;
 
@@ -24,7 +24,7 @@ pub fn runs(script: &mut Script) {
     let trip = Trip { version, items, challenges };
     (0..3).for_each(|_| refused_start(script, &trip));
     start(script, &trip);
-    for _ in 0..script.random.between(3, 6) {
+    for _ in 0..script.random.between(3, 8) {
         for taker in [Taker::Run, Taker::Verifier] {
             item_at_limits(script, taker);
             spoiled_block(script, &trip, taker);
@@ -63,8 +63,12 @@ fn start(script: &mut Script, trip: &Trip) {
     script.call(13, 0, 0);
 }
 
+/// More often than by chance with a mark, of its own version or of the other.
 fn item_at_limits(script: &mut Script, taker: Taker) {
-    let reading = script.random.pick(&EDGE_READINGS);
+    let reading = match script.random.chance(150) {
+        true => script.random.pick(&[mark(1), mark(2)]),
+        false => script.random.pick(&EDGE_READINGS),
+    };
     let weight = script.random.pick(&[0, 1, 1_440, 1_441, 65_535]);
     let op = if taker == Taker::Run { 15 } else { 33 };
     script.call(op, in_record(reading), weight);
