@@ -6,7 +6,7 @@ use Prim.Native.Nat.{ℕ, zero, suc, _+_, _<_}
 use native.Mathlib.Omega.{arith}
 use lib.IntN.{pos}
 use lib.ListN.{replicate}
-use Rattle.refusal.specs.Outcome.{answered, requireAll}
+use Rattle.refusal.specs.Outcome.{requireAll}
 use Rattle.field.specs.Modulus.{modulus}
 use Rattle.field.proofs.ModulusLaws.{modulus-weights, modulus-prime, modulus-odd, modulus-word}
 use Rattle.vector.specs.Rounds.{powers, firstFrom}
@@ -33,25 +33,20 @@ abbrev thousandths : List ℕ
 thousandths =
     82 ∷ 86 ∷ 76 ∷ 2 ∷ 0 ∷ 3 ∷ 0 ∷ 0 ∷ 0 ∷ 0 ∷ 128 ∷ 10 ∷ 0 ∷ 0 ∷ 0 ∷ 0 ∷ 128 ∷ 20 ∷ 0 ∷ 0 ∷ 0 ∷ 0 ∷ 128 ∷ 5 ∷ 0 ∷ []
 
+of-three : (A : ℕ → Type 0) → A 0 → A 1 → A 2 → (i : ℕ) → i < 3 → A i
+of-three A x y z zero h = x
+of-three A x y z (suc zero) h = y
+of-three A x y z (suc (suc zero)) h = z
+of-three A x y z (suc (suc (suc i))) h = absurd (omega arith)
+
 tenths-marked : AllMarked (logTrip tenths)
 unfolding readLogWithin marked requireAll numAt num signed inRange isMark
-tenths-marked = log-marked tenths (record { count = 3; version = 1 }) refl all
-  where
-    all : (i : ℕ) → i < 3 → isMark 1 (readingOf tenths i) ≡ true
-    all zero h = refl
-    all (suc zero) h = refl
-    all (suc (suc zero)) h = refl
-    all (suc (suc (suc i))) h = absurd (omega arith)
+tenths-marked = log-marked tenths (record { count = 3; version = 1 }) refl (of-three (λ i. isMark 1 (readingOf tenths i) ≡ true) refl refl refl)
 
 thousandths-marked : AllMarked (logTrip thousandths)
 unfolding readLogWithin marked requireAll numAt num signed inRange isMark
-thousandths-marked = log-marked thousandths (record { count = 3; version = 2 }) refl all
-  where
-    all : (i : ℕ) → i < 3 → isMark 2 (readingOf thousandths i) ≡ true
-    all zero h = refl
-    all (suc zero) h = refl
-    all (suc (suc zero)) h = refl
-    all (suc (suc (suc i))) h = absurd (omega arith)
+thousandths-marked =
+    log-marked thousandths (record { count = 3; version = 2 }) refl (of-three (λ i. isMark 2 (readingOf thousandths i) ≡ true) refl refl refl)
 
 -- four places, which hold something else at each call
 abbrev idle : Call → ℕ → Lent
