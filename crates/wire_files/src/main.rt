@@ -61,7 +61,7 @@ const FINE: [u8; 25] = [
     0,
 ];
 
-// Readings -32,768 and 32,767, weights 1,440 and 0.
+// The mark and the greatest reading, -32,768 and 32,767, with weights 1,440 and 0.
 const EDGE: [u8; 15] = [82, 86, 76, 1, 0, 2, 0, 0, 128, 160, 5, 255, 127, 0, 0];
 
 // The trip's proof: n 2, total -5100, two messages and the end values.
