@@ -24,7 +24,7 @@ use Rattle.runs.specs.Trip.{Trip, tripItem, entersAs, vectorF, vectorG, sumOf, 
 use Rattle.r1cs.proofs.RuleTotals.{padded-same}
 use Rattle.calls.specs.BatchTrip.{logTrip}
 use Rattle.calls.specs.Meaning.{messagesTo, proofOfTrip}
-use Rattle.calls.proofs.RuleTrips.{items-at}
+use Rattle.calls.proofs.RuleTrips.{items-length, items-at}
 
 -- WITHOUT THE MARK
 abbrev pub NotMarked : ℕ → Given → Type 0
@@ -114,7 +114,16 @@ module _ (p : ℕ) (T : Trip) where
       ∙ ap₂ (λ t f. fileOf p (T .start .rounds) t f (vectorG p T) cs) (unmarked-total T whole h) (unmarked-f h)
       ∙ ap (λ g. fileOf p (T .start .rounds) (ordinaryTotal T) (ordinaryF p T) g cs) weights-same
 
--- the trip of a log without the mark
-pub log-unmarked : (log : List ℕ) → NoMark log → Unmarked (logTrip log)
-log-unmarked log none i less =
-    rw (items-at (λ i. Reading (readingOf log i) (weightOf log i)) (logCount log) i less) (none i less)
+-- OF A LOG WITHOUT THE MARK: its trip, total and proof file
+module _ (log : List ℕ) (none : NoMark log) where
+  abbrev item : ℕ → Given
+  item i = Reading (readingOf log i) (weightOf log i)
+
+  pub log-unmarked : Unmarked (logTrip log)
+  log-unmarked i less = rw (items-at item (logCount log) i less) (none i less)
+
+  pub log-total : totalOf (logTrip log) ≡ ordinaryTotal (logTrip log)
+  log-total = unmarked-total (logTrip log) (items-length item 0 (logCount log)) log-unmarked
+
+  pub log-file : (p : ℕ) (cs : List ℕ) → proofOfTrip p (logTrip log) cs ≡ ordinaryFile p (logTrip log) cs
+  log-file p = unmarked-file p (logTrip log) (items-length item 0 (logCount log)) log-unmarked
