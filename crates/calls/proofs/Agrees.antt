@@ -32,7 +32,7 @@ use Rattle.runs.specs.Passes.{passAfter, Gives}
 use Rattle.runs.proofs.PassTrip.{after-given, after-changing}
 use Rattle.calls.specs.State.{State}
 use Rattle.calls.specs.Table.{long}
-use Rattle.calls.specs.Meaning.{messageAt, messagesTo, foldF, foldG}
+use Rattle.calls.specs.Meaning.{messageAt, messagesOf, messagesTo, foldF, foldG}
 use Rattle.calls.specs.Statement.{known}
 use Rattle.calls.proofs.Records.{Notes, runOf}
 use Rattle.calls.proofs.Arrays.{array-at}
@@ -65,7 +65,7 @@ message-before p T cs ds i same =
     (λ k l. fold-challenges (combine p) (at cs) (at ds) (vectorF p T) i same k) (λ k l. fold-challenges (combine p) (at cs) (at ds) (vectorG p T) i same k)
 
 pub messages-before : (p : ℕ) (T : Trip) (cs ds : List ℕ) (i : ℕ) → ((j : ℕ) → j < i → at cs j ≡ at ds j) → messagesTo p T cs (suc i) ≡ messagesTo p T ds (suc i)
-unfolding messagesTo
+unfolding messagesOf
 messages-before p T cs ds zero same = ap (λ m. [] ++ m .even ∷ m .cross ∷ m .odd ∷ []) (message-before p T cs ds zero same)
 messages-before p T cs ds (suc i) same =
     ap₂ (λ ms m. ms ++ m .even ∷ m .cross ∷ m .odd ∷ []) (messages-before p T cs ds i (λ j l. same j (omega arith))) (message-before p T cs ds (suc i) same)
@@ -79,7 +79,7 @@ new-challenge cs c = getD-append-seam cs c [] 0
 
 -- three numbers a message
 pub length-messages : (p : ℕ) (T : Trip) (cs : List ℕ) (k : ℕ) → length (messagesTo p T cs k) ≡ 3 * k
-unfolding messagesTo
+unfolding messagesOf
 length-messages p T cs zero = refl
 length-messages p T cs (suc k) =
     length-append (messagesTo p T cs k) (messageAt p T cs k .even ∷ messageAt p T cs k .cross ∷ messageAt p T cs k .odd ∷ [])

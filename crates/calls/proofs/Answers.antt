@@ -43,7 +43,7 @@ use Rattle.calls.specs.declared.Call.the-variants as call
 use Rattle.calls.specs.Step.{Lent, Result, isAnswered, leaving, step}
 use Rattle.calls.specs.State.{State, fresh, takesGiven, takesChallenge, buffersIn, goesOn, closed, follow}
 use Rattle.calls.specs.Table.{Refusal, passWaits, openingsNext, passLevel, taken, table}
-use Rattle.calls.specs.Meaning.{meant, closeAsks, foldF, foldG, messagesTo, AsLeft, challengeWrites, Kept}
+use Rattle.calls.specs.Meaning.{meant, closeAsks, foldF, foldG, messagesOf, AsLeft, challengeWrites, Kept}
 use Rattle.calls.specs.Statement.{HasStacks, Stacks, Holds, Right}
 use Rattle.calls.specs.World.{Made, World, freshWorld, came, onward}
 use Rattle.calls.specs.Lists.{along, always}
@@ -287,7 +287,7 @@ module _ (p : ℕ) (large : maxWeight < p) (through : Bool) (T : Trip) (whole : 
 
   -- nothing is known of the buffers of a fresh run
   pub fresh-agrees : (f g : List ℕ) → Agrees p through (T .items) (fresh (T .start) f g) noNotes
-  unfolding messagesTo
+  unfolding messagesOf
   fresh-agrees f g =
       record {
         gives = λ q h. absurd (omega arith);

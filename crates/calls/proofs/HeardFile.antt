@@ -21,7 +21,7 @@ use Rattle.verifier.specs.ProofFile.{fileMessage}
 use Rattle.verifier.proofs.PlainFiles.{Lists}
 use Rattle.runs.specs.Trip.{Trip, tripItem, vectorF, vectorG, totalOf}
 use Rattle.runs.proofs.CloseLaws.{residue-below}
-use Rattle.calls.specs.Meaning.{messageAt, messagesTo, proofOfTrip}
+use Rattle.calls.specs.Meaning.{messageAt, messagesOf, messagesTo, proofOfTrip}
 use Rattle.calls.proofs.HeardTrip.{Fine, below-suc, end-f, end-g}
 use Rattle.calls.proofs.Agrees.{length-messages}
 
@@ -49,7 +49,7 @@ same-message {m = m} x y z = rw (x, y, z)
 
 module _ (p : ℕ) (T : Trip) (cs : List ℕ) where
   lists-messages : (k : ℕ) → Lists k (messageAt p T cs) (messagesTo p T cs k)
-  unfolding messagesTo
+  unfolding messagesOf
   lists-messages zero r h = absurd (omega arith)
   lists-messages (suc k) r h =
       let xs = messagesTo p T cs k in

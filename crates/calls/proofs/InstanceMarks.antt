@@ -1,11 +1,10 @@
 -- Logs of three marks, weights 10, 20 and 5, in each version: what is said of nothing but marks is said of these.
-use mathlib.Core.Path.{_≡_, refl, sym}
+use mathlib.Core.Path.{_≡_, refl}
 use mathlib.Core.Bool.{Bool, true}
 use mathlib.Core.List.{List, [], _∷_}
-use Prim.Native.Nat.{ℕ, zero, suc, _+_, _<_}
+use Prim.Native.Nat.{ℕ, zero, suc, _<_}
 use native.Mathlib.Omega.{arith}
 use lib.IntN.{pos}
-use lib.ListN.{replicate}
 use Rattle.refusal.specs.Outcome.{requireAll}
 use Rattle.field.specs.Modulus.{modulus}
 use Rattle.field.proofs.ModulusLaws.{modulus-weights, modulus-prime, modulus-odd, modulus-word}
@@ -16,14 +15,13 @@ use Rattle.wire.specs.Log.{readingOf, readLogWithin}
 use Rattle.item.specs.Version.{inRange}
 use Rattle.item.specs.Mark.{isMark}
 use Rattle.runs.specs.Trip.{Trip, totalOf}
-use Rattle.calls.specs.declared.Call.{Call}
-use Rattle.calls.specs.Step.{Lent}
-use Rattle.calls.specs.World.{freshWorld}
+use Rattle.calls.specs.World.{Made, World, freshWorld}
 use Rattle.calls.specs.QueryState.{freshHearing}
-use Rattle.calls.specs.Proper.{AllNonzero, Brings, properRun}
+use Rattle.calls.specs.Proper.{properRun}
 use Rattle.calls.specs.Carried.{byMessages}
 use Rattle.calls.specs.BatchTrip.{logTrip}
 use Rattle.calls.specs.Demand3.{AllProper, AllAgreed}
+use Rattle.calls.proofs.LiveExample.{P, idle, brings}
 use Rattle.calls.proofs.Marked.{AllMarked, log-marked, marked-total, marked-proper, marked-accepted}
 
 abbrev tenths : List ℕ
@@ -48,37 +46,20 @@ unfolding readLogWithin marked requireAll numAt num signed inRange isMark
 thousandths-marked =
     log-marked thousandths (record { count = 3; version = 2 }) refl (of-three (λ i. isMark 2 (readingOf thousandths i) ≡ true) refl refl refl)
 
--- four places, which hold something else at each call
-abbrev idle : Call → ℕ → Lent
-idle c j = record { f = replicate 4 (modulus + j); g = replicate 4 (modulus + j); file = [] }
-
 -- in a run with the challenges 2 and 3 and the point 2 every call is answered, and its verifier says yes
 abbrev Proved : Trip → (ℕ → Bool) → List ℕ → List ℕ → Type 0
 Proved T full f g =
-    AllProper modulus (2 ∷ 3 ∷ []) T (freshWorld (T .start) f g) (properRun modulus T full (2 ∷ 3 ∷ []) (2 ∷ []) idle f g)
-    × AllAgreed modulus (freshHearing (T .start) (2 ∷ 3 ∷ []))
-    (byMessages modulus T (freshWorld (T .start) f g) (properRun modulus T full (2 ∷ 3 ∷ []) (2 ∷ []) idle f g))
+    let begin : World = freshWorld (T .start) f g in
+    let run : List Made = properRun P T full (2 ∷ 3 ∷ []) (2 ∷ []) idle f g in
+    AllProper P (2 ∷ 3 ∷ []) T begin run × AllAgreed P (freshHearing (T .start) (2 ∷ 3 ∷ [])) (byMessages P T begin run)
 
-module _ (T : Trip) (all : AllMarked T) (rounds : T .start .rounds ≡ 2) (full : ℕ → Bool) (f g : List ℕ) where
-  brings : Brings modulus T full (2 ∷ 3 ∷ []) (2 ∷ []) idle
-  unfolding modulus
-  brings =
-      record { count = sym rounds; challenges = two; points = one; room = λ i most e j. rw rounds (omega arith, omega arith) }
-    where
-      two : AllNonzero modulus (2 ∷ 3 ∷ [])
-      two zero h = refl
-      two (suc zero) h = refl
-      two (suc (suc j)) h = absurd (omega arith)
-
-      one : AllNonzero modulus (2 ∷ [])
-      one zero h = refl
-      one (suc j) h = absurd (omega arith)
-
-  proved : Proved T full f g
-  proved = (
-    marked-proper T all modulus modulus-weights modulus-prime modulus-odd modulus-word full (2 ∷ 3 ∷ []) (2 ∷ []) idle brings f g,
-    marked-accepted T all modulus modulus-weights modulus-prime modulus-odd modulus-word full (2 ∷ 3 ∷ []) (2 ∷ []) idle brings f g .1,
-  )
+proved : (T : Trip) → AllMarked T → T .start .rounds ≡ 2 → (full : ℕ → Bool) (f g : List ℕ) → Proved T full f g
+unfolding modulus
+proved T all rounds full f g =
+    let b = brings T rounds full in (
+      marked-proper T all P modulus-weights modulus-prime modulus-odd modulus-word full (2 ∷ 3 ∷ []) (2 ∷ []) idle b f g,
+      marked-accepted T all P modulus-weights modulus-prime modulus-odd modulus-word full (2 ∷ 3 ∷ []) (2 ∷ []) idle b f g .1,
+    )
 
 -- total 0, by the law; provable in every choice of modes
 pub tenths-total : totalOf (logTrip tenths) ≡ pos 0

@@ -51,7 +51,7 @@ use Rattle.calls.specs.declared.query.Query.the-variants as query
 use Rattle.calls.specs.Lists.{after, each}
 use Rattle.calls.specs.declared.Call.{Call}
 use Rattle.calls.specs.Step.{Lent, step}
-use Rattle.calls.specs.Meaning.{says, messagesTo}
+use Rattle.calls.specs.Meaning.{says, messagesOf}
 use Rattle.calls.specs.World.{Made, World, freshWorld, came, onward}
 use Rattle.calls.specs.Begins.{total}
 use Rattle.calls.specs.QueryStep.{ask}
@@ -154,7 +154,7 @@ unfolding messagesFrom sumOf isMark
 single-list = refl
 
 pub single-file-list : wholeByFile P single [] (2 ∷ []) ≡ singleByFile
-unfolding messagesTo sumOf isMark foldWith image residue negMod bytes bits fileNumbers proofHeader
+unfolding messagesOf sumOf isMark foldWith image residue negMod bytes bits fileNumbers proofHeader
 single-file-list = refl
 
 pub single-told :

@@ -37,7 +37,7 @@ use Rattle.calls.specs.declared.Call.the-variants as call
 use Rattle.calls.specs.Step.{Lent, Result}
 use Rattle.calls.specs.State.{State, inPass, goesTo, withBuffers, inMode, takesChallenge, buffersIn, closed}
 use Rattle.calls.specs.Table.{changeWaits, levelNow, level, long, taken, completed, table}
-use Rattle.calls.specs.Meaning.{meant, roundMessage, ends, closeAsks, messagesTo, foldF, foldG, AsLeft, itemWrites}
+use Rattle.calls.specs.Meaning.{meant, roundMessage, ends, closeAsks, messagesOf, messagesTo, foldF, foldG, AsLeft, itemWrites}
 use Rattle.calls.specs.Statement.{known}
 use Rattle.calls.proofs.Records.{Notes, noted, runOf, passOf}
 use Rattle.calls.proofs.Steps.{row-passed, closeStep, does}
@@ -232,7 +232,7 @@ module _ (p : ℕ) (large : maxWeight < p) (through : Bool) (its : List Given) (
   -- a message was given: in small mode with the close, in full mode by its own call
   message-kept : a .start .plain ≡ true → a .turn .next ≡ next.Message → (even cross odd : ℕ) → answered (reply.message even cross odd) ≡ meant p T (a .turn .challenges) (roundMessage (length (a .turn .challenges))) .answer
       → past .messages ++ even ∷ cross ∷ odd ∷ [] ≡ messagesTo p T (a .turn .challenges) (suc (length (a .turn .challenges)))
-  unfolding messagesTo
+  unfolding messagesOf
   message-kept plain et even cross odd e =
       ap₂ _++_ (g .messages plain ∙ ap (λ t. messagesTo p T (a .turn .challenges) (givenAt (length (a .turn .challenges)) t)) et) (ap numbersIn e)
 

@@ -33,7 +33,7 @@ use Rattle.calls.specs.declared.Call.{Call}
 use Rattle.calls.specs.declared.Call.the-variants as call
 use Rattle.calls.specs.State.{State}
 use Rattle.calls.specs.Table.{table}
-use Rattle.calls.specs.Meaning.{Question, total, roundMessage, ends, openingAt, proof, done, closeAsks, question, Answer, meant, says, messageAt, messagesTo, proofOfTrip}
+use Rattle.calls.specs.Meaning.{Question, total, roundMessage, ends, openingAt, proof, done, closeAsks, question, Answer, meant, says, messageAt, messagesOf, messagesTo, proofOfTrip}
 use Rattle.calls.specs.World.{came}
 use Rattle.calls.proofs.Steps.{row-passed}
 use Rattle.calls.proofs.Turns.{both}
@@ -51,7 +51,7 @@ module _ (p : ℕ) (T : Trip) (cs ds : List ℕ) (same : (j : ℕ) → j < T .st
   end-same v = fold-challenges (combine p) (at ds) (at cs) v n same 0
 
   all-messages : (m : ℕ) → m ≤ n → messagesTo p T ds m ≡ messagesTo p T cs m
-  unfolding messagesTo
+  unfolding messagesOf
   all-messages zero h = refl
   all-messages (suc m) h = messages-before p T ds cs m (λ j less. same j (omega arith))
 

@@ -1,6 +1,6 @@
 -- Document 01's "One trip, whole" is such a run, whichever of its steps are made in full mode; its verifier agrees, by messages and by the 42
 -- bytes of its proof file.
-use mathlib.Core.Path.{refl}
+use mathlib.Core.Path.{_≡_, refl, sym}
 use mathlib.Core.Bool.{Bool, true}
 use mathlib.Core.List.{List, [], _∷_, _++_}
 use Prim.Native.Nat.{ℕ, zero, suc, _+_, _<_}
@@ -23,7 +23,7 @@ use Rattle.calls.specs.Carried.{byMessages, byFile, writesProof}
 use Rattle.calls.specs.Demand3.{AllProper, AllBringRun, AllAgreed}
 use Rattle.calls.proofs.Demand3.{demand3-31}
 
-abbrev P : ℕ
+abbrev pub P : ℕ
 P = 2147483647
 
 abbrev trip : Trip
@@ -44,11 +44,13 @@ valid = record { whole = record { start = record { version = refl; least = omega
     fits (suc (suc (suc i))) h = absurd (omega arith)
 
 -- four places, which hold something else at each call
-abbrev idle : Call → ℕ → Lent
+abbrev pub idle : Call → ℕ → Lent
 idle c j = record { f = replicate 4 (P + j); g = replicate 4 (P + j); file = [] }
 
-brings : (full : ℕ → Bool) → Brings P trip full (2 ∷ 3 ∷ []) (2 ∷ []) idle
-brings full = record { count = refl; challenges = two; points = one; room = λ i most e j. (omega arith, omega arith) }
+-- for any trip of two rounds
+pub brings : (T : Trip) → T .start .rounds ≡ 2 → (full : ℕ → Bool) → Brings P T full (2 ∷ 3 ∷ []) (2 ∷ []) idle
+brings T rounds full =
+    record { count = sym rounds; challenges = two; points = one; room = λ i most e j. rw rounds (omega arith, omega arith) }
   where
     two : AllNonzero P (2 ∷ 3 ∷ [])
     two zero h = refl
@@ -70,10 +72,10 @@ module _ (full : ℕ → Bool) (f g : List ℕ) where
   listens = freshHearing (trip .start) (2 ∷ 3 ∷ [])
 
   pub trip-proper : AllProper P (2 ∷ 3 ∷ []) trip begin run
-  trip-proper = demand3-31 .proper trip valid full (2 ∷ 3 ∷ []) (2 ∷ []) idle (brings full) f g
+  trip-proper = demand3-31 .proper trip valid full (2 ∷ 3 ∷ []) (2 ∷ []) idle (brings trip refl full) f g
 
   pub trip-agreed : AllAgreed P listens (byMessages P trip begin run) × AllBringRun P trip begin run listens (byMessages P trip begin run)
-  trip-agreed = let v = demand3-31 .verifierProper trip valid full (2 ∷ 3 ∷ []) (2 ∷ []) idle (brings full) f g in (v .1, v .2)
+  trip-agreed = let v = demand3-31 .verifierProper trip valid full (2 ∷ 3 ∷ []) (2 ∷ []) idle (brings trip refl full) f g in (v .1, v .2)
 
   abbrev into : Lent
   into = record { f = []; g = []; file = replicate 42 0 }
@@ -83,4 +85,4 @@ module _ (full : ℕ → Bool) (f g : List ℕ) where
 
   pub trip-file-agreed : AllAgreed P listens (byFile P trip begin run file) × AllBringRun P trip begin (run ++ writesProof into ∷ []) listens (byFile P trip begin run file)
   trip-file-agreed =
-      let v = demand3-31 .verifierProper trip valid full (2 ∷ 3 ∷ []) (2 ∷ []) idle (brings full) f g .3 refl into (omega arith) in (v .2, v .3)
+      let v = demand3-31 .verifierProper trip valid full (2 ∷ 3 ∷ []) (2 ∷ []) idle (brings trip refl full) f g .3 refl into (omega arith) in (v .2, v .3)

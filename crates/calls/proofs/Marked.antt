@@ -22,7 +22,7 @@ use Rattle.item.specs.declared.Start.{Start}
 use Rattle.item.specs.Mark.{isMark}
 use Rattle.item.specs.Item.{contributes}
 use Rattle.item.proofs.Marks.{mark-fits, marked-contributes}
-use Rattle.runs.specs.Trip.{Trip, tripItem, vectorF, worth, sumOf, totalOf}
+use Rattle.runs.specs.Trip.{Trip, tripItem, vectorF, sumOf, totalOf}
 use Rattle.batch.proofs.Laws.{log-good}
 use Rattle.calls.specs.declared.Call.{Call}
 use Rattle.calls.specs.Step.{Lent}
@@ -43,20 +43,17 @@ abbrev pub Marked : ℕ → Given → Type 0
 Marked version (Reading r w) = (isMark version r ≡ true) × (w ≤ maxWeight)
 Marked version (Numbers a b) = ⊥
 
+contributes-nothing : (p : ℕ) (s : Start) (x : Given) → Marked (s .version) x → (contributes p s x .f ≡ 0) × (contributes p s x .worth ≡ pos 0)
+contributes-nothing p s (Reading r w) m = let e = marked-contributes p s r w (m .0) in (ap (λ y. y .f) e, ap (λ y. y .worth) e)
+contributes-nothing p s (Numbers a b) m = absurd m
+
 -- "Such an item enters f as 0": so is it in fold 0 that a host lends
 pub mark-enters : (p : ℕ) (T : Trip) (i : ℕ) → T .start .plain ≡ true → i < T .start .items → Marked (T .start .version) (tripItem T i)
     → vectorF p T i ≡ 0
 mark-enters p T i plain less m =
-    ap₂ (λ b t. cond b (cond t (number (tripItem T i)) (mulMod p (number (tripItem T i)) (weight p (at (T .start .twists)) (T .start .rounds) i))) 0)
-    (lt-ltb i (T .start .items) less) plain
-    ∙ zero-so (tripItem T i) m
-  where
-    number : Given → ℕ
-    number x = contributes p (T .start) x .f
-
-    zero-so : (x : Given) → Marked (T .start .version) x → number x ≡ 0
-    zero-so (Reading r w) m = ap (λ y. y .f) (marked-contributes p (T .start) r w (m .0))
-    zero-so (Numbers a b) m = absurd m
+    let x = contributes p (T .start) (tripItem T i) .f in
+    ap₂ (λ b t. cond b (cond t x (mulMod p x (weight p (at (T .start .twists)) (T .start .rounds) i))) 0) (lt-ltb i (T .start .items) less) plain
+    ∙ contributes-nothing p (T .start) (tripItem T i) m .0
 
 -- A TRIP OF NOTHING BUT MARKS
 pub record AllMarked (T : Trip) : Type 0 where
@@ -79,17 +76,13 @@ log-marked log head good marks =
       items = λ i less. rw (items-at x (logCount log) i less) (marks i less, g .items i less .light);
     }
 
-module _ (T : Trip) (all : AllMarked T) where
-  sum-zero : (s : Start) (xs : List Given) → ((i : ℕ) → i < length xs → Marked (s .version) (getD xs i (Numbers 0 0))) → sumOf s xs ≡ pos 0
-  unfolding sumOf
-  sum-zero s [] h = refl
-  sum-zero s (x ∷ xs) h =
-      ap₂ _+ℤ_ (sum-zero s xs (λ i l. h (suc i) (omega arith))) (worthless x (h 0 (omega arith)))
-    where
-      worthless : (x : Given) → Marked (s .version) x → worth s x ≡ pos 0
-      worthless (Reading r w) m = ap (λ y. y .worth) (marked-contributes 0 s r w (m .0))
-      worthless (Numbers a b) m = absurd m
+sum-zero : (s : Start) (xs : List Given) → ((i : ℕ) → i < length xs → Marked (s .version) (getD xs i (Numbers 0 0))) → sumOf s xs ≡ pos 0
+unfolding sumOf
+sum-zero s [] h = refl
+sum-zero s (x ∷ xs) h =
+    ap₂ _+ℤ_ (sum-zero s xs (λ i l. h (suc i) (omega arith))) (contributes-nothing 0 s x (h 0 (omega arith)) .1)
 
+module _ (T : Trip) (all : AllMarked T) where
   -- ITS TOTAL IS 0
   pub marked-total : totalOf T ≡ pos 0
   marked-total = sum-zero (T .start) (T .items) (λ i l. all .items i (omega (arith, all .whole .items)))

@@ -2,16 +2,13 @@
 -- with no mark to look for, in either version.
 use mathlib.Core.Path.{_≡_, refl, ap, ap₂, _∙_}
 use mathlib.Core.Bool.{false}
-use mathlib.Core.List.{List, [], _∷_, _++_}
-use Prim.Native.Nat.{ℕ, zero, suc, _<_}
+use mathlib.Core.List.{List, [], _∷_}
+use Prim.Native.Nat.{ℕ, suc, _<_}
 use native.Mathlib.Omega.{arith}
 use lib.IntN.{ℤ, pos, _+ℤ_}
 use lib.ListN.{length, getD}
-use Rattle.vector.specs.Vector.{Vector, at, padded}
-use Rattle.vector.specs.Fold.{endValue}
-use Rattle.vector.specs.Message.{message}
+use Rattle.vector.specs.Vector.{Vector, padded}
 use Rattle.wire.specs.Log.{logCount, readingOf, weightOf}
-use Rattle.wire.specs.Proof.{proofFile}
 use Rattle.wire.proofs.Unmarked.{NoMark}
 use Rattle.item.specs.declared.Given.{Given}
 use Rattle.item.specs.declared.Given.the-variants.{Reading, Numbers}
@@ -23,7 +20,7 @@ use Rattle.item.proofs.Marks.{ordinaryItem, unmarked-contributes}
 use Rattle.runs.specs.Trip.{Trip, tripItem, entersAs, vectorF, vectorG, sumOf, totalOf}
 use Rattle.r1cs.proofs.RuleTotals.{padded-same}
 use Rattle.calls.specs.BatchTrip.{logTrip}
-use Rattle.calls.specs.Meaning.{messagesTo, proofOfTrip}
+use Rattle.calls.specs.Meaning.{fileOf, proofOfTrip}
 use Rattle.calls.proofs.RuleTrips.{items-length, items-at}
 
 -- WITHOUT THE MARK
@@ -51,15 +48,6 @@ ordinarySum (x ∷ xs) = ordinarySum xs +ℤ ordinary 0 x .worth
 
 abbrev pub ordinaryTotal : Trip → ℤ
 ordinaryTotal T = ordinarySum (T .items)
-
--- its proof file
-unfoldable pub messagesOf : ℕ → ℕ → Vector → Vector → List ℕ → ℕ → List ℕ
-messagesOf p n f g cs zero = []
-messagesOf p n f g cs (suc i) =
-    let m = message p n (at cs) f g i in messagesOf p n f g cs i ++ m .even ∷ m .cross ∷ m .odd ∷ []
-
-abbrev pub fileOf : ℕ → ℕ → ℤ → Vector → Vector → List ℕ → List ℕ
-fileOf p n total f g cs = proofFile n total (messagesOf p n f g cs n ++ endValue p (at cs) n f ∷ endValue p (at cs) n g ∷ [])
 
 abbrev pub ordinaryFile : ℕ → Trip → List ℕ → List ℕ
 ordinaryFile p T cs = fileOf p (T .start .rounds) (ordinaryTotal T) (ordinaryF p T) (ordinaryG p T) cs
@@ -93,25 +81,9 @@ module _ (p : ℕ) (T : Trip) where
       by (Reading r w) = refl
       by (Numbers a b) = refl
 
-  file-so : (cs : List ℕ) → proofOfTrip p T cs ≡ fileOf p (T .start .rounds) (totalOf T) (vectorF p T) (vectorG p T) cs
-  unfolding messagesTo messagesOf
-  file-so cs =
-      ap
-      (λ ms.
-      proofFile (T .start .rounds) (totalOf T)
-      (ms ++ endValue p (at cs) (T .start .rounds) (vectorF p T) ∷ endValue p (at cs) (T .start .rounds) (vectorG p T) ∷ []))
-      (all-so (T .start .rounds))
-    where
-      all-so : (i : ℕ) → messagesTo p T cs i ≡ messagesOf p (T .start .rounds) (vectorF p T) (vectorG p T) cs i
-      all-so zero = refl
-      all-so (suc i) =
-          let m = message p (T .start .rounds) (at cs) (vectorF p T) (vectorG p T) i in
-          ap (λ ms. ms ++ m .even ∷ m .cross ∷ m .odd ∷ []) (all-so i)
-
   pub unmarked-file : length (T .items) ≡ T .start .items → Unmarked T → (cs : List ℕ) → proofOfTrip p T cs ≡ ordinaryFile p T cs
   unmarked-file whole h cs =
-      file-so cs
-      ∙ ap₂ (λ t f. fileOf p (T .start .rounds) t f (vectorG p T) cs) (unmarked-total T whole h) (unmarked-f h)
+      ap₂ (λ t f. fileOf p (T .start .rounds) t f (vectorG p T) cs) (unmarked-total T whole h) (unmarked-f h)
       ∙ ap (λ g. fileOf p (T .start .rounds) (ordinaryTotal T) (ordinaryF p T) g cs) weights-same
 
 -- OF A LOG WITHOUT THE MARK: its trip, total and proof file

@@ -3,6 +3,7 @@ use Prim.Native.Nat.{ℕ, zero, suc, _+_, _-_, _^_, _<_}
 use mathlib.Core.Path.{_≡_}
 use mathlib.Core.Bool.{Bool, true, cond, not, _&&_, _||_}
 use mathlib.Core.List.{List, [], _∷_, _++_}
+use lib.IntN.{ℤ}
 use lib.ListN.{length}
 use Rattle.refusal.specs.Outcome.{Outcome, answered}
 use Rattle.wire.specs.Proof.{proofFile, proofSize}
@@ -101,6 +102,15 @@ AsLeft a l = (j : ℕ) → j < long a → (at (l .f) j ≡ at (a .buffers .f) j)
 abbrev pub bindsItem : Bool → State → Bool
 bindsItem through a = isChange (a .pass .kind) && (through || not (waits next.Openings (a .turn .next)))
 
+-- "message i" of each round so far, in the order of the file, and the proof file, of any two vectors
+unfoldable pub messagesOf : ℕ → ℕ → Vector → Vector → List ℕ → ℕ → List ℕ
+messagesOf p n f g cs zero = []
+messagesOf p n f g cs (suc i) =
+    messagesOf p n f g cs i ++ message p n (at cs) f g i .even ∷ message p n (at cs) f g i .cross ∷ message p n (at cs) f g i .odd ∷ []
+
+abbrev pub fileOf : ℕ → ℕ → ℤ → Vector → Vector → List ℕ → List ℕ
+fileOf p n t f g cs = proofFile n t (messagesOf p n f g cs n ++ endValue p (at cs) n f ∷ endValue p (at cs) n g ∷ [])
+
 module _ (p : ℕ) (T : Trip) where
   abbrev pub f : Vector
   f = vectorF p T
@@ -129,14 +139,12 @@ module _ (p : ℕ) (T : Trip) where
   abbrev pub meaning : State → Call → Answer
   meaning a c = meant (a .turn .challenges) (question a c)
 
-  -- "message i" of each round so far, in the order of the file
-  unfoldable pub messagesTo : List ℕ → ℕ → List ℕ
-  messagesTo cs zero = []
-  messagesTo cs (suc i) = messagesTo cs i ++ messageAt cs i .even ∷ messageAt cs i .cross ∷ messageAt cs i .odd ∷ []
+  abbrev pub messagesTo : List ℕ → ℕ → List ℕ
+  messagesTo cs i = messagesOf p n f g cs i
 
   -- the proof file of a whole run
   abbrev pub proofOfTrip : List ℕ → List ℕ
-  proofOfTrip cs = proofFile n (totalOf T) (messagesTo cs n ++ endValue p (at cs) n f ∷ endValue p (at cs) n g ∷ [])
+  proofOfTrip cs = fileOf p n (totalOf T) f g cs
 
   -- the trip's current fold, of f and of g
   abbrev pub foldF : State → Vector

@@ -9,7 +9,7 @@ use lib.IntN.{ℤ, pos, negsuc, natAbs, negℤ, subℕ, _+ℤ_, _*ℤ_}
 use lib.Signed.{ltZ}
 use borrow.Author.Tests.{le-ltb, ltb-true, ltb-false}
 use Rattle.algebra.specs.Mod.{base, residue, addMod, negMod, mulMod}
-use Rattle.algebra.proofs.Congruence.{Cong, cong-add, cong-eq, cong-mul, cong-reduced, cong-refl, cong-residue, cong-sym, cong-trans, add-cong, mul-cong, residue-lt, residue-small, residue-twice}
+use Rattle.algebra.proofs.Congruence.{Cong, cong-add, cong-eq, cong-mul, cong-reduced, cong-refl, cong-residue, cong-sym, cong-trans, add-cong, mul-cong, residue-lt, residue-small, residue-twice, residue-zero}
 use Rattle.algebra.proofs.Laws.{add-commutes, add-lt, mul-lt}
 use Rattle.algebra.proofs.Ring.{var, num, add, mul, neg, solve-cong, solve-from, vars, none, given}
 use Rattle.field.specs.Integer.{image, bySign}
@@ -26,6 +26,10 @@ module _ (p : ℕ) where
 
   pub image-residue : (z : ℤ) → residue p (image p z) ≡ image p z
   image-residue z = residue-small p (image p z) (image-lt z)
+
+  pub image-zero : image p (pos 0) ≡ 0
+  unfolding image
+  image-zero = residue-zero p
 
   pub image-pos : (n : ℕ) → Cong p (image p (pos n)) n
   unfolding image
