@@ -7,7 +7,7 @@ use native.Mathlib.Omega.{arith}
 use lib.ListN.{length, length-append, List·getD-append}
 use lib.Seq.{getD-append-seam}
 use borrow.Author.Tests.{ltb-true, eqb-true}
-use Rattle.vector.specs.Vector.{at}
+use Rattle.vector.specs.Vector.{at, dot}
 use Rattle.vector.specs.Rounds.{size}
 use Rattle.vector.specs.Fold.{combine, fold, endValue}
 use Rattle.vector.proofs.Rounds.{rounds-enough}
@@ -32,6 +32,7 @@ use Rattle.runs.specs.Passes.{passAfter, Gives}
 use Rattle.runs.proofs.PassTrip.{after-given, after-changing}
 use Rattle.calls.specs.State.{State}
 use Rattle.calls.specs.Table.{long}
+use Rattle.calls.specs.Claim.{amidRounds}
 use Rattle.calls.specs.Meaning.{messageAt, messagesOf, messagesTo, foldF, foldG}
 use Rattle.calls.specs.Statement.{known}
 use Rattle.calls.proofs.Records.{Notes, runOf}
@@ -57,6 +58,9 @@ pub record Agrees (p : ℕ) (through : Bool) (its : List Given) (a : State) (pas
   pub ends : a .start .plain ≡ true → waits next.Openings (a .turn .next) ≡ true
       → (past .fend ≡ endValue p (at (a .turn .challenges)) (a .start .rounds) (vectorF p (tripAt its a)))
       × (past .gend ≡ endValue p (at (a .turn .challenges)) (a .start .rounds) (vectorG p (tripAt its a)))
+  -- the message that the next challenge is for
+  pub last : waits next.Challenge (a .turn .next) ≡ true → past .running .message ≡ messageAt p (tripAt its a) (a .turn .challenges) (length (a .turn .challenges))
+  pub claim : amidRounds (a .turn .next) ≡ true → past .running .claim ≡ dot p (long a) (foldF p (tripAt its a) a) (foldG p (tripAt its a) a)
 
 -- A MESSAGE DEPENDS ON THE CHALLENGES BEFORE IT
 pub message-before : (p : ℕ) (T : Trip) (cs ds : List ℕ) (i : ℕ) → ((j : ℕ) → j < i → at cs j ≡ at ds j) → messageAt p T cs i ≡ messageAt p T ds i

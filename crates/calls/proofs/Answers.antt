@@ -72,34 +72,34 @@ module _ (p : ℕ) (large : maxWeight < p) (through : Bool) (its : List Given) (
   abbrev S : Pass
   S = passOf p a past
 
-  taken-noted : (b : State) (o : Outcome Reply) → o ≡ answered reply.taken → Agrees p through its b past → Agrees p through its b (noted past o)
-  taken-noted b o e r = subst (λ x. Agrees p through its b (noted past x)) (sym e) r
+  taken-noted : (x : Given) (b : State) (o : Outcome Reply) → o ≡ answered reply.taken → Agrees p through its b past → Agrees p through its b (noted p (call.Give x) past o)
+  taken-noted x b o e r = subst (λ y. Agrees p through its b (noted p (call.Give x) past y)) (sym e) r
 
   item-next : (x : Given) → Admitted p a x l → ItemKept p T through a x l
-      → (let o : Result = leaving l (takes p R S (contributes p (a .start) x) (l .f) (l .g)) in Agrees p through its (takesGiven a x (o .lent)) (noted past (o .answer)))
+      → (let o : Result = leaving l (takes p R S (contributes p (a .start) x) (l .f) (l .g)) in Agrees p through its (takesGiven a x (o .lent)) (noted p (call.Give x) past (o .answer)))
   item-next x q kept =
       let o : Result = leaving l (takes p R S (contributes p (a .start) x) (l .f) (l .g)) in
       let b = item-written-so p large through its a h g whole l x q (kept .0) in
-      taken-noted _ (o .answer) (takes-answer p R S (contributes p (a .start) x) (l .f) (l .g))
+      taken-noted x _ (o .answer) (takes-answer p R S (contributes p (a .start) x) (l .f) (l .g))
       (item-agrees p large through its a h g whole l x (o .lent) (a .pass .kind) refl (q .opened) (q .more) (kept .0) (h .pass .kind) (kept .1) (b .0) (b .1))
 
-  close-next : table p a call.Close l ≡ none → (let o : Result = does p R S call.Close l in Agrees p through its (goesOn a call.Close (o .lent)) (noted past (o .answer)))
+  close-next : table p a call.Close l ≡ none → (let o : Result = does p R S call.Close l in Agrees p through its (goesOn a call.Close (o .lent)) (noted p call.Close past (o .answer)))
   unfolding table
   close-next e =
       let q = row-passed (isOpen (a .pass .kind)) 10 _ e in
       let u = row-passed (eqb (length (a .pass .items)) (a .start .items)) 8 _ (q .1) in
       let r = right p large through its a h g whole l call.Close e tt in
-      subst (λ k. answerIn (closeStep R S (a .turn .next) k .answer) ≡ meant p T (a .turn .challenges) (closeAsks a (a .turn .next) (a .pass .kind)) .answer → Agrees p through its (closed a (a .turn .next) (a .pass .kind)) (noted past (answerIn (closeStep R S (a .turn .next) k .answer))))
+      subst (λ k. answerIn (closeStep p R S (a .turn .next) k .answer) ≡ meant p T (a .turn .challenges) (closeAsks a (a .turn .next) (a .pass .kind)) .answer → Agrees p through its (closed a (a .turn .next) (a .pass .kind)) (noted p call.Close past (answerIn (closeStep p R S (a .turn .next) k .answer))))
       (sym (kind-is p a h))
       (close-agrees p large through its a h g whole l (a .turn .next) (a .pass .kind) refl refl (q .0) (h .pass .kind) (eqb-true _ _ (u .0))) (r .answer)
 
-  message-next : table p a call.Message l ≡ none → AsLeft a l → (let o : Result = does p R S call.Message l in Agrees p through its (goesOn a call.Message (o .lent)) (noted past (o .answer)))
+  message-next : table p a call.Message l ≡ none → AsLeft a l → (let o : Result = does p R S call.Message l in Agrees p through its (goesOn a call.Message (o .lent)) (noted p call.Message past (o .answer)))
   unfolding table messageGiven
   message-next e kept =
       let q = both (isFull (a .turn .mode)) (waits next.Message (a .turn .next)) (row-passed (isFull (a .turn .mode) && waits next.Message (a .turn .next)) 10 _ e .0) in
       full-message p large through its a h g whole l (waits-for next.Message (a .turn .next) (q .1)) (q .0) kept _ _ _ (right p large through its a h g whole l call.Message e kept .answer)
 
-  ends-next : table p a call.Ends l ≡ none → AsLeft a l → (let o : Result = does p R S call.Ends l in Agrees p through its (goesOn a call.Ends (o .lent)) (noted past (o .answer)))
+  ends-next : table p a call.Ends l ≡ none → AsLeft a l → (let o : Result = does p R S call.Ends l in Agrees p through its (goesOn a call.Ends (o .lent)) (noted p call.Ends past (o .answer)))
   unfolding table
   ends-next e kept =
       let q = both (isFull (a .turn .mode)) (waits next.Ends (a .turn .next)) (row-passed (isFull (a .turn .mode) && waits next.Ends (a .turn .next)) 10 _ e .0) in
@@ -109,7 +109,7 @@ module _ (p : ℕ) (large : maxWeight < p) (through : Bool) (its : List Given) (
   challengedResult c = challengedFull p R S c (l .f) (l .g)
 
   challenge-next : (c : ℕ) → table p a (call.Challenge c) l ≡ none → (isFull (a .turn .mode) ≡ true → AsLeft a l)
-      → (let o : Result = does p R S (call.Challenge c) l in Agrees p through its (goesOn a (call.Challenge c) (o .lent)) (noted past (o .answer)))
+      → (let o : Result = does p R S (call.Challenge c) l in Agrees p through its (goesOn a (call.Challenge c) (o .lent)) (noted p (call.Challenge c) past (o .answer)))
   unfolding table challengedFull
   challenge-next c e kept =
       let et = waits-for next.Challenge (a .turn .next) (row-passed (waits next.Challenge (a .turn .next)) 10 _ e .0) in
@@ -120,13 +120,13 @@ module _ (p : ℕ) (large : maxWeight < p) (through : Bool) (its : List Given) (
           → (let o : Result = leaving l (challengeDoes p R S c l m) in
           let z : ℕ × ℕ = challengeWrites a m in
           let b : State = buffersIn (isFull m) (takesChallenge a c) (o .lent) in
-          Written (foldF p T b) (z .0) (z .1) (l .f) (o .lent .f) → Written (foldG p T b) (z .0) (z .1) (l .g) (o .lent .g) → Agrees p through its b (noted past (o .answer)))
+          Written (foldF p T b) (z .0) (z .1) (l .f) (o .lent .f) → Written (foldG p T b) (z .0) (z .1) (l .g) (o .lent .g) → Agrees p through its b (noted p (call.Challenge c) past (o .answer)))
       by Small em et wf wg = challenge-agrees p large through its a h g whole l c l Small em et (λ f. absurd (true≢false (sym f)))
       by Full em et wf wg =
           let o : Result = leaving l (challengedResult c) in
           challenge-agrees p large through its a h g whole l c (o .lent) Full em et (λ f. (wf, wg))
 
-  pub agrees-next : (c : Call) → table p a c l ≡ none → KeptBy p T through a c l → (let o : Result = does p R S c l in Agrees p through its (goesOn a c (o .lent)) (noted past (o .answer)))
+  pub agrees-next : (c : Call) → table p a c l ≡ none → KeptBy p T through a c l → (let o : Result = does p R S c l in Agrees p through its (goesOn a c (o .lent)) (noted p c past (o .answer)))
   unfolding table openingGiven
   agrees-next call.OpenPass e kept =
       opened-agrees p large through its a h g whole l 0 (both (isSmall (a .turn .mode)) _ (row-passed (passWaits (a .turn .mode) (a .turn .next)) 10 none e .0) .0)
@@ -160,12 +160,13 @@ module _ (p : ℕ) (large : maxWeight < p) (through : Bool) (its : List Given) w
         g = taken-second p n c (passLevel a) (s .points) (vectorF p T) (vectorG p T) (few p a h) (t .0) (taken a) (kernelOf s) (t .1);
       })
 
-  holds-at : (a : State) {past : Notes} (r : Run) (s : Pass) → Inv p large a past r s → Agrees p through its a past → Holds p through (tripAt its a) a s
+  holds-at : (a : State) {past : Notes} (r : Run) (s : Pass) → Inv p large a past r s → Agrees p through its a past → Holds p through (tripAt its a) a r s
   holds-at a r s i g =
       record {
         stacks = λ e. subst (λ s. Stacks p (tripAt its a) a (kernelOf s)) (sym (i .pass)) (stacks-of a (i .fits) g e);
         placesF = g .placesF;
         placesG = g .placesG;
+        claim = λ w. ap (λ (r : Run). r .claim) (i .run) ∙ g .claim w;
       }
 
   -- ONE CALL
@@ -181,15 +182,15 @@ module _ (p : ℕ) (large : maxWeight < p) (through : Bool) (its : List Given) w
     right-so (some k) e kept free = absurd (some-none free)
 
     agrees-so : (t : Option Refusal) → table p a c l ≡ t → (isAnswered (came-to t .answer) ≡ true → Kept p U through a c l)
-        → Agrees p through its (follow a c (came-to t)) (noted past (came-to t .answer))
+        → Agrees p through its (follow a c (came-to t)) (noted p c past (came-to t .answer))
     agrees-so none e kept =
         let o : Result = does p (runOf a past) (passOf p a past) c l in
         let yes = goes p large a h c l e .0 in
-        subst (λ b. Agrees p through its (cond b (goesOn a c (o .lent)) a) (noted past (o .answer))) (sym yes) (agrees-next p large through its a h g whole l c e (kept-by p U through a c l (kept yes)))
+        subst (λ b. Agrees p through its (cond b (goesOn a c (o .lent)) a) (noted p c past (o .answer))) (sym yes) (agrees-next p large through its a h g whole l c e (kept-by p U through a c l (kept yes)))
     agrees-so (some k) e kept =
         let o : Result = refusedResult (runOf a past) (passOf p a past) l k in
-        subst (λ b. Agrees p through its (cond b (goesOn a c (o .lent)) a) (noted past (o .answer))) (sym (refused-with _ (k .0) (k .1)))
-        (subst (Agrees p through its a) (sym (refusal-noted past (k .0) (k .1))) g)
+        subst (λ b. Agrees p through its (cond b (goesOn a c (o .lent)) a) (noted p c past (o .answer))) (sym (refused-with _ (k .0) (k .1)))
+        (subst (Agrees p through its a) (sym (refusal-noted p c past (k .0) (k .1))) g)
 
   pub right-step : (a : State) {past : Notes} (r : Run) (s : Pass) → Inv p large a past r s → Agrees p through its a past → length its ≡ a .start .items → (c : Call) → (l : Lent)
       → (isAnswered (step p r s c l .answer) ≡ true → Kept p (tripAt its a) through a c l) → table p a c l ≡ none → Right p (tripAt its a) a c l (step p r s c l)
@@ -200,9 +201,9 @@ module _ (p : ℕ) (large : maxWeight < p) (through : Bool) (its : List Given) w
       (subst P (sym (step-is p large a (i .fits) c l)) (right-so a (i .fits) g whole c l (table p a c l) refl)))
 
   pub agrees-step : (a : State) {past : Notes} (r : Run) (s : Pass) → Inv p large a past r s → Agrees p through its a past → length its ≡ a .start .items → (c : Call) → (l : Lent)
-      → (isAnswered (step p r s c l .answer) ≡ true → Kept p (tripAt its a) through a c l) → Agrees p through its (follow a c (step p r s c l)) (noted past (step p r s c l .answer))
+      → (isAnswered (step p r s c l .answer) ≡ true → Kept p (tripAt its a) through a c l) → Agrees p through its (follow a c (step p r s c l)) (noted p c past (step p r s c l .answer))
   agrees-step a {past} r s i g whole c l =
-      let P : Result → Type 0 = λ o. (isAnswered (o .answer) ≡ true → Kept p (tripAt its a) through a c l) → Agrees p through its (follow a c o) (noted past (o .answer)) in
+      let P : Result → Type 0 = λ o. (isAnswered (o .answer) ≡ true → Kept p (tripAt its a) through a c l) → Agrees p through its (follow a c o) (noted p c past (o .answer)) in
       subst (λ r. P (step p r s c l)) (sym (i .run))
       (subst (λ s. P (step p (runOf a past) s c l)) (sym (i .pass))
       (subst P (sym (step-is p large a (i .fits) c l)) (agrees-so a (i .fits) g whole c l (table p a c l) refl)))
@@ -252,9 +253,9 @@ module _ (p : ℕ) (large : maxWeight < p) (through : Bool) (T : Trip) (whole : 
   pub same-trip : (w : World) {past : Notes} → Going w past → tripAt (T .items) (w .state) ≡ T
   same-trip w g = ap (λ s. record { start = s; items = T .items }) (g .start)
 
-  holds-here : (w : World) {past : Notes} → Going w past → Holds p through T (w .state) (w .pass)
+  pub holds-here : (w : World) {past : Notes} → Going w past → Holds p through T (w .state) (w .run) (w .pass)
   holds-here w g =
-      subst (λ U. Holds p through U (w .state) (w .pass)) (same-trip w g)
+      subst (λ U. Holds p through U (w .state) (w .run) (w .pass)) (same-trip w g)
       (holds-at p large through (T .items) (w .state) (w .run) (w .pass) (g .faithful) (g .agrees))
 
   module _ (w : World) {past : Notes} (g : Going w past) (m : Made)
@@ -270,7 +271,7 @@ module _ (p : ℕ) (large : maxWeight < p) (through : Bool) (T : Trip) (whole : 
         subst (λ U. Right p U (w .state) (m .call) (m .lent) (came p w m)) (same-trip w g)
         (right-step p large through (T .items) (w .state) (w .run) (w .pass) (g .faithful) (g .agrees) full (m .call) (m .lent) own-kept free)
 
-    pub goes-on : Going (onward p w m) (noted past (came p w m .answer))
+    pub goes-on : Going (onward p w m) (noted p (m .call) past (came p w m .answer))
     goes-on =
         record {
           faithful = faithful-on p large w (g .faithful) m;
@@ -296,6 +297,8 @@ module _ (p : ℕ) (large : maxWeight < p) (through : Bool) (T : Trip) (whole : 
         total = λ plain w. absurd (true≢false w);
         messages = λ _. refl;
         ends = λ _ w. absurd (true≢false (sym w));
+        last = λ w. absurd (true≢false (sym w));
+        claim = λ w. absurd (true≢false (sym w));
       }
 
   pub fresh-going : Startable (T .start) → (f g : List ℕ) → Going (freshWorld (T .start) f g) noNotes

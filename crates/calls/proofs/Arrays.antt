@@ -1,12 +1,14 @@
 -- Lists kept from the first place of an array on.
 use mathlib.Core.Path.{_≡_, sym, ap, _∙_}
 use mathlib.Core.List.{List, [], _∷_, _++_, append-assoc}
-use Prim.Native.Nat.{ℕ, suc, _+_, _*_, _-_, _<_}
+use Prim.Native.Nat.{ℕ, suc, _+_, _*_, _-_, _<_, _≤_}
 use native.Mathlib.Omega.{arith}
 use lib.ListN.{length, length-append, set, take, replicate, List·getD-append}
-use lib.Seq.{set-append-seam, take-append-seam}
+use lib.Seq.{set-append-seam, take-append-seam, getD-append-seam, getD-append-add}
 use Rattle.vector.specs.Vector.{at}
+use Rattle.claim.specs.Claim.{messageOf3}
 use Rattle.prover.specs.Close.{messagesWith}
+use Rattle.prover.specs.Challenge.{keptMessage}
 use Rattle.calls.proofs.Records.{inArray}
 
 -- one number more
@@ -42,3 +44,19 @@ array-at size xs j h = List·getD-append xs (replicate (size - length xs) 0) 0 j
 
 pub array-take : (size : ℕ) (xs : List ℕ) (n : ℕ) → length xs ≡ n → take n (inArray size xs) ≡ xs
 array-take size xs n e = ap (λ k. take k (inArray size xs)) (sym e) ∙ take-append-seam xs (replicate (size - length xs) 0)
+
+-- a message is its three numbers
+same-message : (a b c x y z : ℕ) → a ≡ x → b ≡ y → c ≡ z → messageOf3 a b c ≡ messageOf3 x y z
+same-message a b c x y z e f g = rw (e, f, g)
+
+-- message i of the list, in the array
+pub message-at : (size : ℕ) (xs : List ℕ) (i : ℕ) → 3 * suc i ≤ length xs → keptMessage (inArray size xs) i ≡ keptMessage xs i
+message-at size xs i h =
+    same-message _ _ _ _ _ _ (array-at size xs (3 * i) (omega arith)) (array-at size xs (3 * i + 1) (omega arith)) (array-at size xs (3 * i + 2) (omega arith))
+
+-- the newest message
+pub message-newest : (xs : List ℕ) (i even cross odd : ℕ) → length xs ≡ 3 * i → keptMessage (xs ++ even ∷ cross ∷ odd ∷ []) i ≡ messageOf3 even cross odd
+message-newest xs i even cross odd e =
+    let ys : List ℕ = even ∷ cross ∷ odd ∷ [] in
+    same-message _ _ _ _ _ _ (ap (at (xs ++ ys)) (sym e) ∙ getD-append-seam xs even (cross ∷ odd ∷ []) 0)
+    (ap (λ k. at (xs ++ ys) (k + 1)) (sym e) ∙ getD-append-add xs ys 1 0) (ap (λ k. at (xs ++ ys) (k + 2)) (sym e) ∙ getD-append-add xs ys 2 0)

@@ -38,11 +38,11 @@ use Rattle.calls.proofs.Longer.{always-so, always-last}
 use Rattle.calls.proofs.Pointed.{gave-pointed}
 
 -- what is next, and the challenges
-record Late (cs : List ℕ) (t : Turn) : Type 0 where
+pub record Late (cs : List ℕ) (t : Turn) : Type 0 where
   pub openings : t .next ≡ next.Openings
   pub challenges : t .challenges ≡ cs
 
-not-next : {A : Type 0} (t : Next) → t ≡ next.Openings → (u : Next) → waits u next.Openings ≡ false → waits u t ≡ true → A
+pub not-next : {A : Type 0} (t : Next) → t ≡ next.Openings → (u : Next) → waits u next.Openings ≡ false → waits u t ≡ true → A
 not-next t e u other this = absurd (true≢false (sym this ∙ ap (waits u) e ∙ other))
 
 closed-late : (cs : List ℕ) (a : State) (t : Next) (k : Kind) → t ≡ next.Openings → Late cs (a .turn) → Late cs (closed a t k .turn)
@@ -95,7 +95,7 @@ module _ (p : ℕ) (cs : List ℕ) where
       )
 
 module _ (p : ℕ) (large : maxWeight < p) where
-  late-batch : (s : Start) (cs : List ℕ) → Opens s cs → (f g : List ℕ) (ms : List Made)
+  pub late-batch : (s : Start) (cs : List ℕ) → Opens s cs → (f g : List ℕ) (ms : List Made)
       → always (onward p) (λ w. Late cs (w .state .turn)) (openingsWorld s cs f g) ms
   late-batch s cs o f g ms =
       late-always p cs large (openingsWorld s cs f g) (opens-faithful p large s cs o f g) (record { openings = refl; challenges = refl }) ms

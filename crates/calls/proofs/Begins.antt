@@ -24,6 +24,7 @@ use Rattle.runs.specs.Trip.{Trip}
 use Rattle.runs.specs.Passes.{passAfter}
 use Rattle.calls.specs.Starts.{Opens}
 use Rattle.calls.specs.Begins.{Begin, total, openings, CanBegin, begun, atOpenings, openingsWorld}
+use Rattle.calls.specs.Claim.{noClaim}
 use Rattle.calls.proofs.Records.{Notes, noNotes, inArray}
 use Rattle.calls.proofs.Fits.{lt-or-le, zeros-at, array-beyond}
 use Rattle.calls.proofs.Follows.{positive, no-items}
@@ -68,7 +69,7 @@ module _ (p : ℕ) (large : maxWeight < p) (s : Start) (cs : List ℕ) (o : Open
 
   -- nothing was answered: the places of the messages are zero
   abbrev pub opensNotes : Notes
-  opensNotes = record { total = pos 0; messages = replicate (3 * s .rounds) 0; fend = 0; gend = 0 }
+  opensNotes = record { running = noClaim; total = pos 0; messages = replicate (3 * s .rounds) 0; fend = 0; gend = 0 }
 
   pub opens-faithful : (f g : List ℕ) → Faithful p large (openingsWorld s cs f g) opensNotes
   unfolding passAfter inLimits
@@ -78,9 +79,9 @@ module _ (p : ℕ) (large : maxWeight < p) (s : Start) (cs : List ℕ) (o : Open
       let long = length-replicate {A = ℕ} (3 * n) 0 in
       record {
         run =
-            ap₂ (λ round challenges. record { start = s; mode = Small; next = next.Openings; round = round; challenges = challenges; messages = replicate 45 0; total = pos 0; fend = 0; gend = 0 })
+            ap₂ (λ round challenges. record { start = s; mode = Small; next = next.Openings; round = round; challenges = challenges; messages = replicate 45 0; total = pos 0; claim = 0; fend = 0; gend = 0 })
             (sym (o .listed)) (ap (λ k. fifteen k cs) (sym (o .listed)) ∙ fifteen-array cs within)
-            ∙ ap (λ messages. record { start = s; mode = Small; next = next.Openings; round = length cs; challenges = inArray 15 cs; messages = messages; total = pos 0; fend = 0; gend = 0 })
+            ∙ ap (λ messages. record { start = s; mode = Small; next = next.Openings; round = length cs; challenges = inArray 15 cs; messages = messages; total = pos 0; claim = 0; fend = 0; gend = 0 })
             (zeros-more (3 * n) 45 (omega (arith, few)) ∙ ap (λ k. replicate (3 * n) 0 ++ replicate (45 - k) 0) (sym long));
         pass = refl;
         fits = record {
@@ -92,6 +93,7 @@ module _ (p : ℕ) (large : maxWeight < p) (s : Start) (cs : List ℕ) (o : Open
             round = eq-eqb (length cs) n (o .listed);
             total = le-leb 0 (limit p) (omega arith);
             given = long ∙ ap (λ k. 3 * k) (sym (o .listed));
+            last = λ e. absurd (true≢false (sym e));
             below = λ j. rw (zeros-at (3 * n) j) (positive p large);
             fend = positive p large;
             gend = positive p large;
@@ -113,6 +115,8 @@ module _ (p : ℕ) (large : maxWeight < p) (through : Bool) (T : Trip) (whole : 
         total = λ plain w. absurd (never plain);
         messages = λ plain. absurd (never plain);
         ends = λ plain w. absurd (never plain);
+        last = λ w. absurd (true≢false (sym w));
+        claim = λ w. absurd (true≢false (sym w));
       }
 
   pub opens-going : (f g : List ℕ) → Going p large through T whole (openingsWorld (T .start) cs f g) (opensNotes p large (T .start) cs o)

@@ -167,7 +167,7 @@ module _ (p : ℕ) (large : maxWeight < p) where
 
   moved : (w : World) {past : Notes} → Faithful p large w past → (x : Wide) → Moved w x
   unfolding after along
-  moved w {past} i (made m) = record { notes = noted past (came p w m .answer); faithful = faithful-on p large w i m; decided = tt; same = refl }
+  moved w {past} i (made m) = record { notes = noted p (m .call) past (came p w m .answer); faithful = faithful-on p large w i m; decided = tt; same = refl }
   moved w i (given b l) = block-moved w i b l
 
   -- EVERY LIST

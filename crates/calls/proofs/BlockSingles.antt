@@ -226,7 +226,7 @@ module _ (p : ℕ) (large : maxWeight < p) where
         let u : World = onwardWith w i x l free in
         let k : Lent = left w i x l free in
         let lengths = takes-long p (w .run) (w .pass) (contributes p (w .run .start) x) (l .f) (l .g) in
-        let later : Notes = noted past (came p w (single p v b m l) .answer) in
+        let later : Notes = noted p (single p v b m l .call) past (came p w (single p v b m l) .answer) in
         let faithful : Faithful p large u later = subst (λ (q : World × Lent). Faithful p large (q .0) later) e (faithful-on p large w i (single p v b m l)) in
         let still : v ≡ u .state .start .version =
         in-buffers (λ s t q. v ≡ s .version) (isChange (w .state .pass .kind)) (inPass (w .state) (w .state .pass .kind) (w .state .pass .point) (x ∷ w .state .pass .items)) k own in

@@ -37,7 +37,7 @@ use Rattle.calls.proofs.Answers.{Going, goes-on, fresh-going}
 use Rattle.calls.proofs.HeardFollows.{Follows}
 use Rattle.calls.proofs.HeardLists.{fresh-follows}
 use Rattle.calls.proofs.Longer.{along-more, somewhere-more, somewhere-last, always-last, always-more}
-use Rattle.calls.proofs.Hits.{Prefix, Hit, hit-replies, hit-here}
+use Rattle.calls.proofs.Hits.{Prefix, Hit, hit-replies, hit-here, going-after}
 use Rattle.calls.proofs.Links.{message-of, opening-of, file-of}
 use Rattle.calls.proofs.Pointed.{pointed, follow-pointed, asked-pointed}
 use Rattle.calls.proofs.LiveTable.{write-free, free-answered}
@@ -186,13 +186,6 @@ module _ (p : ℕ) (large : maxWeight < p) (prime : Prime p) (odd : p % 2 ≡ 1)
   each-checked proof h y gave b v f s qs on = on b v f (pointed-next proof h y s)
   each-checked (done x) h y gave b v f s qs on = on b v f (pointed-next (done x) h y s)
 
-  -- the world after a list
-  going-after : (w : World) {past : Notes} → G w past → (ms : List Made) → AllKept p through T w ms → AllTake p cs w ms
-      → (let x : World = after (onward p) w ms in (past : Notes) × G x past × Prefix (x .state .turn .challenges) cs)
-  unfolding along always after
-  going-after w {past} g [] kept takes = (past, g, takes)
-  going-after w g (m ∷ ms) kept takes = going-after (onward p w m) (goes-on p large through T (valid .whole .items) w g m (kept .0)) ms (kept .1) (takes .1)
-
   -- A RUN'S LIST from a fresh run on
   module _ (f g : List ℕ) (ms : List Made) (kept : AllKept p through T (freshWorld (T .start) f g) ms)
       (takes : AllTake p cs (freshWorld (T .start) f g) ms) (within : Within (freshWorld (T .start) f g) ms) where
@@ -228,7 +221,7 @@ module _ (p : ℕ) (large : maxWeight < p) (prime : Prime p) (odd : p % 2 ≡ 1)
       wrote = came p w (writesProof l)
 
       last : (past : Notes) × G w past × Prefix (w .state .turn .challenges) cs
-      last = going-after fresh going ms kept takes
+      last = going-after p large through T (valid .whole .items) cs fresh going ms kept takes
 
       pub start-kept : w .state .start ≡ T .start
       start-kept = last .1 .start

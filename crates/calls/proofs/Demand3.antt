@@ -33,7 +33,9 @@ use Rattle.calls.proofs.BatchRuns.{batch-proper}
 use Rattle.calls.proofs.BatchOpenings.{batch-checked}
 use Rattle.calls.proofs.Answers.{Going, all-right}
 use Rattle.calls.proofs.Alike.{last-replies}
-use Rattle.calls.proofs.Hits.{hit-replies, hit-somewhere}
+use Rattle.calls.proofs.Hits.{hit-replies, hit-somewhere, going-after}
+use Rattle.calls.proofs.Longer.{along-first, always-first}
+use Rattle.calls.proofs.Claims.{begun-claimed, claims-same}
 use Rattle.calls.proofs.Links.{total-of, claim-of, message-of, file-of}
 use Rattle.calls.proofs.OpeningChecks.{openings-checked}
 use Rattle.calls.proofs.Carried.{proper-run, proper-messages, proper-longer, proper-written, proper-file}
@@ -83,6 +85,15 @@ module _ (p : ℕ) (large : maxWeight < p) (through : Bool) (T : Trip) (whole : 
           all-say (hearsOn p h q) (follows-next p large prime odd word T whole cs listed h f q brought) qs (b .1),
         )
 
+    -- and the verifier after it
+    follows-after : (h : Hearing) → Follows p T cs (h .state) (h .verifier) → (qs : List Posed) → AllBringRun p T w ms h qs
+        → (let k : Hearing = after (hearsOn p) h qs in Follows p T cs (k .state) (k .verifier))
+    unfolding along after
+    follows-after h f [] b = f
+    follows-after h f (q ∷ qs) b =
+        follows-after (hearsOn p h q)
+        (follows-next p large prime odd word T whole cs listed h f q (λ y. brings (h .state) (f .challenges) (q .query) (q .shown) (b .0 y))) qs (b .1)
+
 module _ (p : ℕ) (large : maxWeight < p) (prime : Prime p) (odd : p % 2 ≡ 1) (word : p ≤ 2 ^ 32) where
   -- the last call of a list replies what is meant
   replies : (through : Bool) (T : Trip) → Whole T → (b : Begin) → CanBegin (T .start) b → (f g : List ℕ) (ms : List Made) (m : Made)
@@ -100,6 +111,7 @@ module _ (p : ℕ) (large : maxWeight < p) (prime : Prime p) (odd : p % 2 ≡ 1)
       record {
         starts = all-starts p;
         refusals = λ s b h f g ms. all-decided p large (begun s b f g) (begun-faithful p large s b h f g) ms;
+        claims = begun-claimed p large;
         answers = λ through T whole b h f g ms kept.
             all-right p large through T (whole .items) (begun (T .start) b f g) (begun-going p large through T (whole .items) b h f g) ms kept;
         freed = return-frees p;
@@ -112,6 +124,13 @@ module _ (p : ℕ) (large : maxWeight < p) (prime : Prime p) (odd : p % 2 ≡ 1)
         verifierAnswers = λ through T whole b h f g ms kept cs listed takes qs brought.
             all-say p large through T whole cs (begun (T .start) b f g) (begun-going p large through T (whole .items) b h f g) ms kept takes prime odd word listed
             (freshHearing (T .start) cs) (fresh-follows p large prime odd word T whole cs listed) qs brought;
+        claimsAlike = λ through T whole b h f g ms ns kept cs listed takes qs brought.
+            let w : World = begun (T .start) b f g in
+            let going = begun-going p large through T (whole .items) b h f g in
+            let here = going-after p large through T (whole .items) cs w going ms (along-first (onward p) _ w ms ns kept) (always-first (onward p) _ w ms ns takes) in
+            claims-same p large through T (whole .items) cs (after (onward p) w ms) (here .1) (here .2) _ _
+            (follows-after p large through T whole cs w going (ms ++ ns) kept takes prime odd word listed (freshHearing (T .start) cs)
+            (fresh-follows p large prime odd word T whole cs listed) qs brought);
         openingsChecked = λ through T whole b h f g ms kept cs listed takes.
             openings-checked p large prime odd word T whole cs listed through b h f g ms kept takes;
         batchChecked = batch-checked p large prime odd;

@@ -40,7 +40,7 @@ use Rattle.calls.specs.Lists.{each}
 use Rattle.calls.specs.Step.{step}
 use Rattle.calls.specs.World.{freshWorld}
 use Rattle.calls.specs.Table.{table}
-use Rattle.calls.specs.Example.{P, tripStart, trip, callsOf, answersOf, refusalsOf, lastOf, TripList}
+use Rattle.calls.specs.Example.{P, tripStart, trip, callsOf, answersOf, refusalsOf, lastOf, claimsGo, TripList}
 use Rattle.calls.specs.ExampleSmall.{smallCalls}
 use Rattle.calls.specs.ExampleFull.{fullCalls}
 use Rattle.calls.specs.ExampleChange.{changing}
@@ -48,42 +48,46 @@ use Rattle.calls.specs.ExampleReturn.{returning}
 use Rattle.calls.proofs.ExampleKept.{allTrue, all-kept}
 
 module _ (f g : List ℕ) where
-  pub small-run : TripList smallCalls (freshWorld tripStart f g)
+  pub small-run : TripList smallCalls (claimsGo 11 9 7 17) (freshWorld tripStart f g)
   unfolding each allTrue lastOf callsOf answersOf refusalsOf table sumOf step messageCall giveCall itemChecks openCall openAtCall closeCall challengeCall toFullCall writeCall wellFormed turnFormed passFormed powers firstFrom inLimits sizeIn32 partsOf takes takesIn entersIn summedItem enteredIn plus image residue negMod addMod mulMod valuesOf tripleValues bytes bits allBelow numbers proofHeader writeProof writtenIn hornerAt arrived topAt climbFrom evaluatedFrom climbed evaluated meetsAt summed settled sumsAfter stacksFit entered streamed paddingFrom paddingBelow left placed placedAll placedIn inRange isMark
   small-run =
       record {
         kept = all-kept P true trip (freshWorld tripStart f g) (callsOf smallCalls) refl;
         replies = refl;
         refusals = refl;
+        shown = refl;
         file = refl;
       }
 
-  pub full-run : TripList fullCalls (freshWorld tripStart f g)
+  pub full-run : TripList fullCalls (claimsGo 4 18 3 8) (freshWorld tripStart f g)
   unfolding each allTrue lastOf callsOf answersOf refusalsOf every table sumOf step messageGiven messageCall endsCall giveCall itemChecks openCall closeCall challengedFull challengeCall cleared toFullCall openingGiven openingCall writeCall wellFormed turnFormed passFormed powers firstFrom inLimits sizeIn32 partsOf takes takesIn entersIn summedItem enteredIn plus image residue negMod addMod mulMod sum foldWith overwrite foldSlice messageSlice tripleValues bytes bits allBelow numbers proofHeader writeProof writtenIn hornerAt arrived topAt climbFrom evaluatedFrom climbed evaluated meetsAt summed settled sumsAfter stacksFit entered streamed paddingFrom paddingBelow left placed placedAll placedIn inRange isMark
   full-run =
       record {
         kept = all-kept P true trip (freshWorld tripStart f g) (callsOf fullCalls) refl;
         replies = refl;
         refusals = refl;
+        shown = refl;
         file = refl;
       }
 
-  pub changing-run : TripList changing (freshWorld tripStart f g)
+  pub changing-run : TripList changing (claimsGo 5 7 14 7) (freshWorld tripStart f g)
   unfolding each allTrue lastOf callsOf answersOf refusalsOf every table sumOf step messageGiven messageCall endsCall giveCall itemChecks openCall openAtCall closeCall challengedFull challengeCall cleared toFullCall openingGiven openingCall writeCall wellFormed turnFormed passFormed powers firstFrom inLimits sizeIn32 partsOf takes takesIn entersIn summedItem enteredIn plus image residue negMod addMod mulMod sum foldWith overwrite foldSlice messageSlice tripleValues bytes bits allBelow numbers proofHeader writeProof writtenIn hornerAt arrived topAt climbFrom evaluatedFrom climbed evaluated meetsAt summed settled sumsAfter stacksFit entered streamed paddingFrom paddingBelow left placed placedAll placedIn inRange isMark
   changing-run =
       record {
         kept = all-kept P true trip (freshWorld tripStart f g) (callsOf changing) refl;
         replies = refl;
         refusals = refl;
+        shown = refl;
         file = refl;
       }
 
-  pub returning-run : TripList returning (freshWorld tripStart f g)
+  pub returning-run : TripList returning (claimsGo 4 10 8 15) (freshWorld tripStart f g)
   unfolding each allTrue lastOf callsOf answersOf refusalsOf every table sumOf step messageGiven messageCall endsCall giveCall itemChecks openCall openAtCall closeCall challengedFull challengeCall cleared toFullCall toSmallCall openingGiven openingCall writeCall wellFormed turnFormed passFormed powers firstFrom inLimits sizeIn32 partsOf takes takesIn entersIn summedItem enteredIn plus image residue negMod addMod mulMod sum foldWith overwrite foldSlice messageSlice valuesOf tripleValues bytes bits allBelow numbers proofHeader writeProof writtenIn hornerAt arrived topAt climbFrom evaluatedFrom climbed evaluated meetsAt summed settled sumsAfter stacksFit entered streamed paddingFrom paddingBelow left placed placedAll placedIn inRange isMark
   returning-run =
       record {
         kept = all-kept P true trip (freshWorld tripStart f g) (callsOf returning) refl;
         replies = refl;
         refusals = refl;
+        shown = refl;
         file = refl;
       }

@@ -14,6 +14,7 @@ use Rattle.refusal.specs.Limit.{maxItems}
 use Rattle.field.specs.Total.{inLimits}
 use Rattle.wire.specs.Proof.{allBelow}
 use Rattle.vector.specs.Vector.{at}
+use Rattle.vector.specs.Message.{Message}
 use Rattle.vector.specs.Rounds.{roundsOf}
 use Rattle.vector.proofs.Rounds.{rounds-at-most}
 use Rattle.phase.specs.declared.Mode.{Mode}
@@ -25,6 +26,7 @@ use Rattle.phase.specs.Cases.{waits}
 use Rattle.phase.specs.Order.{roundFits, kindFits}
 use Rattle.pass.specs.Formed.{turnFormed}
 use Rattle.prover.specs.WellFormed.{runFormed, wellFormed}
+use Rattle.prover.specs.Challenge.{keptMessage}
 use Rattle.item.specs.declared.Start.{Start}
 use Rattle.item.specs.declared.Given.{Given}
 use Rattle.item.specs.declared.Given.the-variants.{Numbers}
@@ -37,6 +39,7 @@ use Rattle.runs.proofs.PassTotal.{after-total}
 use Rattle.runs.proofs.PassFormed.{after-formed}
 use Rattle.calls.specs.State.{State}
 use Rattle.calls.proofs.Records.{Notes, inArray, runOf, passOf}
+use Rattle.calls.proofs.HeardTrip as heard
 
 -- how many messages were given
 abbrev pub givenAt : ℕ → Next → ℕ
@@ -50,7 +53,7 @@ givenAt i next.Openings = i
 abbrev pub Fine : ℕ → Start → Given → Type 0
 Fine p s x = (contributes p s x .f < p) × (contributes p s x .g < p)
 
-pub record RunFits (p : ℕ) (s : Start) (t : Next) (cs : List ℕ) (z : ℤ) (ms : List ℕ) (a b : ℕ) : Type 0 where
+pub record RunFits (p : ℕ) (s : Start) (t : Next) (cs : List ℕ) (z : ℤ) (ms : List ℕ) (m : Message) (a b : ℕ) : Type 0 where
   pub version : versionKept (s .plain) (s .version) ≡ true
   pub some : 1 ≤ s .items
   pub most : s .items ≤ 32768
@@ -58,6 +61,8 @@ pub record RunFits (p : ℕ) (s : Start) (t : Next) (cs : List ℕ) (z : ℤ) (m
   pub round : roundFits t (length cs) (s .rounds) ≡ true
   pub total : inLimits p z ≡ true
   pub given : length ms ≡ 3 * givenAt (length cs) t
+  -- m is the last message, which the next challenge is for
+  pub last : waits next.Challenge t ≡ true → keptMessage ms (length cs) ≡ m
   pub below : (j : ℕ) → at ms j < p
   pub fend : a < p
   pub gend : b < p
@@ -68,9 +73,11 @@ pub record PassFits (p : ℕ) (s : Start) (m : Mode) (t : Next) (k : Kind) (xs :
   pub count : length xs ≤ s .items
   pub within : AllWithin s xs
   pub fine : (q : ℕ) → Fine p s (getD xs q (Numbers 0 0))
+  -- of the run's kind
+  pub own : (q : ℕ) → q < length xs → heard.Fine p (s .plain) (getD xs q (Numbers 0 0))
 
 pub record Fits (p : ℕ) (a : State) (past : Notes) : Type 0 where
-  pub run : RunFits p (a .start) (a .turn .next) (a .turn .challenges) (past .total) (past .messages) (past .fend) (past .gend)
+  pub run : RunFits p (a .start) (a .turn .next) (a .turn .challenges) (past .total) (past .messages) (past .running .message) (past .fend) (past .gend)
   pub pass : PassFits p (a .start) (a .turn .mode) (a .turn .next) (a .pass .kind) (a .pass .items)
 
 pub lt-or-le : (j m : ℕ) → (j < m) ⊎ (m ≤ j)

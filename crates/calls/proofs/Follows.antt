@@ -1,5 +1,5 @@
 -- The records after an answered call stand for the state after it.
-use mathlib.Core.Path.{_≡_, refl, sym, ap, subst, _∙_}
+use mathlib.Core.Path.{_≡_, refl, sym, ap, ap₂, subst, _∙_}
 use mathlib.Core.Bool.{Bool, true, false, cond, not, _&&_, _||_, true≢false}
 use mathlib.Core.List.{List, [], _∷_, _++_}
 use mathlib.Core.Option.{none, some}
@@ -17,7 +17,8 @@ use Rattle.field.specs.Total.{inLimits}
 use Rattle.field.proofs.Integers.{image-lt}
 use Rattle.vector.specs.Vector.{at}
 use Rattle.vector.specs.Rounds.{size}
-use Rattle.vector.specs.Message.{Message}
+use Rattle.vector.specs.Message.{Message, nextClaim}
+use Rattle.claim.specs.Claim.{messageOf3}
 use Rattle.vector.specs.Slice.{allReduced, messageSlice}
 use Rattle.vector.proofs.Rounds.{rounds-enough, size-last}
 use Rattle.vector.proofs.Every.{all-reduced-iff}
@@ -38,11 +39,11 @@ use Rattle.prover.specs.Reply as reply
 use Rattle.prover.specs.Reply.{answerIn}
 use Rattle.prover.specs.Records.{answeredStep}
 use Rattle.prover.specs.Level.{foldSize}
-use Rattle.prover.specs.Close.{goneTo, withTotal, messagesWith, withMessage, shutPass}
+use Rattle.prover.specs.Close.{goneTo, withTotal, withFieldTotal, messagesWith, withMessage, shutPass}
 use Rattle.prover.specs.declared.Step.{Step}
 use Rattle.prover.specs.Take.{takes}
 use Rattle.prover.specs.Full.{messageGiven}
-use Rattle.prover.specs.Challenge.{keptChallenge, challengedFull}
+use Rattle.prover.specs.Challenge.{keptMessage, keptChallenge, challengedFull}
 use Rattle.item.specs.declared.Start.{Start}
 use Rattle.item.specs.declared.Given.{Given}
 use Rattle.item.specs.declared.Given.the-variants.{Reading, Numbers}
@@ -57,7 +58,7 @@ use Rattle.calls.specs.State.{State, inPass, goesTo, withBuffers, inMode
 use Rattle.calls.specs.Table.{changesNext, levelNow, long, bothLong, totalFits, table}
 use Rattle.calls.proofs.Records.{Notes, noted, inArray, runOf, passOf}
 use Rattle.calls.proofs.Arrays as arrays
-use Rattle.calls.proofs.Arrays.{array-next}
+use Rattle.calls.proofs.Arrays.{array-next, message-at, message-newest}
 use Rattle.calls.proofs.Guards.{challengeDoes}
 use Rattle.calls.proofs.Steps.{row-passed, keepingStep, closeStep, does}
 use Rattle.calls.proofs.Turns.{both, pass-kind, openings-kind, change-kind, full-shut, challenge-shut}
@@ -65,6 +66,7 @@ use Rattle.item.specs.Mark.{countsAs}
 use Rattle.calls.proofs.ItemRows.{Limits, item-admitted}
 use Rattle.calls.proofs.Fits.{Fine, givenAt, RunFits, PassFits, Fits, few, run-formed, kind-is}
 use Rattle.calls.proofs.Numbers.{own-message, own-ends, slice-below}
+use Rattle.calls.proofs.HeardTrip as heard
 
 -- what holds of a result o, and of the state that follows
 pub record Follows (p : ℕ) (a : State) (past : Notes) (o : Result) : Type 0 where
@@ -79,7 +81,7 @@ module _ (p : ℕ) (large : maxWeight < p) where
   -- nothing taken
   pub no-items : (s : Start) (m : Mode) (t : Next) (k : Kind) → kindFits k m t ≡ true → PassFits p s m t k []
   unfolding AllWithin
-  no-items s m t k h = record { kind = h; idle = λ e. refl; count = omega arith; within = tt; fine = λ q. (positive, positive) }
+  no-items s m t k h = record { kind = h; idle = λ e. refl; count = omega arith; within = tt; fine = λ q. (positive, positive); own = λ q l. absurd (omega arith) }
 
   -- A PASS IS OPENED
   pub open-follows : (a : State) {past : Notes} → Fits p a past → (l : Lent) → table p a call.OpenPass l ≡ none
@@ -117,29 +119,33 @@ module _ (p : ℕ) (large : maxWeight < p) where
 
   -- AN ITEM IS TAKEN
   one-more : (s : Start) (m : Mode) (t : Next) (k : Kind) (xs : List Given) (x : Given) → PassFits p s m t k xs → isOpen k ≡ true → length xs < s .items
-      → Within s x → Fine p s x → PassFits p s m t k (x ∷ xs)
+      → Within s x → Fine p s x → heard.Fine p (s .plain) x → PassFits p s m t k (x ∷ xs)
   unfolding AllWithin
-  one-more s m t k xs x h o l w f =
-      record { kind = h .kind; idle = λ e. absurd (true≢false (sym o ∙ ap isOpen e)); count = omega arith; within = (w, h .within); fine = fines }
+  one-more s m t k xs x h o l w f own =
+      record { kind = h .kind; idle = λ e. absurd (true≢false (sym o ∙ ap isOpen e)); count = omega arith; within = (w, h .within); fine = fines; own = owns }
     where
       fines : (q : ℕ) → Fine p s (getD (x ∷ xs) q (Numbers 0 0))
       fines zero = f
       fines (suc q) = h .fine q
+
+      owns : (q : ℕ) → q < length (x ∷ xs) → heard.Fine p (s .plain) (getD (x ∷ xs) q (Numbers 0 0))
+      owns zero l = own
+      owns (suc q) l = h .own q (omega arith)
 
   -- with the buffers or without
   with-or-without : (b : Bool) (a : State) {past : Notes} (l : Lent) (o : Result) → Follows p a past o → Follows p (buffersIn b a l) past o
   with-or-without true a l o h = record { run = h .run; pass = h .pass; fits = record { run = h .fits .run; pass = h .fits .pass } }
   with-or-without false a l o h = h
 
-  take-follows : (a : State) {past : Notes} → Fits p a past → (x : Given) (l m : Lent) → isOpen (a .pass .kind) ≡ true → length (a .pass .items) < a .start .items → Within (a .start) x → Fine p (a .start) x
+  take-follows : (a : State) {past : Notes} → Fits p a past → (x : Given) (l m : Lent) → isOpen (a .pass .kind) ≡ true → length (a .pass .items) < a .start .items → Within (a .start) x → Fine p (a .start) x → heard.Fine p (a .start .plain) x
       → (o : Result) → o .run ≡ runOf a past → o .pass ≡ takes p (runOf a past) (passOf p a past) (contributes p (a .start) x) (l .f) (l .g) .pass
       → Follows p (buffersIn (isChange (a .pass .kind)) (inPass a (a .pass .kind) (a .pass .point) (x ∷ a .pass .items)) m) past o
-  take-follows a {past} h x l m op less w f o er ep =
+  take-follows a {past} h x l m op less w f own o er ep =
       with-or-without (isChange (a .pass .kind)) (inPass a (a .pass .kind) (a .pass .point) (x ∷ a .pass .items)) m o
       (record {
         run = er;
         pass = ep ∙ after-item p (runOf a past) (a .pass .kind) (a .pass .point) (a .pass .items) x (l .f) (l .g);
-        fits = record { run = h .run; pass = one-more (a .start) (a .turn .mode) (a .turn .next) (a .pass .kind) (a .pass .items) x (h .pass) op less w f };
+        fits = record { run = h .run; pass = one-more (a .start) (a .turn .mode) (a .turn .next) (a .pass .kind) (a .pass .items) x (h .pass) op less w f own };
       })
 
   -- an item within its limits
@@ -156,23 +162,25 @@ module _ (p : ℕ) (large : maxWeight < p) where
       → (let o : Result = does p (runOf a past) (passOf p a past) (call.Give x) l in Follows p (goesOn a (call.Give x) (o .lent)) past o)
   item-follows a {past} h x l e =
       let q = item-admitted p a l x e in
-      take-follows a h x l (does p (runOf a past) (passOf p a past) (call.Give x) l .lent) (q .opened) (q .more) (within (a .start) x (q .limits)) (fine (a .start) x (q .limits))
+      take-follows a h x l (does p (runOf a past) (passOf p a past) (call.Give x) l .lent) (q .opened) (q .more) (within (a .start) x (q .limits)) (fine (a .start) x (q .limits)) (q .own)
       (does p (runOf a past) (passOf p a past) (call.Give x) l) (takes-run p (runOf a past) (passOf p a past) (contributes p (a .start) x) (l .f) (l .g)) refl
 
   -- WHAT IS NEXT after the total and after a challenge
-  round-next : (i n : ℕ) → i ≤ n → (roundFits (roundOrEnds i n) i n ≡ true) × (givenAt i (roundOrEnds i n) ≡ i)
+  round-next : (i n : ℕ) → i ≤ n → (roundFits (roundOrEnds i n) i n ≡ true) × (givenAt i (roundOrEnds i n) ≡ i) × (waits next.Challenge (roundOrEnds i n) ≡ false)
   round-next i n h = by (ltb i n) refl
     where
-      by : (b : Bool) → ltb i n ≡ b → (roundFits (cond b next.Message next.Ends) i n ≡ true) × (givenAt i (cond b next.Message next.Ends) ≡ i)
-      by true e = (e, refl)
-      by false e = (eq-eqb i n (omega (arith, ltb-false i n e)), refl)
+      by : (b : Bool) → ltb i n ≡ b
+          → (roundFits (cond b next.Message next.Ends) i n ≡ true) × (givenAt i (cond b next.Message next.Ends) ≡ i)
+          × (waits next.Challenge (cond b next.Message next.Ends) ≡ false)
+      by true e = (e, refl, refl)
+      by false e = (eq-eqb i n (omega (arith, ltb-false i n e)), refl, refl)
 
   pub shut-items : (s : Start) (m : Mode) (t : Next) → PassFits p s m t Shut []
   shut-items s m t = no-items s m t Shut refl
 
   -- THE TOTAL IS GIVEN
   total-fits : (a : State) {past : Notes} → Fits p a past → a .turn .next ≡ next.Total → (z : ℤ) → inLimits p z ≡ true
-      → RunFits p (a .start) (roundOrEnds 0 (a .start .rounds)) (a .turn .challenges) z (past .messages) (past .fend) (past .gend)
+      → RunFits p (a .start) (roundOrEnds 0 (a .start .rounds)) (a .turn .challenges) z (past .messages) (past .running .message) (past .fend) (past .gend)
   total-fits a {past} h e z fits =
       let r = h .run in
       let none-yet : length (a .turn .challenges) ≡ 0 = eqb-true _ _ (subst (λ t. roundFits t (length (a .turn .challenges)) (a .start .rounds) ≡ true) e (r .round)) in
@@ -189,6 +197,7 @@ module _ (p : ℕ) (large : maxWeight < p) where
         gend = r .gend;
         round = rw none-yet (q .0);
         given = no-message ∙ rw none-yet (ap (λ k. 3 * k) (sym (q .1)));
+        last = λ w. absurd (true≢false (sym w ∙ q .2));
       }
 
   -- A MESSAGE IS GIVEN
@@ -201,7 +210,7 @@ module _ (p : ℕ) (large : maxWeight < p) where
   message-below (m ∷ ms) x y z h lx ly lz (suc j) = message-below ms x y z (λ j. h (suc j)) lx ly lz j
 
   message-fits : (a : State) {past : Notes} → Fits p a past → a .turn .next ≡ next.Message → (x y z : ℕ) → x < p → y < p → z < p
-      → RunFits p (a .start) next.Challenge (a .turn .challenges) (past .total) (past .messages ++ x ∷ y ∷ z ∷ []) (past .fend) (past .gend)
+      → RunFits p (a .start) next.Challenge (a .turn .challenges) (past .total) (past .messages ++ x ∷ y ∷ z ∷ []) (messageOf3 x y z) (past .fend) (past .gend)
   message-fits a {past} h e x y z lx ly lz =
       let r = h .run in
       let round : roundFits next.Message (length (a .turn .challenges)) (a .start .rounds) ≡ true = subst (λ t. roundFits t (length (a .turn .challenges)) (a .start .rounds) ≡ true) e (r .round) in
@@ -216,12 +225,13 @@ module _ (p : ℕ) (large : maxWeight < p) where
         gend = r .gend;
         round = round;
         given = omega (arith, length-append (past .messages) (x ∷ y ∷ z ∷ []));
+        last = λ w. message-newest (past .messages) (length (a .turn .challenges)) x y z given;
         below = message-below (past .messages) x y z (r .below) lx ly lz;
       }
 
   -- THE ENDS ARE GIVEN
   ends-fits : (a : State) {past : Notes} → Fits p a past → a .turn .next ≡ next.Ends → (x y : ℕ) → x < p → y < p
-      → RunFits p (a .start) next.Openings (a .turn .challenges) (past .total) (past .messages) x y
+      → RunFits p (a .start) next.Openings (a .turn .challenges) (past .total) (past .messages) (past .running .message) x y
   ends-fits a {past} h e x y lx ly =
       let r = h .run in
       record {
@@ -235,11 +245,12 @@ module _ (p : ℕ) (large : maxWeight < p) where
         gend = ly;
         round = subst (λ t. roundFits t (length (a .turn .challenges)) (a .start .rounds) ≡ true) e (r .round);
         given = r .given ∙ ap (λ t. 3 * givenAt (length (a .turn .challenges)) t) e;
+        last = λ w. absurd (true≢false (sym w));
       }
 
   -- A CHALLENGE IS TAKEN
   challenge-fits : (a : State) {past : Notes} → Fits p a past → a .turn .next ≡ next.Challenge → (c : ℕ)
-      → RunFits p (a .start) (takesChallenge a c .turn .next) (a .turn .challenges ++ c ∷ []) (past .total) (past .messages) (past .fend) (past .gend)
+      → RunFits p (a .start) (takesChallenge a c .turn .next) (a .turn .challenges ++ c ∷ []) (past .total) (past .messages) (past .running .message) (past .fend) (past .gend)
   challenge-fits a {past} h e c =
       let r = h .run in
       let cs : List ℕ = a .turn .challenges ++ c ∷ [] in
@@ -258,6 +269,7 @@ module _ (p : ℕ) (large : maxWeight < p) where
         gend = r .gend;
         round = q .0;
         given = given ∙ ap (λ k. 3 * k) (sym long ∙ sym (q .1));
+        last = λ w. absurd (true≢false (sym w ∙ q .2));
       }
 
   -- A PASS IS CLOSED
@@ -270,6 +282,7 @@ module _ (p : ℕ) (large : maxWeight < p) where
         challenges = r .challenges;
         messages = messages;
         total = r .total;
+        claim = r .claim;
         fend = r .fend;
         gend = r .gend;
       }
@@ -283,7 +296,7 @@ module _ (p : ℕ) (large : maxWeight < p) where
 
   -- the run after a message, in either mode
   message-run : (a : State) {past : Notes} → Fits p a past → a .turn .next ≡ next.Message → (even cross odd : ℕ)
-      → withMessage (runOf a past) even cross odd ≡ runOf (goesTo a next.Challenge) (noted past (answered (reply.message even cross odd)))
+      → withMessage (runOf a past) even cross odd ≡ runOf (goesTo a next.Challenge) (noted p call.Message past (answered (reply.message even cross odd)))
   message-run a {past} h e even cross odd =
       let q = message-round a h e in
       given-message (runOf a past) even cross odd (inArray 45 (past .messages ++ even ∷ cross ∷ odd ∷ []))
@@ -300,9 +313,9 @@ module _ (p : ℕ) (large : maxWeight < p) where
     enough = subst (λ n. a .start .items ≤ 2 ^ n) (sym (h .run .rounds)) (rounds-enough (a .start .items) (h .run .most))
 
     total-closed : (plain : Bool) → a .start .plain ≡ plain → a .turn .next ≡ next.Total → (plain ≡ true → inLimits p (S Asked .total) ≡ true)
-        → (let st : Step = cond plain (answeredStep (withTotal R (S Asked .total)) shutPass (answer.Total (S Asked .total)))
-        (answeredStep (goneTo R (roundOrEnds 0 (R .start .rounds))) shutPass (answer.FieldTotal (S Asked .dot))) in
-        Follows p (goesTo a (roundOrEnds 0 (a .start .rounds))) (noted past (answerIn (st .answer))) (keepingStep l st))
+        → (let st : Step = cond plain (answeredStep (withTotal p R (S Asked .total)) shutPass (answer.Total (S Asked .total)))
+        (answeredStep (withFieldTotal R (S Asked .dot)) shutPass (answer.FieldTotal (S Asked .dot))) in
+        Follows p (goesTo a (roundOrEnds 0 (a .start .rounds))) (noted p call.Close past (answerIn (st .answer))) (keepingStep l st))
     unfolding passAfter
     total-closed true e et fits =
         record { run = refl; pass = refl; fits = record { run = total-fits a h et (S Asked .total) (fits refl); pass = shut-items (a .start) (a .turn .mode) _ } }
@@ -310,7 +323,7 @@ module _ (p : ℕ) (large : maxWeight < p) where
         record { run = refl; pass = refl; fits = record { run = total-fits a h et (past .total) (h .run .total); pass = shut-items (a .start) (a .turn .mode) _ } }
 
     close-core : (t : Next) (k : Kind) → a .turn .next ≡ t → isOpen k ≡ true → kindFits k (a .turn .mode) t ≡ true → (a .start .plain ≡ true → t ≡ next.Total → inLimits p (S Asked .total) ≡ true)
-        → (let st : Step = closeStep R (S k) t k in Follows p (closed a t k) (noted past (answerIn (st .answer))) (keepingStep l st))
+        → (let st : Step = closeStep p R (S k) t k in Follows p (closed a t k) (noted p call.Close past (answerIn (st .answer))) (keepingStep l st))
     unfolding passAfter
     close-core t Shut et op fit fits = absurd (true≢false (sym op))
     close-core next.Total Asked et op fit fits = total-closed (a .start .plain) refl et (λ e. fits e refl)
@@ -335,7 +348,7 @@ module _ (p : ℕ) (large : maxWeight < p) where
         record {
           run = ap (λ t. goneTo R t) et;
           pass = refl;
-          fits = record { run = subst (λ t. RunFits p (a .start) t (a .turn .challenges) (past .total) (past .messages) (past .fend) (past .gend)) et (h .run); pass = shut-items (a .start) (a .turn .mode) _ };
+          fits = record { run = subst (λ t. RunFits p (a .start) t (a .turn .challenges) (past .total) (past .messages) (past .running .message) (past .fend) (past .gend)) et (h .run); pass = shut-items (a .start) (a .turn .mode) _ };
         }
     close-core t Change et op fit fits =
         record { run = refl; pass = refl; fits = record { run = h .run; pass = shut-items (a .start) Full (a .turn .next) } }
@@ -346,14 +359,14 @@ module _ (p : ℕ) (large : maxWeight < p) where
   limit-of false plain inside e f g = absurd (true≢false (sym f))
 
   pub close-follows : (a : State) {past : Notes} → Fits p a past → (l : Lent) → table p a call.Close l ≡ none
-      → (let o : Result = does p (runOf a past) (passOf p a past) call.Close l in Follows p (goesOn a call.Close (o .lent)) (noted past (o .answer)) o)
+      → (let o : Result = does p (runOf a past) (passOf p a past) call.Close l in Follows p (goesOn a call.Close (o .lent)) (noted p call.Close past (o .answer)) o)
   unfolding table
   close-follows a {past} h l e =
       let q = row-passed (isOpen (a .pass .kind)) 10 _ e in
       let u = row-passed (eqb (length (a .pass .items)) (a .start .items)) 8 _ (q .1) in
       let v = row-passed (totalFits p a) 7 none (u .1) in
       let all = eqb-true _ _ (u .0) in
-      subst (λ k. (let st : Step = closeStep (runOf a past) (passOf p a past) (a .turn .next) k in Follows p (closed a (a .turn .next) (a .pass .kind)) (noted past (answerIn (st .answer))) (keepingStep l st)))
+      subst (λ k. (let st : Step = closeStep p (runOf a past) (passOf p a past) (a .turn .next) k in Follows p (closed a (a .turn .next) (a .pass .kind)) (noted p call.Close past (answerIn (st .answer))) (keepingStep l st)))
       (sym (kind-is p a h))
       (close-core a h l all (a .turn .next) (a .pass .kind) refl (q .0) (h .pass .kind)
       (λ plain first.
@@ -369,7 +382,7 @@ module _ (p : ℕ) (large : maxWeight < p) where
   shut-pass a {past} h e r = shut-same (runOf a past) r (a .pass .kind) (a .pass .point) (a .pass .items) e (h .pass .idle e)
 
   pub message-follows : (a : State) {past : Notes} → Fits p a past → (l : Lent) → table p a call.Message l ≡ none
-      → (let o : Result = does p (runOf a past) (passOf p a past) call.Message l in Follows p (goesOn a call.Message (o .lent)) (noted past (o .answer)) o)
+      → (let o : Result = does p (runOf a past) (passOf p a past) call.Message l in Follows p (goesOn a call.Message (o .lent)) (noted p call.Message past (o .answer)) o)
   unfolding table messageGiven
   message-follows a {past} h l e =
       let q = both (isFull (a .turn .mode)) (waits next.Message (a .turn .next)) (row-passed _ 10 _ e .0) in
@@ -398,7 +411,7 @@ module _ (p : ℕ) (large : maxWeight < p) where
       }
 
   pub ends-follows : (a : State) {past : Notes} → Fits p a past → (l : Lent) → table p a call.Ends l ≡ none
-      → (let o : Result = does p (runOf a past) (passOf p a past) call.Ends l in Follows p (goesOn a call.Ends (o .lent)) (noted past (o .answer)) o)
+      → (let o : Result = does p (runOf a past) (passOf p a past) call.Ends l in Follows p (goesOn a call.Ends (o .lent)) (noted p call.Ends past (o .answer)) o)
   unfolding table
   ends-follows a {past} h l e =
       let r = row-passed (isFull (a .turn .mode) && waits next.Ends (a .turn .next)) 10 _ e in
@@ -416,25 +429,59 @@ module _ (p : ℕ) (large : maxWeight < p) where
       }
 
   -- the run after a challenge, in either mode
-  challenge-run : (a : State) {past : Notes} → Fits p a past → a .turn .next ≡ next.Challenge → (c : ℕ) → keptChallenge (runOf a past) c ≡ runOf (takesChallenge a c) past
+  given-challenge : (r : Run) (c k : ℕ) (cs : List ℕ) (m : Message) → r .round + 1 ≡ k → set (r .challenges) (r .round) c ≡ cs → keptMessage (r .messages) (r .round) ≡ m
+      → keptChallenge p r c ≡ record {
+        start = r .start;
+        mode = r .mode;
+        next = roundOrEnds k (r .start .rounds);
+        round = k;
+        challenges = cs;
+        messages = r .messages;
+        total = r .total;
+        claim = nextClaim p m c;
+        fend = r .fend;
+        gend = r .gend;
+      }
+  given-challenge r c k cs m long kept last =
+      let F : ℕ → List ℕ → ℕ → Run = λ k cs claim. record {
+        start = r .start;
+        mode = r .mode;
+        next = roundOrEnds k (r .start .rounds);
+        round = k;
+        challenges = cs;
+        messages = r .messages;
+        total = r .total;
+        claim = claim;
+        fend = r .fend;
+        gend = r .gend;
+      } in
+      ap₂ (λ k cs. F k cs (nextClaim p (keptMessage (r .messages) (r .round)) c)) long kept ∙ ap (λ m. F k cs (nextClaim p m c)) last
+
+  abbrev challengeNoted : ℕ → Notes → Notes
+  challengeNoted c past = noted p (call.Challenge c) past (answered reply.challenged)
+
+  challenge-run : (a : State) {past : Notes} → Fits p a past → a .turn .next ≡ next.Challenge → (c : ℕ)
+      → keptChallenge p (runOf a past) c ≡ runOf (takesChallenge a c) (challengeNoted c past)
   challenge-run a {past} h e c =
+      let i : ℕ = length (a .turn .challenges) in
       let cs : List ℕ = a .turn .challenges ++ c ∷ [] in
-      let less : length (a .turn .challenges) < a .start .rounds = ltb-true _ _ (subst (λ t. roundFits t (length (a .turn .challenges)) (a .start .rounds) ≡ true) e (h .run .round)) in
-      let long : length (a .turn .challenges) + 1 ≡ length cs = sym (length-append (a .turn .challenges) (c ∷ [])) in
-      let kept : set (inArray 15 (a .turn .challenges)) (length (a .turn .challenges)) c ≡ inArray 15 cs = array-next 15 (a .turn .challenges) c (omega (arith, less, few p a h)) in
-      rw (long, kept)
+      let less : i < a .start .rounds = ltb-true _ _ (subst (λ t. roundFits t i (a .start .rounds) ≡ true) e (h .run .round)) in
+      let given : length (past .messages) ≡ 3 * suc i = h .run .given ∙ ap (λ t. 3 * givenAt i t) e in
+      given-challenge (runOf a past) c (length cs) (inArray 15 cs) (past .running .message) (sym (length-append (a .turn .challenges) (c ∷ [])))
+      (array-next 15 (a .turn .challenges) c (omega (arith, less, few p a h)))
+      (message-at 45 (past .messages) i (omega arith) ∙ h .run .last (ap (waits next.Challenge) e))
 
   pub challenge-follows : (a : State) {past : Notes} → Fits p a past → (c : ℕ) (l : Lent) → table p a (call.Challenge c) l ≡ none
-      → (let o : Result = does p (runOf a past) (passOf p a past) (call.Challenge c) l in Follows p (goesOn a (call.Challenge c) (o .lent)) (noted past (o .answer)) o)
+      → (let o : Result = does p (runOf a past) (passOf p a past) (call.Challenge c) l in Follows p (goesOn a (call.Challenge c) (o .lent)) (noted p (call.Challenge c) past (o .answer)) o)
   unfolding table challengedFull
   challenge-follows a {past} h c l e =
       let et = waits-for next.Challenge (a .turn .next) (row-passed (waits next.Challenge (a .turn .next)) 10 _ e .0) in
       let shut : a .pass .kind ≡ Shut = challenge-shut (a .pass .kind) (a .turn .mode) (subst (λ t. kindFits (a .pass .kind) (a .turn .mode) t ≡ true) et (h .pass .kind)) in
-      by (a .turn .mode) (challenge-run a h et c) (shut-pass a h shut (runOf (takesChallenge a c) past))
+      by (a .turn .mode) (challenge-run a h et c) (shut-pass a h shut (runOf (takesChallenge a c) (challengeNoted c past)))
       (record { run = challenge-fits a h et c; pass = shut-items (a .start) (a .turn .mode) (takesChallenge a c .turn .next) })
     where
-      by : (m : Mode) → keptChallenge (runOf a past) c ≡ runOf (takesChallenge a c) past → passOf p a past ≡ passAfter p (runOf (takesChallenge a c) past) Shut 0 []
-          → Fits p (takesChallenge a c) past
-          → (let o : Result = leaving l (challengeDoes p (runOf a past) (passOf p a past) c l m) in Follows p (buffersIn (isFull m) (takesChallenge a c) (o .lent)) (noted past (o .answer)) o)
+      by : (m : Mode) → keptChallenge p (runOf a past) c ≡ runOf (takesChallenge a c) (challengeNoted c past)
+          → passOf p a past ≡ passAfter p (runOf (takesChallenge a c) (challengeNoted c past)) Shut 0 [] → Fits p (takesChallenge a c) (challengeNoted c past)
+          → (let o : Result = leaving l (challengeDoes p (runOf a past) (passOf p a past) c l m) in Follows p (buffersIn (isFull m) (takesChallenge a c) (o .lent)) (noted p (call.Challenge c) past (o .answer)) o)
       by Small r s f = record { run = r; pass = s; fits = f }
       by Full r s f = record { run = r; pass = s; fits = record { run = f .run; pass = f .pass } }

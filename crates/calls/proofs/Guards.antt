@@ -51,7 +51,7 @@ use Rattle.calls.proofs.Records.{Notes, runOf}
 
 -- in full mode a challenge has the buffers
 abbrev pub challengeDoes : ℕ → Run → Pass → ℕ → Lent → Mode → Out
-challengeDoes p r s c l Small = out (challengedSmall r s c) (l .f) (l .g)
+challengeDoes p r s c l Small = out (challengedSmall p r s c) (l .f) (l .g)
 challengeDoes p r s c l Full = challengedFull p r s c (l .f) (l .g)
 
 -- a check beside a row with the same test
@@ -240,7 +240,7 @@ module _ (p : ℕ) (a : State) (past : Notes) (few : a .start .rounds ≤ 15) wh
           by false e w = ap (λ first. not (first && a .start .plain) || inLimits p (sumOf (a .start) (a .pass .items))) w
 
       pub close-decided : (waits next.Total (a .turn .next) ≡ true → s .total ≡ sumOf (a .start) (a .pass .items)) → (l : Lent)
-          → closeCall p R s ≡ decided (table p a call.Close l) (closing R s (s .kind))
+          → closeCall p R s ≡ decided (table p a call.Close l) (closing p R s (s .kind))
       unfolding closeCall table
       close-decided sums l =
           like-row _ _ 10 _ _ _ open-test

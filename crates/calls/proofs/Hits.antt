@@ -20,7 +20,7 @@ use Rattle.phase.specs.Order.{roundFits}
 use Rattle.runs.specs.Trip.{Trip}
 use Rattle.calls.specs.declared.Call.{Call}
 use Rattle.calls.specs.declared.Call.the-variants as call
-use Rattle.calls.specs.Lists.{along, always, somewhere}
+use Rattle.calls.specs.Lists.{after, along, always, somewhere}
 use Rattle.calls.specs.Step.{Lent, isAnswered}
 use Rattle.calls.specs.State.{State}
 use Rattle.calls.specs.World.{Made, World, came, onward}
@@ -73,6 +73,13 @@ module _ (p : ℕ) (large : maxWeight < p) (through : Bool) (T : Trip) (whole : 
       ⊎-elim {C = (h : Hit q) × P (h .world) (h .made)}
       (λ here. (hit-here w g (takes .0) m (kept .0) q (here .0), here .1))
       (λ later. hit-somewhere q P (onward p w m) (goes-on p large through T whole w g m (kept .0)) ms (kept .1) (takes .1) later) e
+
+  -- THE WORLD AFTER THE LIST
+  pub going-after : (w : World) {past : Notes} → Going p large through T whole w past → (ms : List Made) → AllKept p through T w ms → AllTake p cs w ms
+      → (let x : World = after (onward p) w ms in (past : Notes) × Going p large through T whole x past × Prefix (x .state .turn .challenges) cs)
+  unfolding along always after
+  going-after w {past} g [] kept takes = (past, g, takes)
+  going-after w g (m ∷ ms) kept takes = going-after (onward p w m) (goes-on p large through T whole w g m (kept .0)) ms (kept .1) (takes .1)
 
 -- THE ROUND OF A QUESTION
 abbrev roundIn : ℕ → Question → ℕ

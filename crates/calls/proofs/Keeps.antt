@@ -8,12 +8,16 @@ use native.Mathlib.Omega.{arith}
 use native.Mathlib.Numerals.{add-one}
 use lib.Dec.{ltb}
 use lib.IntN.{ℤ}
-use lib.ListN.{length, length-append}
+use lib.ListN.{length, length-append, getD}
 use borrow.Author.Tests.{ltb-true, ltb-false, eqb-true}
 use Rattle.refusal.specs.Limit.{maxWeight}
-use Rattle.vector.specs.Vector.{Vector, at}
+use Rattle.field.specs.Integer.{image}
+use Rattle.vector.specs.Vector.{Vector, at, dot}
 use Rattle.vector.specs.Rounds.{size}
 use Rattle.vector.specs.Fold.{fold, endValue}
+use Rattle.vector.specs.Message.{nextClaim}
+use Rattle.vector.proofs.Messages.{message-next, first-claim}
+use Rattle.claim.specs.Claim.{messageOf3}
 use Rattle.phase.specs.declared.Mode.{Mode}
 use Rattle.phase.specs.declared.Mode.the-variants.{Small, Full}
 use Rattle.phase.specs.declared.Next.{Next}
@@ -29,23 +33,27 @@ use Rattle.refusal.specs.Outcome.{Outcome, answered}
 use Rattle.prover.specs.Reply.{Reply, answerIn}
 use Rattle.prover.specs.Reply as reply
 use Rattle.item.specs.declared.Given.{Given}
+use Rattle.item.specs.declared.Given.the-variants.{Numbers}
 use Rattle.prover.proofs.ReturnLaws.{full-is}
 use Rattle.runs.specs.Trip.{Trip, tripItem, vectorF, vectorG, totalOf}
 use Rattle.runs.specs.Passes.{passAfter, Gives}
 use Rattle.runs.specs.Buffers.{Written}
+use Rattle.runs.proofs.PassTrip.{gives-all}
 use Rattle.calls.specs.declared.Call.the-variants as call
 use Rattle.calls.specs.Step.{Lent, Result}
 use Rattle.calls.specs.State.{State, inPass, goesTo, withBuffers, inMode, takesChallenge, buffersIn, closed}
 use Rattle.calls.specs.Table.{changeWaits, levelNow, level, long, taken, completed, table}
-use Rattle.calls.specs.Meaning.{meant, roundMessage, ends, closeAsks, messagesOf, messagesTo, foldF, foldG, AsLeft, itemWrites}
+use Rattle.calls.specs.Claim.{amidRounds}
+use Rattle.calls.specs.Meaning.{meant, roundMessage, ends, closeAsks, messageAt, messagesOf, messagesTo, foldF, foldG, AsLeft, itemWrites}
 use Rattle.calls.specs.Statement.{known}
 use Rattle.calls.proofs.Records.{Notes, noted, runOf, passOf}
 use Rattle.calls.proofs.Steps.{row-passed, closeStep, does}
 use Rattle.calls.proofs.Fits.{givenAt, Fits}
 use Rattle.calls.proofs.Turns.{both}
-use Rattle.calls.proofs.Agrees.{tripAt, knownIn, Agrees, messages-before, old-challenges, enough}
-use Rattle.calls.proofs.AnswerParts.{numbersIn, totalIn}
+use Rattle.calls.proofs.Agrees.{tripAt, knownIn, Agrees, message-before, messages-before, old-challenges, new-challenge, enough}
+use Rattle.calls.proofs.AnswerParts.{numbersIn, messageIn, totalIn, fieldTotalIn}
 use Rattle.calls.proofs.Rights.{right, challenge-level}
+use Rattle.calls.proofs.HeardTrip.{Fine, total-product}
 
 -- nothing is known of the buffers in small mode outside a change
 small-none : (h q : ℕ) (m : Mode) (k : Kind) (o through : Bool) → isSmall m ≡ true → isChange k ≡ false → knownIn h q m k o through ≡ h
@@ -71,12 +79,13 @@ from-where false h low f j lo hi = absurd (omega arith)
 no-place : (h k j : ℕ) → k ≡ h → k ≤ j → j < h → ⊥
 no-place h k j e lo hi = omega arith
 
-given-round : (i n : ℕ) → (givenAt i (roundOrEnds i n) ≡ i) × (waits next.Openings (roundOrEnds i n) ≡ false)
+given-round : (i n : ℕ) → (givenAt i (roundOrEnds i n) ≡ i) × (waits next.Openings (roundOrEnds i n) ≡ false) × (waits next.Challenge (roundOrEnds i n) ≡ false)
 given-round i n = by (ltb i n)
   where
     by : (b : Bool) → (givenAt i (cond b next.Message next.Ends) ≡ i) × (waits next.Openings (cond b next.Message next.Ends) ≡ false)
-    by true = (refl, refl)
-    by false = (refl, refl)
+        × (waits next.Challenge (cond b next.Message next.Ends) ≡ false)
+    by true = (refl, refl, refl)
+    by false = (refl, refl, refl)
 
 small-asked : (m : Mode) (t : Next) → kindFits Asked m t ≡ true → isSmall m ≡ true
 small-asked Small t e = refl
@@ -100,6 +109,10 @@ module _ (p : ℕ) (large : maxWeight < p) (through : Bool) (its : List Given) (
   abbrev T : Trip
   T = tripAt its a
 
+  -- the scalar product of fold i
+  abbrev productAt : List ℕ → ℕ → ℕ
+  productAt cs i = dot p (size (a .start .rounds) i) (fold p (at cs) i (vectorF p T)) (fold p (at cs) i (vectorG p T))
+
   -- A PASS IS OPENED
   pub opened-agrees : (b : ℕ) → isSmall (a .turn .mode) ≡ true → Agrees p through its (inPass a Asked b []) past
   opened-agrees b s =
@@ -111,6 +124,8 @@ module _ (p : ℕ) (large : maxWeight < p) (through : Bool) (its : List Given) (
         total = g .total;
         messages = g .messages;
         ends = g .ends;
+        last = g .last;
+        claim = g .claim;
       }
 
   pub to-full-agrees : table p a call.ToFull l ≡ none → (let o : Result = does p (runOf a past) (passOf p a past) call.ToFull l in Agrees p through its (withBuffers (inPass a Change 0 []) (o .lent)) past)
@@ -130,6 +145,8 @@ module _ (p : ℕ) (large : maxWeight < p) (through : Bool) (its : List Given) (
         total = g .total;
         messages = g .messages;
         ends = g .ends;
+        last = g .last;
+        claim = g .claim;
       }
 
   -- AN ITEM IS TAKEN
@@ -158,6 +175,8 @@ module _ (p : ℕ) (large : maxWeight < p) (through : Bool) (its : List Given) (
         total = g .total;
         messages = g .messages;
         ends = g .ends;
+        last = g .last;
+        claim = g .claim;
       }
   item-agrees x o Change ek op more e fit kept wf wg =
       let b : State = withBuffers (inPass a Change (a .pass .point) (x ∷ a .pass .items)) o in
@@ -180,6 +199,8 @@ module _ (p : ℕ) (large : maxWeight < p) (through : Bool) (its : List Given) (
         total = g .total;
         messages = g .messages;
         ends = g .ends;
+        last = g .last;
+        claim = g .claim;
       }
 
   -- A PASS IS CLOSED
@@ -192,23 +213,48 @@ module _ (p : ℕ) (large : maxWeight < p) (through : Bool) (its : List Given) (
       ap₂ (λ m k. knownIn (long b) (taken b / 2 ^ level b) m k (waits next.Openings (b .turn .next)) through) em ek
       ∙ small-none (long b) (taken b / 2 ^ level b) (a .turn .mode) Shut (waits next.Openings (b .turn .next)) through s refl
 
-  total-agrees : (plain : Bool) → a .start .plain ≡ plain → a .turn .next ≡ next.Total → isSmall (a .turn .mode) ≡ true → (z : ℤ) (d : ℕ) → (plain ≡ true → z ≡ totalOf T)
-      → Agrees p through its (goesTo a (roundOrEnds 0 (a .start .rounds))) (noted past (cond plain (answered (reply.total z)) (answered (reply.fieldTotal d))))
-  total-agrees plain ep et s z d e =
-      let none-yet : length (a .turn .challenges) ≡ 0 = eqb-true _ _ (subst (λ t. roundFits t (length (a .turn .challenges)) (a .start .rounds) ≡ true) et (h .run .round)) in
-      let q = given-round 0 (a .start .rounds) in
-      let messages : a .start .plain ≡ true → past .messages ≡ messagesTo p T (a .turn .challenges) (givenAt (length (a .turn .challenges)) (roundOrEnds 0 (a .start .rounds))) =
-      λ plain. g .messages plain ∙ ap (λ t. messagesTo p T (a .turn .challenges) (givenAt (length (a .turn .challenges)) t)) et
-      ∙ ap (messagesTo p T (a .turn .challenges)) (sym (q .0) ∙ ap (λ i. givenAt i (roundOrEnds 0 (a .start .rounds))) (sym none-yet)) in
-      by plain ep e messages (q .1)
+  -- the total is the claim: the scalar product of the vectors
+  total-product-so : length (a .pass .items) ≡ a .start .items → a .start .plain ≡ true → image p (totalOf T) ≡ dot p (2 ^ a .start .rounds) (vectorF p T) (vectorG p T)
+  total-product-so all plain =
+      let same : a .pass .items ≡ its = gives-all T (a .pass .items) (g .gives) all whole in
+      total-product p large T (enough p its a h)
+      (λ i l. subst (λ (xs : List Given). Fine p (a .start .plain) (getD xs i (Numbers 0 0))) same (h .pass .own i (omega arith))) plain whole
+
+  -- before the first round the current folds are the vectors
+  first-level : (k n : ℕ) → k ≡ 0 → levelNow n k 0 (roundOrEnds 0 n) ≡ 0
+  first-level k n e = by (ltb 0 n) refl
     where
+      by : (b : Bool) → ltb 0 n ≡ b → levelNow n k 0 (cond b next.Message next.Ends) ≡ 0
+      by true z = e
+      by false z = omega (arith, ltb-false 0 n z)
+
+  total-agrees : (plain : Bool) → a .start .plain ≡ plain → a .turn .next ≡ next.Total → isSmall (a .turn .mode) ≡ true → (z : ℤ) (d : ℕ) → (plain ≡ true → z ≡ totalOf T)
+      → cond plain (image p z) d ≡ dot p (2 ^ a .start .rounds) (vectorF p T) (vectorG p T)
+      → Agrees p through its (goesTo a (roundOrEnds 0 (a .start .rounds))) (noted p call.Close past (cond plain (answered (reply.total z)) (answered (reply.fieldTotal d))))
+  total-agrees plain ep et s z d e claims =
+      let n : ℕ = a .start .rounds in
+      let cs : List ℕ = a .turn .challenges in
+      let none-yet : length cs ≡ 0 = eqb-true _ _ (subst (λ t. roundFits t (length cs) n ≡ true) et (h .run .round)) in
+      let q = given-round 0 n in
+      let messages : a .start .plain ≡ true → past .messages ≡ messagesTo p T cs (givenAt (length cs) (roundOrEnds 0 n)) =
+      λ plain. g .messages plain ∙ ap (λ t. messagesTo p T cs (givenAt (length cs) t)) et
+      ∙ ap (messagesTo p T cs) (sym (q .0) ∙ ap (λ i. givenAt i (roundOrEnds 0 n)) (sym none-yet)) in
+      let first : dot p (2 ^ n) (vectorF p T) (vectorG p T) ≡ productAt cs (levelNow n (length cs) 0 (roundOrEnds 0 n)) =
+      sym (first-claim p n (at cs) (vectorF p T) (vectorG p T)) ∙ ap (productAt cs) (sym (first-level (length cs) n none-yet)) in
+      by plain ep e messages (q .1) (q .2) (claims ∙ first)
+    where
+      b : State
+      b = goesTo a (roundOrEnds 0 (a .start .rounds))
+
+      none : known through b ≡ long b
+      none = still-none b refl refl s
+
       by : (plain : Bool) → a .start .plain ≡ plain → (plain ≡ true → z ≡ totalOf T)
           → (a .start .plain ≡ true → past .messages ≡ messagesTo p T (a .turn .challenges) (givenAt (length (a .turn .challenges)) (roundOrEnds 0 (a .start .rounds))))
-          → waits next.Openings (roundOrEnds 0 (a .start .rounds)) ≡ false
-          → Agrees p through its (goesTo a (roundOrEnds 0 (a .start .rounds))) (noted past (cond plain (answered (reply.total z)) (answered (reply.fieldTotal d))))
-      by true ep e messages later =
-          let b : State = goesTo a (roundOrEnds 0 (a .start .rounds)) in
-          let none = still-none b refl refl s in
+          → waits next.Openings (roundOrEnds 0 (a .start .rounds)) ≡ false → waits next.Challenge (roundOrEnds 0 (a .start .rounds)) ≡ false
+          → cond plain (image p z) d ≡ productAt (a .turn .challenges) (level b)
+          → Agrees p through its b (noted p call.Close past (cond plain (answered (reply.total z)) (answered (reply.fieldTotal d))))
+      by true ep e messages later soon claims =
           record {
             gives = no-items-given T;
             placesF = λ j lo hi. absurd (no-place (long b) _ j none lo hi);
@@ -216,10 +262,10 @@ module _ (p : ℕ) (large : maxWeight < p) (through : Bool) (its : List Given) (
             total = λ _ _. e refl;
             messages = messages;
             ends = λ _ w. absurd (true≢false (sym w ∙ later));
+            last = λ w. absurd (true≢false (sym w ∙ soon));
+            claim = λ w. claims;
           }
-      by false ep e messages later =
-          let b : State = goesTo a (roundOrEnds 0 (a .start .rounds)) in
-          let none = still-none b refl refl s in
+      by false ep e messages later soon claims =
           record {
             gives = no-items-given T;
             placesF = λ j lo hi. absurd (no-place (long b) _ j none lo hi);
@@ -227,6 +273,8 @@ module _ (p : ℕ) (large : maxWeight < p) (through : Bool) (its : List Given) (
             total = λ w _. absurd (true≢false (sym w ∙ ep));
             messages = messages;
             ends = λ _ w. absurd (true≢false (sym w ∙ later));
+            last = λ w. absurd (true≢false (sym w ∙ soon));
+            claim = λ w. claims;
           }
 
   -- a message was given: in small mode with the close, in full mode by its own call
@@ -236,8 +284,17 @@ module _ (p : ℕ) (large : maxWeight < p) (through : Bool) (its : List Given) (
   message-kept plain et even cross odd e =
       ap₂ _++_ (g .messages plain ∙ ap (λ t. messagesTo p T (a .turn .challenges) (givenAt (length (a .turn .challenges)) t)) et) (ap numbersIn e)
 
+  message-meant : (even cross odd : ℕ) → answered (reply.message even cross odd) ≡ meant p T (a .turn .challenges) (roundMessage (length (a .turn .challenges))) .answer
+      → messageOf3 even cross odd ≡ messageAt p T (a .turn .challenges) (length (a .turn .challenges))
+  message-meant even cross odd e = ap messageIn e
+
+  -- it leaves the claim, and the current folds are the same
+  message-claim : a .turn .next ≡ next.Message → past .running .claim ≡ productAt (a .turn .challenges) (length (a .turn .challenges))
+  message-claim et =
+      g .claim (ap amidRounds et) ∙ ap (λ t. productAt (a .turn .challenges) (levelNow (a .start .rounds) (length (a .turn .challenges)) 0 t)) et
+
   small-message : a .turn .next ≡ next.Message → isSmall (a .turn .mode) ≡ true → (even cross odd : ℕ) → answered (reply.message even cross odd) ≡ meant p T (a .turn .challenges) (roundMessage (length (a .turn .challenges))) .answer
-      → Agrees p through its (goesTo a next.Challenge) (noted past (answered (reply.message even cross odd)))
+      → Agrees p through its (goesTo a next.Challenge) (noted p call.Close past (answered (reply.message even cross odd)))
   small-message et s even cross odd e =
       let b : State = goesTo a next.Challenge in
       let none = still-none b refl refl s in
@@ -248,6 +305,8 @@ module _ (p : ℕ) (large : maxWeight < p) (through : Bool) (its : List Given) (
         total = λ plain _. g .total plain (ap (waits next.Total) et);
         messages = λ plain. message-kept plain et even cross odd e;
         ends = λ _ w. absurd (true≢false (sym w));
+        last = λ _. message-meant even cross odd e;
+        claim = λ _. message-claim et;
       }
 
   -- the ends were given
@@ -256,7 +315,7 @@ module _ (p : ℕ) (large : maxWeight < p) (through : Bool) (its : List Given) (
   ends-kept x y e = (ap (λ z. at (numbersIn z) 0) e, ap (λ z. at (numbersIn z) 1) e)
 
   small-ends : a .turn .next ≡ next.Ends → isSmall (a .turn .mode) ≡ true → (x y : ℕ) → answered (reply.ends x y) ≡ meant p T (a .turn .challenges) ends .answer
-      → Agrees p through its (goesTo a next.Openings) (noted past (answered (reply.ends x y)))
+      → Agrees p through its (goesTo a next.Openings) (noted p call.Close past (answered (reply.ends x y)))
   small-ends et s x y e =
       let b : State = goesTo a next.Openings in
       let none = still-none b refl refl s in
@@ -267,6 +326,8 @@ module _ (p : ℕ) (large : maxWeight < p) (through : Bool) (its : List Given) (
         total = λ plain _. g .total plain (ap (waits next.Total) et);
         messages = λ plain. g .messages plain ∙ ap (λ t. messagesTo p T (a .turn .challenges) (givenAt (length (a .turn .challenges)) t)) et;
         ends = λ _ w. ends-kept x y e;
+        last = λ w. absurd (true≢false (sym w));
+        claim = λ w. absurd (true≢false (sym w));
       }
 
   small-openings : a .turn .next ≡ next.Openings → isSmall (a .turn .mode) ≡ true → Agrees p through its (goesTo a next.Openings) past
@@ -280,6 +341,8 @@ module _ (p : ℕ) (large : maxWeight < p) (through : Bool) (its : List Given) (
         total = λ plain _. g .total plain (ap (waits next.Total) et);
         messages = λ plain. g .messages plain ∙ ap (λ t. messagesTo p T (a .turn .challenges) (givenAt (length (a .turn .challenges)) t)) et;
         ends = λ plain w. g .ends plain (ap (waits next.Openings) et);
+        last = λ w. absurd (true≢false (sym w));
+        claim = λ w. absurd (true≢false (sym w));
       }
 
   -- the change is done: every place is known
@@ -301,6 +364,8 @@ module _ (p : ℕ) (large : maxWeight < p) (through : Bool) (its : List Given) (
         total = g .total;
         messages = g .messages;
         ends = g .ends;
+        last = g .last;
+        claim = g .claim;
       }
     where
       by : (th o : Bool) → o ≡ false → cond (th || not o) (long a - taken a / 2 ^ level a) (long a) ≡ long a - taken a / 2 ^ level a
@@ -316,20 +381,27 @@ module _ (p : ℕ) (large : maxWeight < p) (through : Bool) (its : List Given) (
   total-answer true z d x e w = ap totalIn e
   total-answer false z d x e w = absurd (true≢false (sym w))
 
+  claim-answer : (plain : Bool) (z : ℤ) (d : ℕ) → (plain ≡ true → image p (totalOf T) ≡ dot p (2 ^ a .start .rounds) (vectorF p T) (vectorG p T))
+      → cond plain (answered (reply.total z)) (answered (reply.fieldTotal d)) ≡ answered (cond plain (reply.total (totalOf T)) (reply.fieldTotal (dot p (2 ^ a .start .rounds) (vectorF p T) (vectorG p T))))
+      → cond plain (image p z) d ≡ dot p (2 ^ a .start .rounds) (vectorF p T) (vectorG p T)
+  claim-answer true z d product e = ap (image p) (ap totalIn e) ∙ product refl
+  claim-answer false z d product e = ap fieldTotalIn e
+
   -- the answer of a close for the total
   step-answer : (plain : Bool) (s t : Step) (x y : Outcome Reply) → answerIn (s .answer) ≡ x → answerIn (t .answer) ≡ y → answerIn (cond plain s t .answer) ≡ cond plain x y
   step-answer true s t x y e f = e
   step-answer false s t x y e f = f
 
   pub close-agrees : (t : Next) (k : Kind) → a .turn .next ≡ t → a .pass .kind ≡ k → isOpen k ≡ true → kindFits k (a .turn .mode) t ≡ true → length (a .pass .items) ≡ a .start .items
-      → (let st : Step = closeStep R (passAfter p R k (a .pass .point) (a .pass .items)) t k in
-      answerIn (st .answer) ≡ meant p T (a .turn .challenges) (closeAsks a t k) .answer → Agrees p through its (closed a t k) (noted past (answerIn (st .answer))))
+      → (let st : Step = closeStep p R (passAfter p R k (a .pass .point) (a .pass .items)) t k in
+      answerIn (st .answer) ≡ meant p T (a .turn .challenges) (closeAsks a t k) .answer → Agrees p through its (closed a t k) (noted p call.Close past (answerIn (st .answer))))
   close-agrees t Shut et ek op fit all e = absurd (true≢false (sym op))
   close-agrees next.Total Asked et ek op fit all e =
       let s : Pass = passAfter p R Asked (a .pass .point) (a .pass .items) in
       let same = step-answer (a .start .plain) _ _ (answered (reply.total (s .total))) (answered (reply.fieldTotal (s .dot))) refl refl in
-      subst (λ x. Agrees p through its (goesTo a (roundOrEnds 0 (a .start .rounds))) (noted past x)) (sym same)
-      (total-agrees (a .start .plain) refl et (small-asked (a .turn .mode) next.Total fit) (s .total) (s .dot) (total-answer (a .start .plain) (s .total) (s .dot) _ (sym same ∙ e)))
+      subst (λ x. Agrees p through its (goesTo a (roundOrEnds 0 (a .start .rounds))) (noted p call.Close past x)) (sym same)
+      (total-agrees (a .start .plain) refl et (small-asked (a .turn .mode) next.Total fit) (s .total) (s .dot) (total-answer (a .start .plain) (s .total) (s .dot) _ (sym same ∙ e))
+      (claim-answer (a .start .plain) (s .total) (s .dot) (total-product-so all) (sym same ∙ e)))
   close-agrees next.Message Asked et ek op fit all e = small-message et (small-asked (a .turn .mode) next.Message fit) _ _ _ e
   close-agrees next.Challenge Asked et ek op fit all e = absurd (no-pass (a .turn .mode) fit)
     where
@@ -365,11 +437,13 @@ module _ (p : ℕ) (large : maxWeight < p) (through : Bool) (its : List Given) (
         total = g .total;
         messages = g .messages;
         ends = g .ends;
+        last = g .last;
+        claim = g .claim;
       }
 
   pub full-message : a .turn .next ≡ next.Message → isFull (a .turn .mode) ≡ true → AsLeft a l → (even cross odd : ℕ)
       → answered (reply.message even cross odd) ≡ meant p T (a .turn .challenges) (roundMessage (length (a .turn .challenges))) .answer
-      → Agrees p through its (withBuffers (goesTo a next.Challenge) l) (noted past (answered (reply.message even cross odd)))
+      → Agrees p through its (withBuffers (goesTo a next.Challenge) l) (noted p call.Message past (answered (reply.message even cross odd)))
   full-message et f kept even cross odd e =
       let k = full-places a refl f (ap (waits next.Openings) et) in
       let lv : levelNow (a .start .rounds) (length (a .turn .challenges)) 0 (a .turn .next) ≡ length (a .turn .challenges) = ap (levelNow (a .start .rounds) (length (a .turn .challenges)) 0) et in
@@ -380,10 +454,12 @@ module _ (p : ℕ) (large : maxWeight < p) (through : Bool) (its : List Given) (
         total = λ plain _. g .total plain (ap (waits next.Total) et);
         messages = λ plain. message-kept plain et even cross odd e;
         ends = λ _ w. absurd (true≢false (sym w));
+        last = λ _. message-meant even cross odd e;
+        claim = λ _. message-claim et;
       }
 
   pub full-ends : a .turn .next ≡ next.Ends → isFull (a .turn .mode) ≡ true → (x y : ℕ) → answered (reply.ends x y) ≡ meant p T (a .turn .challenges) ends .answer
-      → Agrees p through its (withBuffers (goesTo a next.Openings) l) (noted past (answered (reply.ends x y)))
+      → Agrees p through its (withBuffers (goesTo a next.Openings) l) (noted p call.Ends past (answered (reply.ends x y)))
   full-ends et f x y e =
       let b : State = withBuffers (goesTo a next.Openings) l in
       let none = full-none b refl f refl in
@@ -394,6 +470,8 @@ module _ (p : ℕ) (large : maxWeight < p) (through : Bool) (its : List Given) (
         total = λ plain _. g .total plain (ap (waits next.Total) et);
         messages = λ plain. g .messages plain ∙ ap (λ t. messagesTo p T (a .turn .challenges) (givenAt (length (a .turn .challenges)) t)) et;
         ends = λ _ w. ends-kept x y e;
+        last = λ w. absurd (true≢false (sym w));
+        claim = λ w. absurd (true≢false (sym w));
       }
 
   -- A CHALLENGE
@@ -407,10 +485,21 @@ module _ (p : ℕ) (large : maxWeight < p) (through : Bool) (its : List Given) (
       ∙ messages-before p T (a .turn .challenges) ds i (λ j less. sym (old-challenges (a .turn .challenges) c j less))
       ∙ ap (messagesTo p T ds) (sym up ∙ sym (given-round (length ds) (a .start .rounds) .0))
 
+  -- the message at its challenge is the scalar product of the next folds
+  challenge-claim : a .turn .next ≡ next.Challenge → (c : ℕ) → nextClaim p (past .running .message) c ≡ productAt (a .turn .challenges ++ c ∷ []) (level (takesChallenge a c))
+  challenge-claim et c =
+      let cs : List ℕ = a .turn .challenges in
+      let i : ℕ = length cs in
+      let ds : List ℕ = cs ++ c ∷ [] in
+      let same = g .last (ap (waits next.Challenge) et) ∙ message-before p T cs ds i (λ j less. sym (old-challenges cs c j less)) in
+      ap₂ (nextClaim p) same (sym (new-challenge cs c))
+      ∙ message-next p (a .start .rounds) (at ds) (vectorF p T) (vectorG p T) i
+      ∙ ap (productAt ds) (sym (challenge-level p large through its a h g whole l et c))
+
   pub challenge-agrees : (c : ℕ) (o : Lent) (m : Mode) → a .turn .mode ≡ m → a .turn .next ≡ next.Challenge
       → (isFull m ≡ true → Written (foldF p T (takesChallenge a c)) 0 (size (a .start .rounds) (suc (length (a .turn .challenges)))) (l .f) (o .f)
       × Written (foldG p T (takesChallenge a c)) 0 (size (a .start .rounds) (suc (length (a .turn .challenges)))) (l .g) (o .g))
-      → Agrees p through its (buffersIn (isFull m) (takesChallenge a c) o) past
+      → Agrees p through its (buffersIn (isFull m) (takesChallenge a c) o) (noted p (call.Challenge c) past (answered reply.challenged))
   challenge-agrees c o Small em et w =
       let b : State = takesChallenge a c in
       let none = still-none b refl refl (ap isSmall em) in
@@ -421,6 +510,8 @@ module _ (p : ℕ) (large : maxWeight < p) (through : Bool) (its : List Given) (
         total = λ plain _. g .total plain (ap (waits next.Total) et);
         messages = λ plain. challenge-messages plain et c;
         ends = λ _ z. absurd (true≢false (sym z ∙ given-round (length (a .turn .challenges ++ c ∷ [])) (a .start .rounds) .1));
+        last = λ z. absurd (true≢false (sym z ∙ given-round (length (a .turn .challenges ++ c ∷ [])) (a .start .rounds) .2));
+        claim = λ _. challenge-claim et c;
       }
   challenge-agrees c o Full em et w =
       let b : State = takesChallenge a c in
@@ -433,4 +524,6 @@ module _ (p : ℕ) (large : maxWeight < p) (through : Bool) (its : List Given) (
         total = λ plain _. g .total plain (ap (waits next.Total) et);
         messages = λ plain. challenge-messages plain et c;
         ends = λ _ z. absurd (true≢false (sym z ∙ given-round (length (a .turn .challenges ++ c ∷ [])) (a .start .rounds) .1));
+        last = λ z. absurd (true≢false (sym z ∙ given-round (length (a .turn .challenges ++ c ∷ [])) (a .start .rounds) .2));
+        claim = λ _. challenge-claim et c;
       }

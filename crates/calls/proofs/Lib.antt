@@ -49,6 +49,7 @@ pub mod Longer
 pub mod Alike
 pub mod Hits
 pub mod Links
+pub mod Claims
 pub mod LiveTable
 pub mod LiveStep
 pub mod LiveVectors
@@ -56,6 +57,7 @@ pub mod LiveWorld
 pub mod Unbound
 pub mod Pointed
 pub mod BatchTakes
+pub mod LateClaims
 pub mod OpeningChecks
 pub mod LivePass
 pub mod LiveFull

@@ -20,7 +20,7 @@ module _ (p : ℕ) (large : maxWeight < p) (through : Bool) (T : Trip) (whole : 
   -- an answered call, and where it leads
   pub record Moved (w : World) (past : Notes) (m : Made) : Type 0 where
     pub answered : isAnswered (came p w m .answer) ≡ true
-    pub going : Going p large through T whole (onward p w m) (noted past (came p w m .answer))
+    pub going : Going p large through T whole (onward p w m) (noted p (m .call) past (came p w m .answer))
     pub right : Right p T (w .state) (m .call) (m .lent) (came p w m)
     pub state : follow (w .state) (m .call) (came p w m) ≡ goesOn (w .state) (m .call) (came p w m .lent)
 

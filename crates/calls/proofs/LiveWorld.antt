@@ -180,7 +180,7 @@ module _ (p : ℕ) (large : maxWeight < p) (through : Bool) (T : Trip) (idle : C
         → Standing m' t' i' k' q' (hostOn p T idle w c))
     stands c v m' t' i' k' q' em et ei ek eq room left =
         record {
-          past = noted (st .past) (made p T idle w c .answer);
+          past = noted p c (st .past) (made p T idle w c .answer);
           going = v .going;
           mode = ap (λ d. d .turn .mode) (v .state) ∙ em;
           next = ap (λ d. d .turn .next) (v .state) ∙ et;

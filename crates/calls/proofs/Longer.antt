@@ -10,11 +10,11 @@ module _ {W M : Type 0} (next : W → M → W) (P : W → M → Type 0) where
   last-along w [] m h = h .0
   last-along w (x ∷ ms) m h = last-along (next w x) ms m (h .1)
 
-  -- and along the list before it
-  pub along-first : (w : W) (ms : List M) (m : M) → along next P w (ms ++ m ∷ []) → along next P w ms
+  -- and along the first calls of it
+  pub along-first : (w : W) (ms ns : List M) → along next P w (ms ++ ns) → along next P w ms
   unfolding along
-  along-first w [] m h = tt
-  along-first w (x ∷ ms) m h = (h .0, along-first (next w x) ms m (h .1))
+  along-first w [] ns h = tt
+  along-first w (x ∷ ms) ns h = (h .0, along-first (next w x) ms ns (h .1))
 
   pub along-more : (w : W) (ms : List M) (m : M) → along next P w ms → P (after next w ms) m → along next P w (ms ++ m ∷ [])
   unfolding along after
@@ -38,6 +38,12 @@ module _ {W M : Type 0} (next : W → M → W) (P : W → Type 0) where
   unfolding always after
   always-last w [] h = h
   always-last w (x ∷ ms) h = always-last (next w x) ms (h .1)
+
+  pub always-first : (w : W) (ms ns : List M) → always next P w (ms ++ ns) → always next P w ms
+  unfolding always
+  always-first w [] [] h = h
+  always-first w [] (n ∷ ns) h = h .0
+  always-first w (x ∷ ms) ns h = (h .0, always-first (next w x) ms ns (h .1))
 
   pub always-more : (w : W) (ms : List M) (m : M) → always next P w ms → P (next (after next w ms) m) → always next P w (ms ++ m ∷ [])
   unfolding always after

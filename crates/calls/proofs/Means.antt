@@ -31,7 +31,7 @@ use Rattle.prover.specs.Records.{Out, answeredStep}
 use Rattle.prover.specs.Level.{levelOf}
 use Rattle.pass.specs.Open.{newPass, noPoints, pointsOf}
 use Rattle.prover.specs.Open.{openKernel, paddedKernel}
-use Rattle.prover.specs.Close.{withTotal, goneTo, shutPass}
+use Rattle.prover.specs.Close.{withTotal, withFieldTotal, shutPass}
 use Rattle.prover.specs.Full.{messageTurn, endsTurn, openingTurn, bothReduced, messageGiven, endsGiven}
 use Rattle.prover.specs.Opening.{openingGiven}
 use Rattle.prover.specs.Written.{runProof}
@@ -100,8 +100,8 @@ module _ (p : ℕ) (large : maxWeight < p) (through : Bool) (its : List Given) (
     S k = passAfter p R k (a .pass .point) (a .pass .items)
 
     total-meant : (plain : Bool) → a .start .plain ≡ plain → a .turn .next ≡ next.Total
-        → replied (cond plain (answeredStep (withTotal R (S Asked .total)) shutPass (answer.Total (S Asked .total)))
-        (answeredStep (goneTo R (roundOrEnds 0 (R .start .rounds))) shutPass (answer.FieldTotal (S Asked .dot))))
+        → replied (cond plain (answeredStep (withTotal p R (S Asked .total)) shutPass (answer.Total (S Asked .total)))
+        (answeredStep (withFieldTotal R (S Asked .dot)) shutPass (answer.FieldTotal (S Asked .dot))))
         ≡ record { answer = answered (cond plain (reply.total (totalOf T)) (reply.fieldTotal (dot p (2 ^ n) (vectorF p T) (vectorG p T)))); values = noValues }
     total-meant true k e =
         ap (λ z. record { answer = answered (reply.total z); values = noValues })
@@ -121,7 +121,7 @@ module _ (p : ℕ) (large : maxWeight < p) (through : Bool) (its : List Given) (
     opening-points et = after-points p R Asked (a .pass .point) (a .pass .items) ∙ ap (λ t. cond (waits next.Openings t) (newPass Asked (pointsOf p (a .pass .point)) (paddedKernel R)) (newPass Asked noPoints (openKernel R)) .points) et
 
     pub close-meant : (t : Next) (k : Kind) → a .turn .next ≡ t → a .pass .kind ≡ k → isOpen k ≡ true → kindFits k (a .turn .mode) t ≡ true
-        → replied (closeStep R (S k) t k) ≡ meant p T (a .turn .challenges) (closeAsks a t k)
+        → replied (closeStep p R (S k) t k) ≡ meant p T (a .turn .challenges) (closeAsks a t k)
     close-meant t Shut et ek op fit = absurd (true≢false (sym op))
     close-meant next.Total Asked et ek op fit = total-meant (a .start .plain) refl et
     close-meant next.Message Asked et ek op fit =

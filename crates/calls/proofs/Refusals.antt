@@ -1,7 +1,7 @@
 -- THE FIRST LAYER, with nothing asked of the caller: each call of any list is refused exactly when the table says, and then changes
 -- nothing; and an open small pass has document 01's entries.
 use mathlib.Core.Path.{_≡_, refl, sym, ap, subst, _∙_}
-use mathlib.Core.Bool.{Bool, true, false, cond}
+use mathlib.Core.Bool.{Bool, true, false, cond, true≢false}
 use mathlib.Core.List.{List, [], _∷_}
 use mathlib.Core.Option.{Option, none, some}
 use Prim.Native.Nat.{ℕ, suc, _+_, _<_}
@@ -31,11 +31,12 @@ use Rattle.prover.specs.Reply.{answerIn}
 use Rattle.pass.specs.Pass.{kernelOf}
 use Rattle.prover.specs.Records.{answeredStep}
 use Rattle.prover.specs.Level.{levelOf, padding}
-use Rattle.prover.specs.Close.{withTotal, goneTo, shutPass}
+use Rattle.prover.specs.Close.{withTotal, withFieldTotal, shutPass}
 use Rattle.prover.specs.Full.{messageGiven}
 use Rattle.prover.specs.Opening.{openingGiven}
 use Rattle.prover.specs.Challenge.{challengedFull}
 use Rattle.item.specs.declared.Start.{Start}
+use Rattle.item.specs.declared.Given.{Given}
 use Rattle.item.specs.Item.{contributes}
 use Rattle.runs.specs.Passes.{passAfter}
 use Rattle.runs.proofs.RunFacts.{bounds}
@@ -57,30 +58,30 @@ use Rattle.calls.proofs.Steps.{closeStep, does, refusedResult, settled,
 use Rattle.calls.proofs.Fits.{Fits, few, run-formed, formed, kind-is, taken-is, sum-is, messages-below}
 use Rattle.calls.proofs.Follows.{Follows, positive, no-items, open-follows, open-at-follows, to-full-follows, to-small-follows, item-follows, close-follows, message-follows, ends-follows, challenge-follows}
 
-close-answered : (r : Run) (s : Pass) (t : Next) (k : Kind) → isAnswered (answerIn (closeStep r s t k .answer)) ≡ true
-close-answered r s t Shut = refl
-close-answered r s next.Total Asked = by (r .start .plain)
+close-answered : (p : ℕ) (r : Run) (s : Pass) (t : Next) (k : Kind) → isAnswered (answerIn (closeStep p r s t k .answer)) ≡ true
+close-answered p r s t Shut = refl
+close-answered p r s next.Total Asked = by (r .start .plain)
   where
-    by : (plain : Bool) → isAnswered (answerIn (cond plain (answeredStep (withTotal r (s .total)) shutPass (answer.Total (s .total))) (answeredStep (goneTo r (roundOrEnds 0 (r .start .rounds))) shutPass (answer.FieldTotal (s .dot))) .answer)) ≡ true
+    by : (plain : Bool) → isAnswered (answerIn (cond plain (answeredStep (withTotal p r (s .total)) shutPass (answer.Total (s .total))) (answeredStep (withFieldTotal r (s .dot)) shutPass (answer.FieldTotal (s .dot))) .answer)) ≡ true
     by true = refl
     by false = refl
-close-answered r s next.Message Asked = refl
-close-answered r s next.Challenge Asked = refl
-close-answered r s next.Ends Asked = refl
-close-answered r s next.Openings Asked = refl
-close-answered r s t Change = refl
+close-answered p r s next.Message Asked = refl
+close-answered p r s next.Challenge Asked = refl
+close-answered p r s next.Ends Asked = refl
+close-answered p r s next.Openings Asked = refl
+close-answered p r s t Change = refl
 
 pub refused-with : (A : Type 0) (k : ℕ) (i : Option ℕ) → isAnswered (refusedWith {A = A} k i) ≡ false
 refused-with A k none = refl
 refused-with A k (some i) = refl
 
 -- what an answered item notes: nothing
-take-noted : (p : ℕ) (b : State) (past : Notes) (o : Result) → o .answer ≡ answered reply.taken → Follows p b past o → (isAnswered (o .answer) ≡ true) × Follows p b (noted past (o .answer)) o
-take-noted p b past o e h = (ap isAnswered e, subst (λ x. Follows p b (noted past x) o) (sym e) h)
+take-noted : (p : ℕ) (b : State) (past : Notes) (x : Given) (o : Result) → o .answer ≡ answered reply.taken → Follows p b past o → (isAnswered (o .answer) ≡ true) × Follows p b (noted p (call.Give x) past (o .answer)) o
+take-noted p b past x o e h = (ap isAnswered e, subst (λ y. Follows p b (noted p (call.Give x) past y) o) (sym e) h)
 
 module _ (p : ℕ) (large : maxWeight < p) where
   abbrev Goes : State → Notes → Call → Result → Type 0
-  Goes a past c o = (isAnswered (o .answer) ≡ true) × Follows p (goesOn a c (o .lent)) (noted past (o .answer)) o
+  Goes a past c o = (isAnswered (o .answer) ≡ true) × Follows p (goesOn a c (o .lent)) (noted p c past (o .answer)) o
 
   challenge-answered : (r : Run) (s : Pass) (c : ℕ) (l : Lent) (m : Mode) → isAnswered (challengeDoes p r s c l m .answer) ≡ true
   unfolding challengedFull
@@ -95,9 +96,9 @@ module _ (p : ℕ) (large : maxWeight < p) where
   goes a {past} h call.ToFull l e = (refl, to-full-follows p large a h l e)
   goes a {past} h call.ToSmall l e = (refl, to-small-follows p large a h l e)
   goes a {past} h (call.Give x) l e =
-      take-noted p _ past _ (takes-answer p (runOf a past) (passOf p a past) (contributes p (a .start) x) (l .f) (l .g))
+      take-noted p _ past x _ (takes-answer p (runOf a past) (passOf p a past) (contributes p (a .start) x) (l .f) (l .g))
       (item-follows p large a h x l e)
-  goes a {past} h call.Close l e = (close-answered (runOf a past) (passOf p a past) (a .turn .next) (passOf p a past .kind), close-follows p large a h l e)
+  goes a {past} h call.Close l e = (close-answered p (runOf a past) (passOf p a past) (a .turn .next) (passOf p a past .kind), close-follows p large a h l e)
   goes a {past} h call.Message l e = (refl, message-follows p large a h l e)
   goes a {past} h (call.Challenge c) l e = (challenge-answered (runOf a past) (passOf p a past) c l (a .turn .mode), challenge-follows p large a h c l e)
   goes a {past} h call.Ends l e = (refl, ends-follows p large a h l e)
@@ -125,15 +126,15 @@ module _ (p : ℕ) (large : maxWeight < p) where
     answered-so (some k) e = refl
 
     stands-so : (t : Option Refusal) → table p a c l ≡ t
-        → (let o : Result = settled (runOf a past) (passOf p a past) l t did in Inv (follow a c o) (noted past (o .answer)) (o .run) (o .pass))
+        → (let o : Result = settled (runOf a past) (passOf p a past) l t did in Inv (follow a c o) (noted p c past (o .answer)) (o .run) (o .pass))
     stands-so none e =
         let g = goes a h c l e in
-        subst (λ b. Inv (cond b (goesOn a c (did .lent)) a) (noted past (did .answer)) (did .run) (did .pass)) (sym (g .0))
+        subst (λ b. Inv (cond b (goesOn a c (did .lent)) a) (noted p c past (did .answer)) (did .run) (did .pass)) (sym (g .0))
         (record { run = g .1 .run; pass = g .1 .pass; fits = g .1 .fits })
     stands-so (some k) e =
         let o : Result = refusedResult (runOf a past) (passOf p a past) l k in
-        subst (λ b. Inv (cond b (goesOn a c (o .lent)) a) (noted past (o .answer)) (runOf a past) (passOf p a past)) (sym (refused-with _ (k .0) (k .1)))
-        (subst (λ n. Inv a n (runOf a past) (passOf p a past)) (sym (refusal-noted past (k .0) (k .1))) (record { run = refl; pass = refl; fits = h }))
+        subst (λ b. Inv (cond b (goesOn a c (o .lent)) a) (noted p c past (o .answer)) (runOf a past) (passOf p a past)) (sym (refused-with _ (k .0) (k .1)))
+        (subst (λ n. Inv a n (runOf a past) (passOf p a past)) (sym (refusal-noted p c past (k .0) (k .1))) (record { run = refl; pass = refl; fits = h }))
 
   pub decide-step : (a : State) {past : Notes} (r : Run) (s : Pass) → Inv a past r s → (c : Call) → (l : Lent) → Decides r s l (table p a c l) (step p r s c l)
   decide-step a {past} r s i c l =
@@ -142,11 +143,11 @@ module _ (p : ℕ) (large : maxWeight < p) where
       (subst (Decides (runOf a past) (passOf p a past) l (table p a c l)) (sym (step-is a (i .fits) c l)) (answered-so a (i .fits) c l (table p a c l) refl)))
 
   pub inv-step : (a : State) {past : Notes} (r : Run) (s : Pass) → Inv a past r s → (c : Call) → (l : Lent)
-      → (let o : Result = step p r s c l in Inv (follow a c o) (noted past (o .answer)) (o .run) (o .pass))
+      → (let o : Result = step p r s c l in Inv (follow a c o) (noted p c past (o .answer)) (o .run) (o .pass))
   inv-step a {past} r s i c l =
-      subst (λ r. (let o : Result = step p r s c l in Inv (follow a c o) (noted past (o .answer)) (o .run) (o .pass))) (sym (i .run))
-      (subst (λ s. (let o : Result = step p (runOf a past) s c l in Inv (follow a c o) (noted past (o .answer)) (o .run) (o .pass))) (sym (i .pass))
-      (subst (λ o. Inv (follow a c o) (noted past (o .answer)) (o .run) (o .pass)) (sym (step-is a (i .fits) c l)) (stands-so a (i .fits) c l (table p a c l) refl)))
+      subst (λ r. (let o : Result = step p r s c l in Inv (follow a c o) (noted p c past (o .answer)) (o .run) (o .pass))) (sym (i .run))
+      (subst (λ s. (let o : Result = step p (runOf a past) s c l in Inv (follow a c o) (noted p c past (o .answer)) (o .run) (o .pass))) (sym (i .pass))
+      (subst (λ o. Inv (follow a c o) (noted p c past (o .answer)) (o .run) (o .pass)) (sym (step-is a (i .fits) c l)) (stands-so a (i .fits) c l (table p a c l) refl)))
 
   -- THE STACKS' LEVELS
   pub asked-level : (n i : ℕ) (t : Next) → levelAt n i t Asked ≡ levelNow n i n t
@@ -178,7 +179,7 @@ module _ (p : ℕ) (large : maxWeight < p) where
   abbrev pub Faithful : World → Notes → Type 0
   Faithful w past = Inv (w .state) past (w .run) (w .pass)
 
-  pub faithful-on : (w : World) {past : Notes} → Faithful w past → (m : Made) → Faithful (onward p w m) (noted past (came p w m .answer))
+  pub faithful-on : (w : World) {past : Notes} → Faithful w past → (m : Made) → Faithful (onward p w m) (noted p (m .call) past (came p w m .answer))
   faithful-on w i m = inv-step (w .state) (w .run) (w .pass) i (m .call) (m .lent)
 
   pub all-decided : (w : World) {past : Notes} → Faithful w past → (ms : List Made) → AllDecided p w ms
@@ -206,6 +207,7 @@ module _ (p : ℕ) (large : maxWeight < p) where
             round = refl;
             total = le-leb 0 (limit p) (omega arith);
             given = refl;
+            last = λ e. absurd (true≢false (sym e));
             below = λ j. positive p large;
             fend = positive p large;
             gend = positive p large;

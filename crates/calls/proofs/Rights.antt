@@ -181,12 +181,12 @@ module _ (p : ℕ) (large : maxWeight < p) (through : Bool) (its : List Given) (
       record { answer = b .0; values = b .1; f = b .2; g = b .3; proof = λ e. absurd (not-write _ refl e); file = λ other. refl }
 
   -- THE CLOSE
-  pub close-replied : table p a call.Close l ≡ none → replied (closeStep R S (a .turn .next) (S .kind)) ≡ meaning p T a call.Close
+  pub close-replied : table p a call.Close l ≡ none → replied (closeStep p R S (a .turn .next) (S .kind)) ≡ meaning p T a call.Close
   unfolding table
   close-replied e =
       let q = row-passed (isOpen (a .pass .kind)) 10 _ e in
       let u = row-passed (eqb (length (a .pass .items)) (a .start .items)) 8 _ (q .1) in
-      ap (λ k. replied (closeStep R S (a .turn .next) k)) (kind-is p a h)
+      ap (λ k. replied (closeStep p R S (a .turn .next) k)) (kind-is p a h)
       ∙ close-meant p large through its a h (g .gives) (eqb-true _ _ (u .0)) whole (a .turn .next) (a .pass .kind) refl refl (q .0) (h .pass .kind)
 
   close-right : table p a call.Close l ≡ none → Right p T a call.Close l (does p R S call.Close l)

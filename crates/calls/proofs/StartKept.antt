@@ -36,7 +36,7 @@ use Rattle.prover.specs.Calls.{bothLong, passOpen, giveCall}
 use Rattle.pass.specs.Lent.{goodIn}
 use Rattle.pass.specs.Checks.{itemChecks}
 use Rattle.prover.specs.Change.{mayChange, changes, toFullCall, mayReturn, returns, toSmallCall}
-use Rattle.prover.specs.Close.{withTotal, goneTo, shutPass, totalFits, finished, closing, closeCall, leavesStep}
+use Rattle.prover.specs.Close.{withTotal, withFieldTotal, shutPass, totalFits, finished, closing, closeCall, leavesStep}
 use Rattle.prover.specs.Full.{messageTurn, endsTurn, openingTurn, lentFolds, messageGiven, messageCall, endsGiven, endsCall}
 use Rattle.prover.specs.Challenge.{challengeTurn, challengedSmall, challengedFull, challenged, challengeCall}
 use Rattle.prover.specs.Opening.{openingGiven, openingCall}
@@ -97,7 +97,7 @@ module _ (p : ℕ) (r : Run) (s : Pass) where
 
   took-challenge : (c : ℕ) (f g : List ℕ) (m : Mode) → Keeps f g (challenged p r s c f g m)
   unfolding challengedFull
-  took-challenge c f g Small = same f g (out (challengedSmall r s c) f g) refl
+  took-challenge c f g Small = same f g (out (challengedSmall p r s c) f g) refl
   took-challenge c f g Full = read f g _ (same f g (challengedFull p r s c f g) refl)
 
   record Closes (o : Outcome Step) : Type 0 where
@@ -111,20 +111,20 @@ module _ (p : ℕ) (r : Run) (s : Pass) where
   closed-check false k rest h = record { so-closed = refl }
 
   gave-total : (plain : Bool)
-      → cond plain (answeredStep (withTotal r (s .total)) shutPass (answer.Total (s .total)))
-      (answeredStep (goneTo r (roundOrEnds 0 (r .start .rounds))) shutPass (answer.FieldTotal (s .dot))) .run .start
+      → cond plain (answeredStep (withTotal p r (s .total)) shutPass (answer.Total (s .total)))
+      (answeredStep (withFieldTotal r (s .dot)) shutPass (answer.FieldTotal (s .dot))) .run .start
       ≡ r .start
   gave-total true = refl
   gave-total false = refl
 
-  gave : (t : Next) → Closes (finished r s t)
+  gave : (t : Next) → Closes (finished p r s t)
   gave next.Total = record { so-closed = gave-total (r .start .plain) }
   gave next.Message = record { so-closed = refl }
   gave next.Challenge = record { so-closed = refl }
   gave next.Ends = record { so-closed = refl }
   gave next.Openings = record { so-closed = refl }
 
-  closed : (k : Kind) → Closes (closing r s k)
+  closed : (k : Kind) → Closes (closing p r s k)
   closed Shut = record { so-closed = refl }
   closed Asked = gave (r .next)
   closed Change = record { so-closed = refl }

@@ -45,14 +45,14 @@ use Rattle.calls.proofs.Records.{Notes, runOf}
 use Rattle.calls.proofs.Guards.{challengeDoes, same-row, like-row, both-and, open-decided, open-at-decided, to-full-decided, to-small-decided, message-decided, ends-decided, opening-decided, challenge-decided, item-decided, close-decided}
 
 -- what the close of a pass comes to; the first and the fourth line are met by no list
-abbrev pub closeStep : Run → Pass → Next → Kind → Step
-closeStep r s t Shut = changedStep r
-closeStep r s next.Total Asked = totalStep r s
-closeStep r s next.Message Asked = messageStep r s
-closeStep r s next.Challenge Asked = changedStep r
-closeStep r s next.Ends Asked = endsStep r s
-closeStep r s next.Openings Asked = openingStep r s
-closeStep r s t Change = changedStep r
+abbrev pub closeStep : ℕ → Run → Pass → Next → Kind → Step
+closeStep p r s t Shut = changedStep r
+closeStep p r s next.Total Asked = totalStep p r s
+closeStep p r s next.Message Asked = messageStep r s
+closeStep p r s next.Challenge Asked = changedStep r
+closeStep p r s next.Ends Asked = endsStep r s
+closeStep p r s next.Openings Asked = openingStep r s
+closeStep p r s t Change = changedStep r
 
 -- a call with no buffers
 abbrev pub keepingStep : Lent → Step → Result
@@ -65,7 +65,7 @@ does p r s (call.OpenAt b) l = keeping l (opened r (pointsOf p b) (paddedKernel 
 does p r s call.ToFull l = leaving l (changes r (l .f) (l .g))
 does p r s call.ToSmall l = keeping l (returns r s)
 does p r s (call.Give x) l = leaving l (takes p r s (contributes p (r .start) x) (l .f) (l .g))
-does p r s call.Close l = keepingStep l (closeStep r s (r .next) (s .kind))
+does p r s call.Close l = keepingStep l (closeStep p r s (r .next) (s .kind))
 does p r s call.Message l = leaving l (messageGiven p r s (l .f) (l .g))
 does p r s (call.Challenge c) l = leaving l (challengeDoes p r s c l (r .mode))
 does p r s call.Ends l = leaving l (endsGiven r s (l .f) (l .g))
@@ -109,15 +109,15 @@ row-passed true k t e = (refl, e)
 row-passed false k t e = (let z : _≡_ {A = Option Refusal} (some (k, none)) none = e in absurd (some-none z))
 
 -- the pass that a state has open gives an answer
-finishes : (r : Run) (s : Pass) (m : Mode) (t : Next) (k : Kind) → kindFits k m t ≡ true → isOpen k ≡ true → r .next ≡ t → closing r s k ≡ answered (closeStep r s t k)
-finishes r s m t Shut h o e = absurd (true≢false (sym o))
-finishes r s Small next.Total Asked h o e = ap (finished r s) e
-finishes r s Small next.Message Asked h o e = ap (finished r s) e
-finishes r s Small next.Challenge Asked h o e = absurd (true≢false (sym h))
-finishes r s Small next.Ends Asked h o e = ap (finished r s) e
-finishes r s Small next.Openings Asked h o e = ap (finished r s) e
-finishes r s Full t Asked h o e = absurd (true≢false (sym h))
-finishes r s m t Change h o e = refl
+finishes : (p : ℕ) (r : Run) (s : Pass) (m : Mode) (t : Next) (k : Kind) → kindFits k m t ≡ true → isOpen k ≡ true → r .next ≡ t → closing p r s k ≡ answered (closeStep p r s t k)
+finishes p r s m t Shut h o e = absurd (true≢false (sym o))
+finishes p r s Small next.Total Asked h o e = ap (finished p r s) e
+finishes p r s Small next.Message Asked h o e = ap (finished p r s) e
+finishes p r s Small next.Challenge Asked h o e = absurd (true≢false (sym h))
+finishes p r s Small next.Ends Asked h o e = ap (finished p r s) e
+finishes p r s Small next.Openings Asked h o e = ap (finished p r s) e
+finishes p r s Full t Asked h o e = absurd (true≢false (sym h))
+finishes p r s m t Change h o e = refl
 
 module _ (p : ℕ) (a : State) (past : Notes) (few : a .start .rounds ≤ 15) (s : Pass) (wf : wellFormed p (runOf a past) s ≡ true) (kind : s .kind ≡ a .pass .kind)
     (count : s .taken ≡ length (a .pass .items)) (sums : waits next.Total (a .turn .next) ≡ true → s .total ≡ sumOf (a .start) (a .pass .items))
@@ -126,12 +126,12 @@ module _ (p : ℕ) (a : State) (past : Notes) (few : a .start .rounds ≤ 15) (s
   R = runOf a past
 
   close-so : (l : Lent) (t : Option Refusal) → table p a call.Close l ≡ t
-      → keepingStep l (leavesStep R s (decided t (closing R s (s .kind)))) ≡ settled R s l t (keepingStep l (closeStep R s (a .turn .next) (s .kind)))
+      → keepingStep l (leavesStep R s (decided t (closing p R s (s .kind)))) ≡ settled R s l t (keepingStep l (closeStep p R s (a .turn .next) (s .kind)))
   unfolding table
   close-so l none e =
       let q = row-passed (isOpen (a .pass .kind)) 10 _ e .0 in
       ap (λ o. keepingStep l (leavesStep R s o))
-      (finishes R s (a .turn .mode) (a .turn .next) (s .kind) (subst (λ k. kindFits k (a .turn .mode) (a .turn .next) ≡ true) (sym kind) fits)
+      (finishes p R s (a .turn .mode) (a .turn .next) (s .kind) (subst (λ k. kindFits k (a .turn .mode) (a .turn .next) ≡ true) (sym kind) fits)
       (ap isOpen kind ∙ q) refl)
   close-so l (some (k, none)) e = refl
   close-so l (some (k, some i)) e = refl

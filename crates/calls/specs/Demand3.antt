@@ -1,5 +1,5 @@
 -- DEMAND 3: "a single theorem whose subject is the whole list". To be read top to bottom with Lists, Starts, State, World, Begins, Table,
--- Meaning, Statement (a run's list), Proper (a run's own list), QueryState (a verifier's list), Given (a verifier's beside a run's), Carried and
+-- Meaning, Claim, Statement (a run's list), Proper (a run's own list), QueryState (a verifier's list), Given (a verifier's beside a run's), Carried and
 -- WholeList (the verifier's own list), Verdict (a verifier's verdicts) and Blocks (lists with blocks of items).
 use Prim.Native.Nat.{ℕ, _+_, _<_, _≤_}
 use mathlib.Core.Path.{_≡_}
@@ -21,6 +21,7 @@ use Rattle.calls.specs.World.{Made, World, freshWorld, came, onward}
 use Rattle.calls.specs.Table.{table}
 use Rattle.calls.specs.Meaning.{question, Kept}
 use Rattle.calls.specs.Statement.{Decides, CountsHold, Holds, Right}
+use Rattle.calls.specs.Claim.{AllClaimed, amidRounds}
 use Rattle.calls.specs.QueryState.{verifierTable, Posed, Hearing, freshHearing, heard, hearsOn, DecidesHeard}
 use Rattle.calls.specs.Proper.{Valid, inUse, Brings, properRun}
 use Rattle.calls.specs.Given.{replyOf, BringsRun, OpeningsChecked, BatchChecked, agreed, OpensTrip}
@@ -56,7 +57,7 @@ module _ (p : ℕ) where
   abbrev pub AllRight : Bool → Trip → World → List Made → Type 0
   AllRight through T w ms =
       along (onward p) (λ w m. table p (w .state) (m .call) (m .lent) ≡ none → Right p T (w .state) (m .call) (m .lent) (came p w m)) w ms
-      × always (onward p) (λ w. Holds p through T (w .state) (w .pass)) w ms
+      × always (onward p) (λ w. Holds p through T (w .state) (w .run) (w .pass)) w ms
 
   -- the challenges taken are the first of these
   abbrev pub AllTake : List ℕ → World → List Made → Type 0
@@ -96,8 +97,11 @@ pub record Demand3 (p : ℕ) : Type 0 where
   -- for a round, the ends or openings holds exactly document 01's entries, level by level
   pub refusals : (s : Start) (b : Begin) → CanBegin s b → (f g : List ℕ) (ms : List Made)
       → AllDecided p (begun s b f g) ms
+  -- and the run's claim is the one that the answers make, refused calls and wrong items included
+  pub claims : (s : Start) (b : Begin) → CanBegin s b → (f g : List ℕ) (ms : List Made)
+      → AllClaimed p (begun s b f g) ms
   -- WHERE EVERY PASS GIVES THE TRIP'S ITEMS AND THE BUFFERS ARE KEPT: every answer is what is meant, every stack entry is the fold's item,
-  -- every buffer and every proof file is as document 01 says, after every call
+  -- every buffer and every proof file is as document 01 says, and the claim is the scalar product of the current folds, after every call
   pub answers : (through : Bool) (T : Trip) → Whole T → (b : Begin) → CanBegin (T .start) b → (f g : List ℕ) (ms : List Made)
       → (let w : World = begun (T .start) b f g in AllKept p through T w ms → AllRight p through T w ms)
   -- AN ANSWERED RETURN FREES THE BUFFERS up to the next change that is opened
@@ -135,6 +139,15 @@ pub record Demand3 (p : ℕ) : Type 0 where
       → (let w : World = begun (T .start) b f g in
       AllKept p through T w ms → (cs : List ℕ) → length cs ≡ T .start .rounds → AllTake p cs w ms
       → (qs : List Posed) → AllBringRun p T w ms (freshHearing (T .start) cs) qs → AllSay p T (freshHearing (T .start) cs) qs)
+  -- and it holds the claim that the run held at the same place: where the run had taken as many challenges as it has heard messages
+  pub claimsAlike : (through : Bool) (T : Trip) → Whole T → (b : Begin) → CanBegin (T .start) b → (f g : List ℕ) (ms ns : List Made)
+      → (let w : World = begun (T .start) b f g in
+      let x : World = after (onward p) w ms in
+      AllKept p through T w (ms ++ ns) → (cs : List ℕ) → length cs ≡ T .start .rounds → AllTake p cs w (ms ++ ns)
+      → (qs : List Posed) → AllBringRun p T w (ms ++ ns) (freshHearing (T .start) cs) qs
+      → (let h : Hearing = after (hearsOn p) (freshHearing (T .start) cs) qs in
+      amidRounds (x .state .turn .next) ≡ true → h .state .closed ≡ true → h .state .round ≡ length (x .state .turn .challenges)
+      → h .verifier .claim ≡ x .run .claim))
   -- and "at any time", whatever the verifier was asked before, every check of the run's openings is yes
   pub openingsChecked : (through : Bool) (T : Trip) → Whole T → (b : Begin) → CanBegin (T .start) b → (f g : List ℕ) (ms : List Made)
       → (let w : World = begun (T .start) b f g in

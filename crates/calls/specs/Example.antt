@@ -134,10 +134,15 @@ unfoldable pub lastOf : List ℕ → List (List ℕ) → List ℕ
 lastOf file [] = file
 lastOf file (x ∷ xs) = lastOf x xs
 
--- a list of calls that brings the trip and keeps the buffers is answered so, its refusals are the table's, and it leaves the trip's
--- proof file
-pub record TripList (xs : List Exchange) (w : World) : Type 0 where
+-- "Claims go -5100, -26300, -26650", after so many calls each
+abbrev pub claimsGo : ℕ → ℕ → ℕ → ℕ → List ℕ
+claimsGo before first second third = replicate before 0 ++ replicate first 2147478547 ++ replicate second 2147457347 ++ replicate third 2147456997
+
+-- a list of calls that brings the trip and keeps the buffers is answered so, its refusals are the table's, the run has these claims after
+-- each call, and it leaves the trip's proof file
+pub record TripList (xs : List Exchange) (claims : List ℕ) (w : World) : Type 0 where
   pub kept : AllKept P true trip w (callsOf xs)
   pub replies : repliesFrom w (callsOf xs) ≡ answersOf xs
   pub refusals : each (onward P) (λ w m. table P (w .state) (m .call) (m .lent)) w (callsOf xs) ≡ refusalsOf xs
+  pub shown : each (onward P) (λ w m. came P w m .run .claim) w (callsOf xs) ≡ claims
   pub file : lastOf [] (each (onward P) (λ w m. came P w m .lent .file) w (callsOf xs)) ≡ tripFile

@@ -2,6 +2,7 @@ pub mod Lists
 pub mod Step
 pub mod State
 pub mod World
+pub mod Claim
 pub mod Table
 pub mod Meaning
 pub mod Statement

@@ -6,7 +6,7 @@ use mathlib.Core.List.{_++_}
 use mathlib.Core.Option.{Option, none, some}
 use lib.ListN.{drop}
 use Rattle.wire.specs.Proof.{proofSize}
-use Rattle.vector.specs.Vector.{at}
+use Rattle.vector.specs.Vector.{at, dot}
 use Rattle.vector.specs.Fold.{combine}
 use Rattle.vector.specs.Stack.{entries, ones, onesFrom, levels}
 use Rattle.kernel.specs.declared.Kernel.{Kernel}
@@ -25,6 +25,7 @@ use Rattle.calls.specs.declared.Call.the-variants as call
 use Rattle.calls.specs.Step.{Lent, Result, isAnswered}
 use Rattle.calls.specs.State.{State, goesOn}
 use Rattle.calls.specs.Table.{Refusal, refusedWith, passLevel, long, taken, completed}
+use Rattle.calls.specs.Claim.{amidRounds}
 use Rattle.calls.specs.Meaning.{meaning, proofOfTrip, foldF, foldG, bindsItem, writes}
 
 -- REFUSED EXACTLY WHEN, AND WITH THE NUMBER THAT, THE TABLE SAYS: then "state and buffers are unchanged"
@@ -60,10 +61,12 @@ known through a =
     (cond (bindsItem through a) (long a - completed a (taken a)) (long a))
 
 -- what holds between two calls of a list that brings the trip's items and keeps the buffers
-pub record Holds (p : ℕ) (through : Bool) (T : Trip) (a : State) (s : Pass) : Type 0 where
+pub record Holds (p : ℕ) (through : Bool) (T : Trip) (a : State) (r : Run) (s : Pass) : Type 0 where
   pub stacks : HasStacks a → Stacks p T a (kernelOf s)
   pub placesF : (j : ℕ) → known through a ≤ j → j < long a → at (a .buffers .f) j ≡ foldF p T a j
   pub placesG : (j : ℕ) → known through a ≤ j → j < long a → at (a .buffers .g) j ≡ foldG p T a j
+  -- document 02, (e): "it equals before each round, and before the ends, the scalar product of the current folds"
+  pub claim : amidRounds (a .turn .next) ≡ true → r .claim ≡ dot p (long a) (foldF p T a) (foldG p T a)
 
 -- an answered call answers what is meant, leaves the buffers with the places of the current fold that it is to write, and writes the
 -- proof file, or no file

@@ -1,4 +1,5 @@
-// The equations of a verifier: a message against its claim, the verdict, and the sum of a batch.
+// The claim's step, which a run and its verifier share, and the equations of a verifier: a message against its claim, the verdict, and
+// the sum of a batch.
 ghost use mathlib.Core.Path.{_≡_};
 ghost use Rattle.claim.specs.Claim.{messageOf3, nextOf, heardOf, ownEnds, foundOf, sumHolds};
 
@@ -14,7 +15,7 @@ pub enum Finding {
 }
 
 // even + cross·c + odd·c²
-fn next_claim(p: u32, c: u32, even: u32, cross: u32, odd: u32) -> u32
+pub fn next_claim(p: u32, c: u32, even: u32, cross: u32, odd: u32) -> u32
     ensures { λ r. ⌜ r ≡ nextOf p c even cross odd ⌝ }
 {
     let linear = field::modular::add_mul(p, even, cross, c);

@@ -98,11 +98,11 @@ module _ (p : ℕ) (r : Run) (s : Pass) where
       go true e = e
       go false e = eq-eqb (i + 1) n (omega (arith, ltb-false (i + 1) n e))
 
-  pub challenge-formed : (c : ℕ) → challengeTurn p r s ≡ true → wellFormed p (keptChallenge r c) s ≡ true
+  pub challenge-formed : (c : ℕ) → challengeTurn p r s ≡ true → wellFormed p (keptChallenge p r c) s ≡ true
   challenge-formed c e =
       let h = challenge-round p r s e in
       let t = h .tests in
-      tested p (keptChallenge r c) s
+      tested p (keptChallenge p r c) s
       (record {
         version = t .version;
         some = t .some;
@@ -173,8 +173,8 @@ module _ (p : ℕ) (c : ℕ → ℕ) (f g : Vector) (r : Run) (s : Pass) (fs gs 
       let h = challenge-round p r s turn in
       let n : ℕ = r .start .rounds in
       let i : ℕ = r .round in
-      let level : levelOf (keptChallenge r x) Shut ≡ suc i = next-level i n (h .less) in
-      let long : foldSize (keptChallenge r x) ≡ size n (suc i) = size-32 n (levelOf (keptChallenge r x) Shut) (h .formed .few) ∙ ap (size n) level in
+      let level : levelOf (keptChallenge p r x) Shut ≡ suc i = next-level i n (h .less) in
+      let long : foldSize (keptChallenge p r x) ≡ size n (suc i) = size-32 n (levelOf (keptChallenge p r x) Shut) (h .formed .few) ∙ ap (size n) level in
       let one : Holds fs (2 * size n (suc i)) (fold p c i f) = rw (h .halves, h .level) at (l .first) in
       let two : Holds gs (2 * size n (suc i)) (fold p c i g) = rw (h .halves, h .level) at (l .second) in
       rw (← same, h .half)

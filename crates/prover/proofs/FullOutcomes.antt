@@ -87,7 +87,7 @@ module _ (p : ℕ) (r : Run) (s : Pass) (f g : List ℕ) where
     folded m xs = foldedIn p (stageOf r) m c f g xs
 
     abbrev kept : Step
-    kept = answeredStep (keptChallenge r c) s answer.Challenged
+    kept = answeredStep (keptChallenge p r c) s answer.Challenged
 
     pub challenge-good : (m : Mode) → challengeIn p (stageOf r) m f g ≡ answered tt
         → leaves r s f g (challenged p r s c f g m) ≡ out kept (folded m f) (folded m g)

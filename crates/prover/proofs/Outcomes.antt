@@ -157,7 +157,7 @@ module _ (p : ℕ) (r : Run) (s : Pass) where
           pass-step r s (passOpen p r s) number.order _ a ∙ pass-step r s (eqb (s .taken) (r .start .items)) number.items _ b
           ∙ stop-step r s (totalFits p r s) number.total _ c
 
-      pub close-whole : totalFits p r s ≡ true → leavesStep r s (closeCall p r s) ≡ leavesStep r s (closing r s (s .kind))
+      pub close-whole : totalFits p r s ≡ true → leavesStep r s (closeCall p r s) ≡ leavesStep r s (closing p r s (s .kind))
       unfolding closeCall
       close-whole c =
           pass-step r s (passOpen p r s) number.order _ a ∙ pass-step r s (eqb (s .taken) (r .start .items)) number.items _ b

@@ -7,6 +7,7 @@ use lib.IntN.{ℤ}
 use lib.ListN.{getD, set}
 use Rattle.refusal.specs.Number as number
 use Rattle.refusal.specs.Outcome.{Outcome, answered, refused, refusedAt, require}
+use Rattle.field.specs.Integer.{image}
 use Rattle.phase.specs.declared.Mode.{Mode}
 use Rattle.phase.specs.declared.Mode.the-variants.{Full}
 use Rattle.phase.specs.declared.Next.{Next}
@@ -24,9 +25,9 @@ use Rattle.pass.specs.Open.{emptyPass}
 use Rattle.pass.specs.Formed.{totalWithin}
 use Rattle.pass.specs.Values.{valuesOf}
 
--- the run with another next, messages, total and end values
-abbrev pub runWith : Run → Next → List ℕ → ℤ → ℕ → ℕ → Run
-runWith r next messages total f g =
+-- the run with another next, messages, total, claim and end values
+abbrev pub runWith : Run → Next → List ℕ → ℤ → ℕ → ℕ → ℕ → Run
+runWith r next messages total claim f g =
     record {
       start = r .start;
       mode = r .mode;
@@ -35,18 +36,23 @@ runWith r next messages total f g =
       challenges = r .challenges;
       messages = messages;
       total = total;
+      claim = claim;
       fend = f;
       gend = g;
     }
 
 abbrev pub goneTo : Run → Next → Run
-goneTo r next = runWith r next (r .messages) (r .total) (r .fend) (r .gend)
+goneTo r next = runWith r next (r .messages) (r .total) (r .claim) (r .fend) (r .gend)
 
-abbrev pub withTotal : Run → ℤ → Run
-withTotal r total = runWith r (roundOrEnds 0 (r .start .rounds)) (r .messages) total (r .fend) (r .gend)
+-- the claim is "the total": a negative one is P + T, and a twisted run's is a field number
+abbrev pub withTotal : ℕ → Run → ℤ → Run
+withTotal p r total = runWith r (roundOrEnds 0 (r .start .rounds)) (r .messages) total (image p total) (r .fend) (r .gend)
+
+abbrev pub withFieldTotal : Run → ℕ → Run
+withFieldTotal r total = runWith r (roundOrEnds 0 (r .start .rounds)) (r .messages) (r .total) total (r .fend) (r .gend)
 
 abbrev pub withEnds : Run → ℕ → ℕ → Run
-withEnds r f g = runWith r Openings (r .messages) (r .total) f g
+withEnds r f g = runWith r Openings (r .messages) (r .total) (r .claim) f g
 
 abbrev pub inMode : Run → Mode → Run
 inMode r mode =
@@ -58,6 +64,7 @@ inMode r mode =
       challenges = r .challenges;
       messages = r .messages;
       total = r .total;
+      claim = r .claim;
       fend = r .fend;
       gend = r .gend;
     }
@@ -67,10 +74,10 @@ abbrev pub shutPass : Pass
 shutPass = emptyPass Shut
 
 -- "A twisted run's total is a field number and has no limit"
-abbrev pub totalStep : Run → Pass → Step
-totalStep r s =
-    cond (r .start .plain) (answeredStep (withTotal r (s .total)) shutPass (answer.Total (s .total)))
-    (answeredStep (goneTo r (roundOrEnds 0 (r .start .rounds))) shutPass (answer.FieldTotal (s .dot)))
+abbrev pub totalStep : ℕ → Run → Pass → Step
+totalStep p r s =
+    cond (r .start .plain) (answeredStep (withTotal p r (s .total)) shutPass (answer.Total (s .total)))
+    (answeredStep (withFieldTotal r (s .dot)) shutPass (answer.FieldTotal (s .dot)))
 
 -- the one level-n entry of each stack
 abbrev pub endsStep : Run → Pass → Step
@@ -92,7 +99,7 @@ messagesWith messages i even cross odd = set (set (set messages (3 * i) even) (3
 
 abbrev pub withMessage : Run → ℕ → ℕ → ℕ → Run
 withMessage r even cross odd =
-    runWith r Challenge (messagesWith (r .messages) (r .round) even cross odd) (r .total) (r .fend) (r .gend)
+    runWith r Challenge (messagesWith (r .messages) (r .round) even cross odd) (r .total) (r .claim) (r .fend) (r .gend)
 
 abbrev pub messageStep : Run → Pass → Step
 messageStep r s =
@@ -103,23 +110,23 @@ abbrev pub openingStep : Run → Pass → Step
 openingStep r s = record { run = r; pass = shutPass; answer = answer.Opening; values = valuesOf (s .evals) (r .start .rounds) }
 
 -- what a pass that is whole answers
-abbrev pub finished : Run → Pass → Next → Outcome Step
-finished r s Total = answered (totalStep r s)
-finished r s Message = answered (messageStep r s)
-finished r s Challenge = refused number.order
-finished r s Ends = answered (endsStep r s)
-finished r s Openings = answered (openingStep r s)
+abbrev pub finished : ℕ → Run → Pass → Next → Outcome Step
+finished p r s Total = answered (totalStep p r s)
+finished p r s Message = answered (messageStep r s)
+finished p r s Challenge = refused number.order
+finished p r s Ends = answered (endsStep r s)
+finished p r s Openings = answered (openingStep r s)
 
-abbrev pub closing : Run → Pass → Kind → Outcome Step
-closing r s Shut = refused number.order
-closing r s Asked = finished r s (r .next)
-closing r s Change = answered (changedStep r)
+abbrev pub closing : ℕ → Run → Pass → Kind → Outcome Step
+closing p r s Shut = refused number.order
+closing p r s Asked = finished p r s (r .next)
+closing p r s Change = answered (changedStep r)
 
 -- 10 no pass; 8 items wanting; 7, which leaves the pass open
 unfoldable pub closeCall : ℕ → Run → Pass → Outcome Step
 closeCall p r s =
     require (passOpen p r s) number.order
-    (require (eqb (s .taken) (r .start .items)) number.items (require (totalFits p r s) number.total (closing r s (s .kind))))
+    (require (eqb (s .taken) (r .start .items)) number.items (require (totalFits p r s) number.total (closing p r s (s .kind))))
 
 -- a call with no buffers
 abbrev pub leavesStep : Run → Pass → Outcome Step → Step

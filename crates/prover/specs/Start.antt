@@ -33,6 +33,7 @@ freshRun start =
       challenges = replicate 15 0;
       messages = replicate 45 0;
       total = pos 0;
+      claim = 0;
       fend = 0;
       gend = 0;
     }
@@ -48,6 +49,7 @@ openingsRun start challenges =
       challenges = fifteen (start .rounds) challenges;
       messages = replicate 45 0;
       total = pos 0;
+      claim = 0;
       fend = 0;
       gend = 0;
     }

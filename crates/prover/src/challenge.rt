@@ -2,8 +2,9 @@
 ghost use mathlib.Core.Path.{_≡_};
 ghost use Prim.Native.Nat.{_<_};
 ghost use Rattle.item.specs.Start.{modulusOf};
+ghost use Rattle.vector.specs.Message.{nextClaim};
 ghost use Rattle.prover.specs.Records.{out, leaves};
-ghost use Rattle.prover.specs.Challenge.{keptChallenge, challenged, challengeCall};
+ghost use Rattle.prover.specs.Challenge.{keptMessage, keptChallenge, challenged, challengeCall};
 use super::Answer;
 use super::Run;
 use super::Step;
@@ -20,10 +21,21 @@ use phase::order;
 use phase::turns;
 use refusal::Check;
 
-fn keep_challenge(run: Run, c: u32) -> Run
-    requires { ⌜ run .round < 15 ⌝ }
-    ensures { λ r. ⌜ r ≡ keptChallenge run c ⌝ }
+// The value of the round's message at its challenge.
+fn claim_at(p: u32, messages: [u32; 45], round: u32, c: u32) -> u32
+    requires { ⌜ round < 15 ⌝ }
+    ensures { λ r. ⌜ r ≡ nextClaim p (keptMessage messages round) c ⌝ }
 {
+    let at = 3 * (round as usize);
+    claim::next_claim(p, c, messages[at], messages[at + 1], messages[at + 2])
+}
+
+fn keep_challenge(p: u32, run: Run, c: u32) -> Run
+    requires { ⌜ run .round < 15 ⌝ }
+    ensures { λ r. ⌜ r ≡ keptChallenge p run c ⌝ }
+{
+    let messages = run.messages;
+    let claim = claim_at(p, messages, run.round, c);
     let at = run.round as usize;
     let mut challenges = run.challenges;
     challenges[at] = c;
@@ -32,6 +44,7 @@ fn keep_challenge(run: Run, c: u32) -> Run
     let next = order::round_or_ends(round, start.rounds);
     Run {
         challenges,
+        claim,
         round,
         next,
         ..run
@@ -45,7 +58,7 @@ fn take(p: u32, run: Run, pass: Pass, c: u32, f: &mut [u32], g: &mut [u32]) -> S
 {
     let mode = run.mode;
     match lent::challenge(p, stage_of(run), mode, c, f, g) {
-        Lent::Good => answered(keep_challenge(run, c), pass, Answer::Challenged),
+        Lent::Good => answered(keep_challenge(p, run, c), pass, Answer::Challenged),
         Lent::Refused(number) => refuse(run, pass, number),
     }
 }

@@ -24,17 +24,25 @@ use phase::order;
 use phase::turns;
 use refusal::Check;
 
-fn close_total(run: Run, pass: Pass) -> Step
-    ensures { λ r. ⌜ r ≡ totalStep run pass ⌝ }
+fn close_total(p: u32, run: Run, pass: Pass) -> Step
+    ensures { λ r. ⌜ r ≡ totalStep p run pass ⌝ }
 {
     let start = run.start;
     let next = order::round_or_ends(0, start.rounds);
     let shut = empty_pass(Kind::Shut);
     if start.plain {
         let total = pass.total;
-        return answered(Run { next, total, ..run }, shut, Answer::Total(total));
+        let claim = field::integer::image(p, total);
+        let after = Run {
+            next,
+            total,
+            claim,
+            ..run
+        };
+        return answered(after, shut, Answer::Total(total));
     }
-    answered(Run { next, ..run }, shut, Answer::FieldTotal(pass.dot))
+    let claim = pass.dot;
+    answered(Run { next, claim, ..run }, shut, Answer::FieldTotal(claim))
 }
 
 // The run with the message of its round.
@@ -119,13 +127,13 @@ fn close_change(run: Run) -> Step
     answered(full, empty_pass(Kind::Shut), Answer::Changed)
 }
 
-fn finish(run: Run, pass: Pass) -> Step
+fn finish(p: u32, run: Run, pass: Pass) -> Step
     requires { ⌜ (roundFits (run .next) (run .round) (run .start .rounds) ≡ true) × (run .start .rounds ≤ 15) ⌝ }
-    ensures { λ r. ⌜ r ≡ leavesStep run pass (finished run pass (run .next)) ⌝ }
+    ensures { λ r. ⌜ r ≡ leavesStep run pass (finished p run pass (run .next)) ⌝ }
 {
     let next = run.next;
     match next {
-        Next::Total => close_total(run, pass),
+        Next::Total => close_total(p, run, pass),
         Next::Message => close_message(run, pass),
         Next::Challenge => refuse(run, pass, refusal::ORDER),
         Next::Ends => close_ends(run, pass),
@@ -133,14 +141,14 @@ fn finish(run: Run, pass: Pass) -> Step
     }
 }
 
-fn close_kind(run: Run, pass: Pass) -> Step
+fn close_kind(p: u32, run: Run, pass: Pass) -> Step
     requires { ⌜ (roundFits (run .next) (run .round) (run .start .rounds) ≡ true) × (run .start .rounds ≤ 15) ⌝ }
-    ensures { λ r. ⌜ r ≡ leavesStep run pass (closing run pass (pass .kind)) ⌝ }
+    ensures { λ r. ⌜ r ≡ leavesStep run pass (closing p run pass (pass .kind)) ⌝ }
 {
     let kind = pass.kind;
     match kind {
         Kind::Shut => refuse(run, pass, refusal::ORDER),
-        Kind::Asked => finish(run, pass),
+        Kind::Asked => finish(p, run, pass),
         Kind::Change => close_change(run),
     }
 }
@@ -163,6 +171,6 @@ impl Run {
         let Check::Passed = total_fits(p, next, start.plain, pass.total) else {
             return refuse(self, pass, refusal::TOTAL);
         };
-        close_kind(self, pass)
+        close_kind(p, self, pass)
     }
 }

@@ -28,6 +28,8 @@ pub struct Run {
     pub challenges: [u32; 15],
     pub messages: [u32; 45],
     pub total: i64,
+    // The claim that the verifier should hold.
+    pub claim: u32,
     pub fend: u32,
     pub gend: u32,
 }

@@ -35,6 +35,7 @@ fn fresh(start: Start) -> Run
         challenges: [0u32; 15],
         messages: [0u32; 45],
         total: 0,
+        claim: 0,
         fend: 0,
         gend: 0,
     }
@@ -61,6 +62,7 @@ fn opens(items: u32, challenges: &[u32]) -> Step
         challenges: kept,
         messages: [0u32; 45],
         total: 0,
+        claim: 0,
         fend: 0,
         gend: 0,
     };

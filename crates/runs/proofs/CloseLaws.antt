@@ -67,7 +67,7 @@ module _ (p : ℕ) (c : ℕ → ℕ) (f g : Vector) (r : Run) (s : Pass) (ok : r
   -- "Message i, from fold i"
   pub closed-message : r .next ≡ Message
       → (let m : Numbers = message p (r .start .rounds) c f g (r .round) in
-      finished r s Message ≡ answered (answeredStep (withMessage r (m .even) (m .cross) (m .odd)) shutPass (answer.Message (m .even) (m .cross) (m .odd))))
+      finished p r s Message ≡ answered (answeredStep (withMessage r (m .even) (m .cross) (m .odd)) shutPass (answer.Message (m .even) (m .cross) (m .odd))))
   closed-message next =
       let level : levelOf r (s .kind) ≡ r .round = ap (λ a. levelAt (r .start .rounds) (r .round) a (s .kind)) next in
       let less : r .round < r .start .rounds = ltb-true (r .round) (r .start .rounds) (ap (λ a. roundFits a (r .round) (r .start .rounds)) (sym next) ∙ run-facts p r ok .fits) in
@@ -86,14 +86,14 @@ module _ (p : ℕ) (c : ℕ → ℕ) (f g : Vector) (r : Run) (s : Pass) (ok : r
   pub closed-ends : r .next ≡ Ends
       → (let a : ℕ = endValue p c (r .start .rounds) f in
       let b : ℕ = endValue p c (r .start .rounds) g in
-      finished r s Ends ≡ answered (answeredStep (withEnds r a b) shutPass (answer.Ends a b)))
+      finished p r s Ends ≡ answered (answeredStep (withEnds r a b) shutPass (answer.Ends a b)))
   closed-ends next =
       let e = end-values next in
       ap₂ (λ (a b : ℕ). answered (answeredStep (withEnds r a b) shutPass (answer.Ends a b))) (e .0) (e .1)
 
   -- "Opening at point b"
   pub closed-opening : r .next ≡ Openings → s .kind ≡ Asked → (b : ℕ) → s .points ≡ pointsOf p b
-      → finished r s Openings
+      → finished p r s Openings
       ≡ answered (record { run = r; pass = shutPass; answer = answer.Opening; values = inNinety (r .start .rounds) (opening p (r .start .rounds) c f g b) })
   closed-opening next asked b points =
       let level : levelOf r (s .kind) ≡ r .start .rounds = ap₂ (λ a k. levelAt (r .start .rounds) (r .round) a k) next asked in
