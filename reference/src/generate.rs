@@ -3,8 +3,10 @@
 
 mod batch_list;
 pub mod blocks;
+pub mod claims;
 mod file_list;
 pub mod marks;
+mod met;
 mod noise;
 mod plan;
 mod prover_list;

@@ -2,6 +2,7 @@
 
 mod batch;
 mod block_checks;
+mod claim_checks;
 mod compare;
 mod edges;
 mod field;

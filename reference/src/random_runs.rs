@@ -5,11 +5,12 @@ use crate::prover::{Answer, Buffers, Call};
 use crate::random::Random;
 use crate::stack::StackMachine;
 use crate::state::{Mode, Next, Run};
-use crate::vector::{message, rounds_of, twist_of};
+use crate::vector::{fold, message, rounds_of, scalar_product, twist_of};
 use crate::verifier::{Verdict, Verifier};
 
-/// Each message passes, each opening holds, and the
-/// stacks of every small pass are those of a stack machine.
+/// Each message passes, each opening holds, the claim before each round and before the ends is the
+/// scalar product of the folds and the verifier's, and the stacks of every small pass are those of a
+/// stack machine.
 pub fn random_run(random: &mut Random) -> Result<(), String> {
     let items = random.between(1, 40) as usize;
     let rounds = rounds_of(items);
@@ -30,6 +31,14 @@ pub fn random_run(random: &mut Random) -> Result<(), String> {
             Next::Openings => rounds + 1,
             _ => usize::MAX,
         };
+        if matches!(run.next, Next::Message(_) | Next::Ends) {
+            let mut folds = (vec![0; run.size()], vec![0; run.size()]);
+            lend_fold_0(&mut folds, &trip, &twists);
+            let [f, g] = [folds.0, folds.1].map(|v| fold(&v, &run.challenges, place));
+            if run.claim() != scalar_product(&f, &g) || verifier.claim != Some(run.claim()) {
+                return Err(format!("the claim at step {step} is {}", run.claim()));
+            }
+        }
         let call = match run.next {
             Next::Challenge(i) => Call::Challenge(challenges[i]),
             Next::Openings if rounds == 0 => break,
@@ -77,7 +86,7 @@ pub fn random_run(random: &mut Random) -> Result<(), String> {
 }
 
 fn lend_fold_0(buffers: &mut (Vec<u64>, Vec<u64>), trip: &[(u64, u64)], twists: &[u64]) {
-    for i in 0..64 {
+    for i in 0..buffers.0.len() {
         let (a, b) = *trip.get(i).unwrap_or(&(0, 0));
         (buffers.0[i], buffers.1[i]) = (mul(twist_of(twists, i), a), b);
     }

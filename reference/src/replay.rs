@@ -109,6 +109,7 @@ impl Tool {
             (_, 1..=5) | (Program::Runs, 6..=8 | 41) => self.own(op, a as usize, b as usize, c),
             (Program::Runs, 10..=12 | 62) => self.start_prover(op, wide_a, wide_b),
             (Program::Runs, 13..=24 | 26..=27) => self.prover(op, a, b),
+            (Program::Runs, 25) => self.claim(),
             (Program::Runs, 30..=32) => self.start_verifier(op, wide_a, wide_b),
             (Program::Runs, 33..=40 | 42..=44) => self.verifier(op, a, b, c),
             (Program::Runs, 60..=61) => self.write_slot(op, a as usize, b),
@@ -229,6 +230,13 @@ impl Tool {
             self.proof_length = bytes.len();
         }
         answered(answer)
+    }
+
+    fn claim(&self) -> String {
+        match &self.run {
+            Some(run) => format!("claim {}", run.claim()),
+            None => "no run".to_string(),
+        }
     }
 
     fn start_verifier(&mut self, op: u32, a: u64, b: u64) -> String {

@@ -1,6 +1,7 @@
 //! What a comparison has covered. What it should reach and did not makes it fail.
 
 use crate::generate::blocks::{Counts, ALWAYS_REFUSED, WHERE};
+use crate::generate::claims::Claims;
 use crate::generate::marks::Marks;
 use crate::generate::reached::Reached;
 use crate::generate::returns::Returns;
@@ -51,6 +52,7 @@ pub struct Report {
     reached: Reached,
     returns: Returns,
     marks: Marks,
+    claims: Claims,
     trips: u64,
     lists: u64,
     pub programs: u64,
@@ -90,6 +92,7 @@ impl Report {
         self.reached.add(&script.reached);
         self.returns.add(&script.returns);
         self.marks.add(&script.marks);
+        self.claims.add(&script.claims);
         let counted = self.blocks.iter_mut().flatten().flatten();
         for (sum, count) in counted.zip(script.blocks.iter().flatten().flatten()) {
             *sum += count;
@@ -126,7 +129,8 @@ impl Report {
             + &self.missing_batches()
             + &self.reached.missing()
             + &self.returns.missing()
-            + &self.marks.missing();
+            + &self.marks.missing()
+            + &self.claims.missing();
         match missing.is_empty() {
             true => Ok(self.table()),
             false => Err(missing + &self.table()),
@@ -166,7 +170,7 @@ impl Report {
     fn table(&self) -> String {
         let columns = self.columns(0..4) + &self.columns(4..8) + &self.columns(8..11);
         let met = self.reached.table() + &self.returns.table() + &self.marks.table();
-        let mut text = columns + &self.places() + &met;
+        let mut text = columns + &self.places() + &met + &self.claims.table();
         let calls =
             self.refused[1..].iter().flatten().chain(&self.answered[1..]).copied().sum::<u64>();
         text += &format!(

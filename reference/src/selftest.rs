@@ -6,7 +6,9 @@ use crate::files::write_log;
 use crate::random::Random;
 use crate::replay::{Program, Tool};
 use crate::text::listed;
-use crate::{batch, block_checks, mark_checks, random_runs, rules, trip, version_checks};
+use crate::{
+    batch, block_checks, claim_checks, mark_checks, random_runs, rules, trip, version_checks,
+};
 
 const PAPER_TRIP: &str = "total -5100
 round 0 2147482047 2147478297 2147480147
@@ -55,6 +57,7 @@ pub fn run() -> Result<String, String> {
     alike("the paper's trip", PAPER_TRIP, &trip::output(&write_log(1, &TRIP), &numbers))?;
     version_checks::run(&numbers)?;
     mark_checks::run(&numbers)?;
+    claim_checks::run()?;
     let paper = PAPER_TRIP
         .replace("round", "* message")
         .replace("ends", "* ends")
@@ -98,7 +101,7 @@ pub fn alike(name: &str, wanted: &str, got: &str) -> Result<(), String> {
 /// The ops that a program has, as REPLAY.md divides them.
 fn known_by_paper(program: Program) -> String {
     let ops = match program {
-        Program::Runs => vec![1..=8, 10..=24, 26..=27, 30..=44, 60..=64],
+        Program::Runs => vec![1..=8, 10..=27, 30..=44, 60..=64],
         Program::Files => vec![1..=5, 50..=59],
     };
     ops.into_iter().flatten().map(|op: u32| format!("{op} ")).collect()

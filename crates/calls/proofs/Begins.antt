@@ -94,6 +94,7 @@ module _ (p : ℕ) (large : maxWeight < p) (s : Start) (cs : List ℕ) (o : Open
             total = le-leb 0 (limit p) (omega arith);
             given = long ∙ ap (λ k. 3 * k) (sym (o .listed));
             last = λ e. absurd (true≢false (sym e));
+            claim = positive p large;
             below = λ j. rw (zeros-at (3 * n) j) (positive p large);
             fend = positive p large;
             gend = positive p large;

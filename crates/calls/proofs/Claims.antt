@@ -26,7 +26,7 @@ use Rattle.calls.specs.Lists.{always}
 use Rattle.calls.specs.World.{Made, World, came, onward}
 use Rattle.calls.specs.Begins.{Begin, total, openings, CanBegin, begun}
 use Rattle.calls.specs.Table.{levelNow}
-use Rattle.calls.specs.Claim.{afterOutcome, claimingOn, AllClaimed, amidRounds}
+use Rattle.calls.specs.Claim.{afterOutcome, claimingOn, ClaimHolds, AllClaimed, amidRounds}
 use Rattle.calls.specs.QueryState.{VerifierState}
 use Rattle.calls.proofs.Records.{Notes, noted}
 use Rattle.calls.proofs.Refusals.{Faithful, faithful-on}
@@ -43,13 +43,18 @@ running-noted p c past (refusedAt k i) = refl
 
 module _ (p : ℕ) (large : maxWeight < p) where
   -- EVERY LIST
+  claimed : (w : World) {past : Notes} → Faithful p large w past → ClaimHolds p (record { now = w; running = past .running })
+  claimed w i =
+      let e = ap (λ (r : Run). r .claim) (i .run) in
+      (e, subst (λ x. x < p) (sym e) (i .fits .run .claim))
+
   all-claimed : (w : World) {past : Notes} → Faithful p large w past → (ms : List Made)
-      → always (claimingOn p) (λ x. x .now .run .claim ≡ x .running .claim) (record { now = w; running = past .running }) ms
+      → always (claimingOn p) (ClaimHolds p) (record { now = w; running = past .running }) ms
   unfolding always
-  all-claimed w i [] = ap (λ (r : Run). r .claim) (i .run)
+  all-claimed w i [] = claimed w i
   all-claimed w {past} i (m ∷ ms) = (
-    ap (λ (r : Run). r .claim) (i .run),
-    subst (λ x. always (claimingOn p) (λ x. x .now .run .claim ≡ x .running .claim) (record { now = onward p w m; running = x }) ms)
+    claimed w i,
+    subst (λ x. always (claimingOn p) (ClaimHolds p) (record { now = onward p w m; running = x }) ms)
         (running-noted p (m .call) past (came p w m .answer)) (all-claimed (onward p w m) (faithful-on p large w i m) ms),
   )
 

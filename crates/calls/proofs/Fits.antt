@@ -14,7 +14,6 @@ use Rattle.refusal.specs.Limit.{maxItems}
 use Rattle.field.specs.Total.{inLimits}
 use Rattle.wire.specs.Proof.{allBelow}
 use Rattle.vector.specs.Vector.{at}
-use Rattle.vector.specs.Message.{Message}
 use Rattle.vector.specs.Rounds.{roundsOf}
 use Rattle.vector.proofs.Rounds.{rounds-at-most}
 use Rattle.phase.specs.declared.Mode.{Mode}
@@ -38,6 +37,7 @@ use Rattle.runs.proofs.PassRecord.{after-kind, after-taken}
 use Rattle.runs.proofs.PassTotal.{after-total}
 use Rattle.runs.proofs.PassFormed.{after-formed}
 use Rattle.calls.specs.State.{State}
+use Rattle.calls.specs.Claim.{Running}
 use Rattle.calls.proofs.Records.{Notes, inArray, runOf, passOf}
 use Rattle.calls.proofs.HeardTrip as heard
 
@@ -53,7 +53,7 @@ givenAt i next.Openings = i
 abbrev pub Fine : ℕ → Start → Given → Type 0
 Fine p s x = (contributes p s x .f < p) × (contributes p s x .g < p)
 
-pub record RunFits (p : ℕ) (s : Start) (t : Next) (cs : List ℕ) (z : ℤ) (ms : List ℕ) (m : Message) (a b : ℕ) : Type 0 where
+pub record RunFits (p : ℕ) (s : Start) (t : Next) (cs : List ℕ) (z : ℤ) (ms : List ℕ) (x : Running) (a b : ℕ) : Type 0 where
   pub version : versionKept (s .plain) (s .version) ≡ true
   pub some : 1 ≤ s .items
   pub most : s .items ≤ 32768
@@ -61,8 +61,9 @@ pub record RunFits (p : ℕ) (s : Start) (t : Next) (cs : List ℕ) (z : ℤ) (m
   pub round : roundFits t (length cs) (s .rounds) ≡ true
   pub total : inLimits p z ≡ true
   pub given : length ms ≡ 3 * givenAt (length cs) t
-  -- m is the last message, which the next challenge is for
-  pub last : waits next.Challenge t ≡ true → keptMessage ms (length cs) ≡ m
+  -- the next challenge is for the last message
+  pub last : waits next.Challenge t ≡ true → keptMessage ms (length cs) ≡ x .message
+  pub claim : x .claim < p
   pub below : (j : ℕ) → at ms j < p
   pub fend : a < p
   pub gend : b < p
@@ -77,7 +78,7 @@ pub record PassFits (p : ℕ) (s : Start) (m : Mode) (t : Next) (k : Kind) (xs :
   pub own : (q : ℕ) → q < length xs → heard.Fine p (s .plain) (getD xs q (Numbers 0 0))
 
 pub record Fits (p : ℕ) (a : State) (past : Notes) : Type 0 where
-  pub run : RunFits p (a .start) (a .turn .next) (a .turn .challenges) (past .total) (past .messages) (past .running .message) (past .fend) (past .gend)
+  pub run : RunFits p (a .start) (a .turn .next) (a .turn .challenges) (past .total) (past .messages) (past .running) (past .fend) (past .gend)
   pub pass : PassFits p (a .start) (a .turn .mode) (a .turn .next) (a .pass .kind) (a .pass .items)
 
 pub lt-or-le : (j m : ℕ) → (j < m) ⊎ (m ≤ j)

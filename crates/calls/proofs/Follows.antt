@@ -14,6 +14,8 @@ use borrow.Author.Tests.{ltb-true, ltb-false, eqb-true, eq-eqb}
 use Rattle.refusal.specs.Limit.{maxWeight}
 use Rattle.algebra.proofs.Congruence.{base-of}
 use Rattle.field.specs.Total.{inLimits}
+use Rattle.algebra.specs.Mod.{addMod}
+use Rattle.field.specs.Integer.{image}
 use Rattle.field.proofs.Integers.{image-lt}
 use Rattle.vector.specs.Vector.{at}
 use Rattle.vector.specs.Rounds.{size}
@@ -52,9 +54,12 @@ use Rattle.runs.specs.Passes.{passAfter}
 use Rattle.runs.specs.Items.{Within, AllWithin}
 use Rattle.runs.proofs.PassTotal.{after-total}
 use Rattle.runs.proofs.PassRecord.{takes-run, after-item}
+use Rattle.runs.proofs.PassTrip.{own-dot}
+use Rattle.runs.proofs.CloseLaws.{residue-below}
 use Rattle.calls.specs.declared.Call.the-variants as call
 use Rattle.calls.specs.Step.{Lent, Result, leaving}
 use Rattle.calls.specs.State.{State, inPass, goesTo, withBuffers, inMode, takesChallenge, buffersIn, goesOn, closed}
+use Rattle.calls.specs.Claim.{movedTo}
 use Rattle.calls.specs.Table.{changesNext, levelNow, long, bothLong, totalFits, table}
 use Rattle.calls.proofs.Records.{Notes, noted, inArray, runOf, passOf}
 use Rattle.calls.proofs.Arrays as arrays
@@ -153,8 +158,11 @@ module _ (p : ℕ) (large : maxWeight < p) where
   within s (Reading z w) h = h
   within s (Numbers a b) h = tt
 
+  image-below : (z : ℤ) → image p z < p
+  image-below z = omega (arith, image-lt p z, base-of p positive)
+
   fine : (s : Start) (x : Given) → Limits p s x → Fine p s x
-  fine s (Reading z w) h = (omega (arith, image-lt p (countsAs (s .version) z), base-of p positive), omega (arith, h .1))
+  fine s (Reading z w) h = (image-below (countsAs (s .version) z), omega (arith, h .1))
   fine s (Numbers a b) h = h
 
   pub item-follows : (a : State) {past : Notes} → Fits p a past → (x : Given) (l : Lent)
@@ -179,9 +187,9 @@ module _ (p : ℕ) (large : maxWeight < p) where
   shut-items s m t = no-items s m t Shut refl
 
   -- THE TOTAL IS GIVEN
-  total-fits : (a : State) {past : Notes} → Fits p a past → a .turn .next ≡ next.Total → (z : ℤ) → inLimits p z ≡ true
-      → RunFits p (a .start) (roundOrEnds 0 (a .start .rounds)) (a .turn .challenges) z (past .messages) (past .running .message) (past .fend) (past .gend)
-  total-fits a {past} h e z fits =
+  total-fits : (a : State) {past : Notes} → Fits p a past → a .turn .next ≡ next.Total → (z : ℤ) → inLimits p z ≡ true → (claim : ℕ) → claim < p
+      → RunFits p (a .start) (roundOrEnds 0 (a .start .rounds)) (a .turn .challenges) z (past .messages) (movedTo (past .running) claim) (past .fend) (past .gend)
+  total-fits a {past} h e z fits claim below =
       let r = h .run in
       let none-yet : length (a .turn .challenges) ≡ 0 = eqb-true _ _ (subst (λ t. roundFits t (length (a .turn .challenges)) (a .start .rounds) ≡ true) e (r .round)) in
       let no-message : length (past .messages) ≡ 0 = r .given ∙ ap (λ t. 3 * givenAt (length (a .turn .challenges)) t) e in
@@ -198,6 +206,7 @@ module _ (p : ℕ) (large : maxWeight < p) where
         round = rw none-yet (q .0);
         given = no-message ∙ rw none-yet (ap (λ k. 3 * k) (sym (q .1)));
         last = λ w. absurd (true≢false (sym w ∙ q .2));
+        claim = below;
       }
 
   -- A MESSAGE IS GIVEN
@@ -210,7 +219,7 @@ module _ (p : ℕ) (large : maxWeight < p) where
   message-below (m ∷ ms) x y z h lx ly lz (suc j) = message-below ms x y z (λ j. h (suc j)) lx ly lz j
 
   message-fits : (a : State) {past : Notes} → Fits p a past → a .turn .next ≡ next.Message → (x y z : ℕ) → x < p → y < p → z < p
-      → RunFits p (a .start) next.Challenge (a .turn .challenges) (past .total) (past .messages ++ x ∷ y ∷ z ∷ []) (messageOf3 x y z) (past .fend) (past .gend)
+      → RunFits p (a .start) next.Challenge (a .turn .challenges) (past .total) (past .messages ++ x ∷ y ∷ z ∷ []) (record { claim = past .running .claim; message = messageOf3 x y z }) (past .fend) (past .gend)
   message-fits a {past} h e x y z lx ly lz =
       let r = h .run in
       let round : roundFits next.Message (length (a .turn .challenges)) (a .start .rounds) ≡ true = subst (λ t. roundFits t (length (a .turn .challenges)) (a .start .rounds) ≡ true) e (r .round) in
@@ -226,12 +235,13 @@ module _ (p : ℕ) (large : maxWeight < p) where
         round = round;
         given = omega (arith, length-append (past .messages) (x ∷ y ∷ z ∷ []));
         last = λ w. message-newest (past .messages) (length (a .turn .challenges)) x y z given;
+        claim = r .claim;
         below = message-below (past .messages) x y z (r .below) lx ly lz;
       }
 
   -- THE ENDS ARE GIVEN
   ends-fits : (a : State) {past : Notes} → Fits p a past → a .turn .next ≡ next.Ends → (x y : ℕ) → x < p → y < p
-      → RunFits p (a .start) next.Openings (a .turn .challenges) (past .total) (past .messages) (past .running .message) x y
+      → RunFits p (a .start) next.Openings (a .turn .challenges) (past .total) (past .messages) (past .running) x y
   ends-fits a {past} h e x y lx ly =
       let r = h .run in
       record {
@@ -246,11 +256,17 @@ module _ (p : ℕ) (large : maxWeight < p) where
         round = subst (λ t. roundFits t (length (a .turn .challenges)) (a .start .rounds) ≡ true) e (r .round);
         given = r .given ∙ ap (λ t. 3 * givenAt (length (a .turn .challenges)) t) e;
         last = λ w. absurd (true≢false (sym w));
+        claim = r .claim;
       }
 
   -- A CHALLENGE IS TAKEN
+  next-below : (m : Message) (c : ℕ) → nextClaim p m c < p
+  unfolding addMod
+  next-below m c = residue-below p positive _
+
   challenge-fits : (a : State) {past : Notes} → Fits p a past → a .turn .next ≡ next.Challenge → (c : ℕ)
-      → RunFits p (a .start) (takesChallenge a c .turn .next) (a .turn .challenges ++ c ∷ []) (past .total) (past .messages) (past .running .message) (past .fend) (past .gend)
+      → RunFits p (a .start) (takesChallenge a c .turn .next) (a .turn .challenges ++ c ∷ []) (past .total) (past .messages)
+      (movedTo (past .running) (nextClaim p (past .running .message) c)) (past .fend) (past .gend)
   challenge-fits a {past} h e c =
       let r = h .run in
       let cs : List ℕ = a .turn .challenges ++ c ∷ [] in
@@ -270,6 +286,7 @@ module _ (p : ℕ) (large : maxWeight < p) where
         round = q .0;
         given = given ∙ ap (λ k. 3 * k) (sym long ∙ sym (q .1));
         last = λ w. absurd (true≢false (sym w ∙ q .2));
+        claim = next-below (past .running .message) c;
       }
 
   -- A PASS IS CLOSED
@@ -318,9 +335,9 @@ module _ (p : ℕ) (large : maxWeight < p) where
         Follows p (goesTo a (roundOrEnds 0 (a .start .rounds))) (noted p call.Close past (answerIn (st .answer))) (keepingStep l st))
     unfolding passAfter
     total-closed true e et fits =
-        record { run = refl; pass = refl; fits = record { run = total-fits a h et (S Asked .total) (fits refl); pass = shut-items (a .start) (a .turn .mode) _ } }
+        record { run = refl; pass = refl; fits = record { run = total-fits a h et (S Asked .total) (fits refl) _ (image-below (S Asked .total)); pass = shut-items (a .start) (a .turn .mode) _ } }
     total-closed false e et fits =
-        record { run = refl; pass = refl; fits = record { run = total-fits a h et (past .total) (h .run .total); pass = shut-items (a .start) (a .turn .mode) _ } }
+        record { run = refl; pass = refl; fits = record { run = total-fits a h et (past .total) (h .run .total) _ (subst (λ x. x < p) (sym (own-dot p R Asked (a .pass .point) (a .pass .items) (run-formed p a h) (ap (waits next.Total) et) e all)) (residue-below p positive _)); pass = shut-items (a .start) (a .turn .mode) _ } }
 
     close-core : (t : Next) (k : Kind) → a .turn .next ≡ t → isOpen k ≡ true → kindFits k (a .turn .mode) t ≡ true → (a .start .plain ≡ true → t ≡ next.Total → inLimits p (S Asked .total) ≡ true)
         → (let st : Step = closeStep p R (S k) t k in Follows p (closed a t k) (noted p call.Close past (answerIn (st .answer))) (keepingStep l st))
@@ -348,7 +365,7 @@ module _ (p : ℕ) (large : maxWeight < p) where
         record {
           run = ap (λ t. goneTo R t) et;
           pass = refl;
-          fits = record { run = subst (λ t. RunFits p (a .start) t (a .turn .challenges) (past .total) (past .messages) (past .running .message) (past .fend) (past .gend)) et (h .run); pass = shut-items (a .start) (a .turn .mode) _ };
+          fits = record { run = subst (λ t. RunFits p (a .start) t (a .turn .challenges) (past .total) (past .messages) (past .running) (past .fend) (past .gend)) et (h .run); pass = shut-items (a .start) (a .turn .mode) _ };
         }
     close-core t Change et op fit fits =
         record { run = refl; pass = refl; fits = record { run = h .run; pass = shut-items (a .start) Full (a .turn .next) } }

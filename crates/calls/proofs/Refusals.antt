@@ -208,6 +208,7 @@ module _ (p : ℕ) (large : maxWeight < p) where
             total = le-leb 0 (limit p) (omega arith);
             given = refl;
             last = λ e. absurd (true≢false (sym e));
+            claim = positive p large;
             below = λ j. positive p large;
             fend = positive p large;
             gend = positive p large;

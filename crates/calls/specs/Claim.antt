@@ -1,6 +1,6 @@
 -- THE RUNNING CLAIM of a run (document 02, (e)) after any calls, from what they were answered alone: "Every call keeps it true, refused
 -- calls and changes of mode included".
-use Prim.Native.Nat.{ℕ}
+use Prim.Native.Nat.{ℕ, _<_}
 use mathlib.Core.Path.{_≡_}
 use mathlib.Core.Bool.{Bool, _||_}
 use mathlib.Core.List.{List}
@@ -74,9 +74,13 @@ module _ (p : ℕ) where
   claimingOn x m =
       record { now = onward p (x .now) m; running = afterOutcome p (x .running) (m .call) (came p (x .now) m .answer) }
 
-  -- before and after each call the record's claim is this one
+  -- the record's claim is this one, and "a field number"
+  abbrev pub ClaimHolds : Claiming → Type 0
+  ClaimHolds x = (x .now .run .claim ≡ x .running .claim) × (x .now .run .claim < p)
+
+  -- before and after each call
   abbrev pub AllClaimed : World → List Made → Type 0
-  AllClaimed w = always claimingOn (λ x. x .now .run .claim ≡ x .running .claim) (record { now = w; running = noClaim })
+  AllClaimed w = always claimingOn ClaimHolds (record { now = w; running = noClaim })
 
 -- after the total and up to the ends: "before each round, and before the ends", and between a message and its challenge
 abbrev pub amidRounds : Next → Bool

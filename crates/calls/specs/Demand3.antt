@@ -97,7 +97,7 @@ pub record Demand3 (p : ℕ) : Type 0 where
   -- for a round, the ends or openings holds exactly document 01's entries, level by level
   pub refusals : (s : Start) (b : Begin) → CanBegin s b → (f g : List ℕ) (ms : List Made)
       → AllDecided p (begun s b f g) ms
-  -- and the run's claim is the one that the answers make, refused calls and wrong items included
+  -- and the run's claim is the one that the answers make, refused calls and wrong items included, and a field number
   pub claims : (s : Start) (b : Begin) → CanBegin s b → (f g : List ℕ) (ms : List Made)
       → AllClaimed p (begun s b f g) ms
   -- WHERE EVERY PASS GIVES THE TRIP'S ITEMS AND THE BUFFERS ARE KEPT: every answer is what is meant, every stack entry is the fold's item,

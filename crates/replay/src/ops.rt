@@ -9,9 +9,10 @@ pub enum Kind {
     Batch,
     Dump,
     File,
-    // Of a run: a start, a call, a block of items.
+    // Of a run: a start, a call, its claim, a block of items.
     Start,
     Call,
+    Claim,
     Block,
     // Of a verifier, likewise.
     Begin,
@@ -27,6 +28,7 @@ pub(crate) fn kind_of(op: u32) -> Kind {
         6..=8 => Kind::File,
         10..=12 | 62 => Kind::Start,
         13..=24 => Kind::Call,
+        25 => Kind::Claim,
         26..=27 => Kind::Block,
         30..=32 => Kind::Begin,
         33..=40 | 42 => Kind::Query,

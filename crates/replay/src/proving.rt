@@ -21,7 +21,7 @@ use records::lists::numbers;
 use records::proof::Proof;
 use records::slots::Slots;
 
-// Ops 5 to 8, 10 to 24, 26, 27 and 62.
+// Ops 5 to 8, 10 to 27 and 62.
 pub(crate) fn call(
     p: Prover,
     h: Held,
@@ -35,6 +35,7 @@ pub(crate) fn call(
         Kind::File => return filed(p, r),
         Kind::Start => return start(p, h.lists, h.slots, r),
         Kind::Call => return called(p, h.lists, r, f, g),
+        Kind::Claim => claim(p),
         Kind::Block => return blocks::to_run(p, h.lists, h.slots, r, f, g),
         _ => {}
     }
@@ -82,6 +83,15 @@ fn called(p: Prover, l: Lists, r: Record, f: &mut [u32; 4096], g: &mut [u32; 409
     }
     print::line(b"no run");
     p
+}
+
+// The run's claim.
+fn claim(p: Prover) {
+    if p.on {
+        print::one(b"claim", p.run.claim);
+        return;
+    }
+    print::line(b"no run");
 }
 
 fn after(

@@ -1,11 +1,11 @@
 //! What a comparison of logs with marks has to meet, counted as the calls are made.
 
+use super::met::Met;
 use super::prover_list::numbers;
 use super::reached::{heavy, number_of, version_of, SIDES};
 use crate::files::{items_as_given, layout_named, log_item, mark, read_log, Item, MOST_ITEMS};
 use crate::replay::{Record, Tool};
 use crate::state::Run;
-use std::collections::BTreeMap;
 
 /// On the prover's side and on the verifier's, in either version.
 const BY_SIDE_AND_VERSION: [&str; 4] = [
@@ -44,7 +44,7 @@ const WHATEVER_THE_VERSION: [&str; 9] = [
 
 #[derive(Default)]
 pub struct Marks {
-    met: BTreeMap<String, u64>,
+    met: Met,
     /// How many were taken in the run's last pass, and how many by the verifier.
     taken: [usize; 2],
     /// Whether the run's total is of nothing but marks.
@@ -186,26 +186,19 @@ impl Marks {
     }
 
     fn count(&mut self, what: &str) {
-        *self.met.entry(what.to_string()).or_default() += 1;
+        self.met.count(what);
     }
 
     pub fn add(&mut self, other: &Marks) {
-        for (what, count) in &other.met {
-            *self.met.entry(what.clone()).or_default() += count;
-        }
-    }
-
-    fn met(&self, what: &str) -> u64 {
-        self.met.get(what).copied().unwrap_or(0)
+        self.met.add(&other.met);
     }
 
     pub fn missing(&self) -> String {
-        let missing = wanted().into_iter().filter(|what| self.met(what) == 0);
-        missing.map(|what| format!("not reached: {what}\n")).collect()
+        self.met.missing(&wanted())
     }
 
     pub fn table(&self) -> String {
-        wanted().iter().map(|what| format!("{:>8}  {what}\n", self.met(what))).collect()
+        self.met.table(&wanted())
     }
 }
 

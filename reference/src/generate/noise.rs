@@ -24,7 +24,7 @@ pub fn any_call(script: &mut Script) {
 }
 
 pub fn prover_call(script: &mut Script) {
-    let op = script.random.pick(&[13, 14, 15, 16, 17, 18, 19, 20, 21, 22, 23, 24, 26, 27]);
+    let op = script.random.pick(&[13, 14, 15, 16, 17, 18, 19, 20, 21, 22, 23, 24, 25, 26, 27]);
     let (a, b) = match op {
         26 => (slot(script), script.random.any()),
         27 => slices(script),
@@ -193,14 +193,14 @@ pub fn refused_start(script: &mut Script) {
 }
 
 /// What `replay` alone does, and what `replay_files` alone does.
-pub const RUN_OPS: [u32; 40] = [
-    6, 7, 8, 10, 11, 12, 13, 14, 15, 16, 17, 18, 19, 20, 21, 22, 23, 24, 26, 27, 30, 31, 32, 33,
-    34, 35, 36, 37, 38, 39, 40, 41, 42, 43, 44, 60, 61, 62, 63, 64,
+pub const RUN_OPS: [u32; 41] = [
+    6, 7, 8, 10, 11, 12, 13, 14, 15, 16, 17, 18, 19, 20, 21, 22, 23, 24, 25, 26, 27, 30, 31, 32,
+    33, 34, 35, 36, 37, 38, 39, 40, 41, 42, 43, 44, 60, 61, 62, 63, 64,
 ];
 const FILE_OPS: [u32; 10] = [50, 51, 52, 53, 54, 55, 56, 57, 58, 59];
 
 /// What neither does.
-const UNKNOWN: [u32; 11] = [0, 9, 25, 28, 29, 45, 46, 49, 70, 81, u32::MAX];
+const UNKNOWN: [u32; 10] = [0, 9, 28, 29, 45, 46, 49, 70, 81, u32::MAX];
 
 /// What the tool itself turns away, and how much it holds.
 pub fn run_limits(script: &mut Script) {

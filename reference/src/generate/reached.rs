@@ -1,10 +1,10 @@
 //! What a comparison of logs and runs of two versions has to meet, counted as the calls are made.
 
+use super::met::Met;
 use crate::files::{is_taken, item_size, items_as_given, layout_named, log_item, Item};
 use crate::random::EDGE_READINGS;
 use crate::replay::{Record, Tool};
 use crate::state::{Aim, Run};
-use std::collections::BTreeMap;
 
 /// On the prover's side and on the verifier's.
 const ON_BOTH_SIDES: [&str; 16] = [
@@ -62,7 +62,7 @@ const ANYWHERE: [&str; 32] = [
 ];
 
 #[derive(Default)]
-pub struct Reached(BTreeMap<String, u64>);
+pub struct Reached(Met);
 
 impl Reached {
     /// The call is made; it leaves what it was handed as it was.
@@ -115,7 +115,7 @@ impl Reached {
     }
 
     fn count(&mut self, what: &str) {
-        *self.0.entry(what.to_string()).or_default() += 1;
+        self.0.count(what);
     }
 
     fn start(&mut self, side: &str, tool: &Tool, [_, items, version, _]: Record, answer: &str) {
@@ -235,26 +235,17 @@ impl Reached {
     }
 
     pub fn add(&mut self, other: &Reached) {
-        for (what, count) in &other.0 {
-            *self.0.entry(what.clone()).or_default() += count;
-        }
-    }
-
-    fn met(&self, what: &str) -> u64 {
-        self.0.get(what).copied().unwrap_or(0)
+        self.0.add(&other.0);
     }
 
     pub fn missing(&self) -> String {
-        let wanted = wanted().into_iter().chain(wanted_edges());
-        let missing = wanted.filter(|what| self.met(what) == 0);
-        missing.map(|what| format!("not reached: {what}\n")).collect()
+        self.0.missing(&[wanted(), wanted_edges()].concat())
     }
 
     pub fn table(&self) -> String {
-        let row = |what: String| format!("{:>8}  {what}\n", self.met(&what));
-        let rarest = wanted_edges().iter().map(|what| self.met(what)).min().unwrap();
+        let rarest = wanted_edges().iter().map(|what| self.0.times(what)).min().unwrap();
         let edges = "times or more each reading at a limit, by either side in either version";
-        wanted().into_iter().map(row).collect::<String>() + &format!("{rarest:>8}  {edges}\n")
+        self.0.table(&wanted()) + &format!("{rarest:>8}  {edges}\n")
     }
 }
 

@@ -1,8 +1,8 @@
 //! What a comparison of runs that return to small mode has to meet, counted as the calls are made.
 
+use super::met::Met;
 use crate::replay::{Record, Tool};
 use crate::state::{Aim, Mode, Next, Run};
-use std::collections::BTreeMap;
 
 const WANTED: [&str; 21] = [
     "returned before a message",
@@ -30,7 +30,7 @@ const WANTED: [&str; 21] = [
 
 #[derive(Default)]
 pub struct Returns {
-    met: BTreeMap<&'static str, u64>,
+    met: Met,
     /// Of the run that there is.
     returns: u64,
     is_batch: bool,
@@ -92,27 +92,20 @@ impl Returns {
         }
     }
 
-    fn count(&mut self, what: &'static str) {
-        *self.met.entry(what).or_default() += 1;
+    fn count(&mut self, what: &str) {
+        self.met.count(what);
     }
 
     pub fn add(&mut self, other: &Returns) {
-        for (what, count) in &other.met {
-            *self.met.entry(what).or_default() += count;
-        }
-    }
-
-    fn met(&self, what: &str) -> u64 {
-        self.met.get(what).copied().unwrap_or(0)
+        self.met.add(&other.met);
     }
 
     pub fn missing(&self) -> String {
-        let missing = WANTED.iter().filter(|what| self.met(what) == 0);
-        missing.map(|what| format!("not reached: {what}\n")).collect()
+        self.met.missing(&WANTED)
     }
 
     pub fn table(&self) -> String {
-        WANTED.iter().map(|what| format!("{:>8}  {what}\n", self.met(what))).collect()
+        self.met.table(&WANTED)
     }
 }
 

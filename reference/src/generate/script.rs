@@ -1,6 +1,7 @@
 //! Records as they are written, with the reference's answer to each.
 
 use super::blocks::Counts;
+use super::claims::Claims;
 use super::marks::Marks;
 use super::reached::Reached;
 use super::returns::Returns;
@@ -18,6 +19,7 @@ pub struct Script {
     pub reached: Reached,
     pub returns: Returns,
     pub marks: Marks,
+    pub claims: Claims,
     /// The slot that is filled next.
     slot: usize,
 }
@@ -34,6 +36,7 @@ impl Script {
             reached: Reached::default(),
             returns: Returns::default(),
             marks: Marks::default(),
+            claims: Claims::default(),
             slot: 0,
         }
     }
@@ -43,11 +46,19 @@ impl Script {
     }
 
     pub fn call3(&mut self, op: u32, a: u64, b: u64, c: u64) -> &str {
-        let record = [op, a as u32, b as u32, c as u32];
+        // What the calls before it left of the claim.
+        if matches!(op, 10..=24 | 26..=27 | 38 | 62) && self.random.chance(250) {
+            self.make([25, 0, 0, 0]);
+        }
+        self.make([op, a as u32, b as u32, c as u32])
+    }
+
+    fn make(&mut self, record: Record) -> &str {
         let answer = self.tool.step(record);
         self.reached.note(&self.tool, record, &answer);
         self.returns.note(&self.tool, record, &answer);
         self.marks.note(&self.tool, record, &answer);
+        self.claims.note(&self.tool, record, &answer);
         self.records.push(record);
         self.answers.push(answer);
         self.answers.last().unwrap().trim_end()
