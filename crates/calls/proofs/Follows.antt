@@ -446,21 +446,9 @@ module _ (p : ℕ) (large : maxWeight < p) where
       }
 
   -- the run after a challenge, in either mode
-  given-challenge : (r : Run) (c k : ℕ) (cs : List ℕ) (m : Message) → r .round + 1 ≡ k → set (r .challenges) (r .round) c ≡ cs → keptMessage (r .messages) (r .round) ≡ m
-      → keptChallenge p r c ≡ record {
-        start = r .start;
-        mode = r .mode;
-        next = roundOrEnds k (r .start .rounds);
-        round = k;
-        challenges = cs;
-        messages = r .messages;
-        total = r .total;
-        claim = nextClaim p m c;
-        fend = r .fend;
-        gend = r .gend;
-      }
-  given-challenge r c k cs m long kept last =
-      let F : ℕ → List ℕ → ℕ → Run = λ k cs claim. record {
+  abbrev nextRun : Run → ℕ → List ℕ → ℕ → Run
+  nextRun r k cs claim =
+      record {
         start = r .start;
         mode = r .mode;
         next = roundOrEnds k (r .start .rounds);
@@ -471,8 +459,12 @@ module _ (p : ℕ) (large : maxWeight < p) where
         claim = claim;
         fend = r .fend;
         gend = r .gend;
-      } in
-      ap₂ (λ k cs. F k cs (nextClaim p (keptMessage (r .messages) (r .round)) c)) long kept ∙ ap (λ m. F k cs (nextClaim p m c)) last
+      }
+
+  given-challenge : (r : Run) (c k : ℕ) (cs : List ℕ) (m : Message) → r .round + 1 ≡ k → set (r .challenges) (r .round) c ≡ cs → keptMessage (r .messages) (r .round) ≡ m
+      → keptChallenge p r c ≡ nextRun r k cs (nextClaim p m c)
+  given-challenge r c k cs m long kept last =
+      ap₂ (λ k cs. nextRun r k cs (nextClaim p (keptMessage (r .messages) (r .round)) c)) long kept ∙ ap (λ m. nextRun r k cs (nextClaim p m c)) last
 
   abbrev challengeNoted : ℕ → Notes → Notes
   challengeNoted c past = noted p (call.Challenge c) past (answered reply.challenged)
