@@ -41,7 +41,7 @@ use Rattle.prover.specs.Reply as reply
 use Rattle.prover.specs.Reply.{answerIn}
 use Rattle.prover.specs.Records.{answeredStep}
 use Rattle.prover.specs.Level.{foldSize}
-use Rattle.prover.specs.Close.{goneTo, withTotal, withFieldTotal, messagesWith, withMessage, shutPass}
+use Rattle.prover.specs.Close.{runWith, withTotal, withFieldTotal, messagesWith, withMessage, shutPass}
 use Rattle.prover.specs.declared.Step.{Step}
 use Rattle.prover.specs.Take.{takes}
 use Rattle.prover.specs.Full.{messageGiven}
@@ -363,7 +363,7 @@ module _ (p : ℕ) (large : maxWeight < p) where
         record { run = refl; pass = refl; fits = record { run = ends-fits a h et _ _ (b .0) (b .1); pass = shut-items (a .start) (a .turn .mode) _ } }
     close-core next.Openings Asked et op fit fits =
         record {
-          run = ap (λ t. goneTo R t) et;
+          run = ap (λ t. runWith R t (R .messages) (R .total) (R .claim) (R .fend) (R .gend)) et;
           pass = refl;
           fits = record { run = subst (λ t. RunFits p (a .start) t (a .turn .challenges) (past .total) (past .messages) (past .running) (past .fend) (past .gend)) et (h .run); pass = shut-items (a .start) (a .turn .mode) _ };
         }

@@ -101,7 +101,8 @@ pub record Demand3 (p : ℕ) : Type 0 where
   pub claims : (s : Start) (b : Begin) → CanBegin s b → (f g : List ℕ) (ms : List Made)
       → AllClaimed p (begun s b f g) ms
   -- WHERE EVERY PASS GIVES THE TRIP'S ITEMS AND THE BUFFERS ARE KEPT: every answer is what is meant, every stack entry is the fold's item,
-  -- every buffer and every proof file is as document 01 says, and the claim is the scalar product of the current folds, after every call
+  -- every buffer and every proof file is as document 01 says, and from the total to the ends the claim is the scalar product of the current
+  -- folds, after every call
   pub answers : (through : Bool) (T : Trip) → Whole T → (b : Begin) → CanBegin (T .start) b → (f g : List ℕ) (ms : List Made)
       → (let w : World = begun (T .start) b f g in AllKept p through T w ms → AllRight p through T w ms)
   -- AN ANSWERED RETURN FREES THE BUFFERS up to the next change that is opened

@@ -41,9 +41,6 @@ runWith r next messages total claim f g =
       gend = g;
     }
 
-abbrev pub goneTo : Run → Next → Run
-goneTo r next = runWith r next (r .messages) (r .total) (r .claim) (r .fend) (r .gend)
-
 -- the claim is "the total": a negative one is P + T, and a twisted run's is a field number
 abbrev pub withTotal : ℕ → Run → ℤ → Run
 withTotal p r total = runWith r (roundOrEnds 0 (r .start .rounds)) (r .messages) total (image p total) (r .fend) (r .gend)
