@@ -4,7 +4,7 @@ use mathlib.Core.Bool.{Bool, true, false, true≢false}
 use mathlib.Core.List.{List, [], _∷_, _++_}
 use Prim.Native.Nat.{ℕ, zero, suc, _+_, _<_}
 use native.Mathlib.Omega.{arith}
-use lib.ListN.{replicate}
+use lib.ListN.{length, replicate}
 use Rattle.algebra.specs.Mod.{residue, addMod, subMod, negMod, mulMod, halfOne, halfMod, inverseIn, inverseMod, divMod}
 use Rattle.refusal.specs.Outcome.{answered}
 use Rattle.field.specs.Integer.{image}
@@ -52,8 +52,9 @@ use Rattle.calls.specs.Lists.{after, each}
 use Rattle.calls.specs.declared.Call.{Call}
 use Rattle.calls.specs.Step.{Lent, step}
 use Rattle.calls.specs.Meaning.{Answer, says}
-use Rattle.calls.specs.World.{Made, World, freshWorld}
+use Rattle.calls.specs.World.{Made, World, freshWorld, came, onward}
 use Rattle.calls.specs.Begins.{total}
+use Rattle.calls.specs.Claim.{amidRounds}
 use Rattle.calls.specs.QueryStep.{ask}
 use Rattle.calls.specs.QueryStep as said
 use Rattle.calls.specs.QueryState.{Posed, plainly, Hearing, freshHearing, hearsOn}
@@ -62,9 +63,10 @@ use Rattle.calls.specs.Starts.{Whole}
 use Rattle.calls.specs.Proper.{ItemFits, Valid, AllNonzero, itemsBelow, roundsFrom, openingsFrom, Brings, properRun}
 use Rattle.calls.specs.Carried.{byMessages}
 use Rattle.calls.specs.WholeList.{messagesFrom, wholeByMessages}
-use Rattle.calls.specs.Demand3.{AllRight, AllProper, AllBringRun, AllSay, AllAgreed}
+use Rattle.calls.specs.Demand3.{AllKept, AllTake, AllRight, AllProper, AllBringRun, AllSay, AllAgreed}
 use Rattle.calls.specs.Example.{repliesFrom}
 use Rattle.calls.specs.QueryExample.{toldAll}
+use Rattle.calls.proofs.Longer.{along-first}
 use Rattle.calls.proofs.Demand3.{demand3-31}
 
 abbrev P : ℕ
@@ -148,6 +150,11 @@ pub twisted-replies :
 unfolding each itemsBelow roundsFrom openingsFrom step messageGiven messageCall endsCall giveCall itemChecks openCall openAtCall closeCall challengedFull challengeCall cleared toFullCall toSmallCall openingGiven openingCall wellFormed turnFormed passFormed powers firstFrom inLimits sizeIn32 partsOf takes takesIn entersIn weight summedItem enteredIn plus image residue negMod addMod mulMod sum foldWith overwrite foldSlice messageSlice valuesOf tripleValues every hornerAt arrived topAt climbFrom evaluatedFrom climbed evaluated meetsAt summed settled sumsAfter stacksFit entered streamed paddingFrom paddingBelow left placed placedAll placedIn inRange isMark
 twisted-replies = refl
 
+-- the claim after each call: 726; 516 + 141·2 + 210·4; 1134 + 1575·3 + 504·9, which is 231·45
+pub twisted-claims : each (onward P) (λ w m. came P w m .run .claim) twistedWorld twistedRun ≡ replicate 4 0 ++ replicate 7 726 ++ replicate 7 1638 ++ replicate 13 10395
+unfolding each itemsBelow roundsFrom openingsFrom step messageGiven messageCall endsCall giveCall itemChecks openCall openAtCall closeCall challengedFull challengeCall cleared toFullCall toSmallCall openingGiven openingCall wellFormed turnFormed passFormed powers firstFrom inLimits sizeIn32 partsOf takes takesIn entersIn weight summedItem enteredIn plus image residue negMod addMod mulMod sum foldWith overwrite foldSlice messageSlice valuesOf tripleValues every hornerAt arrived topAt climbFrom evaluatedFrom climbed evaluated meetsAt summed settled sumsAfter stacksFit entered streamed paddingFrom paddingBelow left placed placedAll placedIn inRange isMark
+twisted-claims = refl
+
 -- its verifier's own list: the items, the claim, two messages, the verdict and a check
 abbrev twistedList : List Posed
 twistedList =
@@ -179,6 +186,12 @@ pub twisted-told :
 unfolding each ask give passOpen verifierFormed turnOf partsOf oneMore verifierEntering freshVerifier fifteen overwrite powers firstFrom weight image residue addMod negMod mulMod closeClaim closedWith inLimits message messageTurn allReduced3 hears passedWith failedNow verdict verdictTurn finds checkOpening hasRounds every openingFinds firstFault opens divMod inverseMod inverseIn halfMod halfOne subMod inRange isMark
 twisted-told = refl
 
+-- the verifier's claims
+pub twisted-heard : each (hearsOn P) (λ h q. hearsOn P h q .verifier .claim) (freshHearing (twisted .start) (2 ∷ 3 ∷ [])) twistedList
+    ≡ replicate 3 0 ++ 726 ∷ 1638 ∷ replicate 3 10395
+unfolding each ask give passOpen verifierFormed turnOf partsOf oneMore verifierEntering freshVerifier fifteen overwrite powers firstFrom weight image residue addMod negMod mulMod closeClaim closedWith inLimits message messageTurn allReduced3 hears passedWith failedNow verdict verdictTurn finds checkOpening hasRounds every openingFinds firstFault opens divMod inverseMod inverseIn halfMod halfOne subMod inRange isMark
+twisted-heard = refl
+
 -- what demand 3 says of them
 pub twisted-proper : AllProper P (2 ∷ 3 ∷ []) twisted twistedWorld twistedRun
 twisted-proper = demand3-31 .proper twisted twisted-valid twistedModes (2 ∷ 3 ∷ []) (3 ∷ []) twistedIdle twisted-brings [] []
@@ -208,3 +221,16 @@ twisted-says =
 pub twisted-checked : (qs : List Posed) → OpeningsChecked P twisted twistedWorld twistedRun (after (hearsOn P) twistedHearing qs)
 twisted-checked =
     demand3-31 .openingsChecked true twisted twisted-whole total (twisted-whole .start) [] [] twistedRun (twisted-proper .1 true) (2 ∷ 3 ∷ []) refl (twisted-proper .2)
+
+-- and verifier and run hold the same claim at the same place, wherever both lists are broken off
+pub twisted-same : (ms ns : List Made) → ms ++ ns ≡ twistedRun → (qs rs : List Posed) → qs ++ rs ≡ twistedList
+    → (let x : World = after (onward P) twistedWorld ms in
+    let h : Hearing = after (hearsOn P) twistedHearing qs in
+    amidRounds (x .state .turn .next) ≡ true → h .state .closed ≡ true → h .state .round ≡ length (x .state .turn .challenges)
+    → h .verifier .claim ≡ x .run .claim)
+twisted-same ms ns e qs rs d =
+    demand3-31 .claimsAlike true twisted twisted-whole total (twisted-whole .start) [] [] ms ns
+    (subst (AllKept P true twisted twistedWorld) (sym e) (twisted-proper .1 true)) (2 ∷ 3 ∷ []) refl
+    (subst (AllTake P (2 ∷ 3 ∷ []) twistedWorld) (sym e) (twisted-proper .2)) qs
+    (subst (λ run. AllBringRun P twisted twistedWorld run twistedHearing qs) (sym e)
+    (along-first (hearsOn P) _ twistedHearing qs rs (subst (AllBringRun P twisted twistedWorld twistedRun twistedHearing) (sym d) (twisted-verifier .2))))
