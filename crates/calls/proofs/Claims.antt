@@ -1,7 +1,7 @@
 -- THE RUNNING CLAIM: of every list the one that the answers make; and the verifier that heard the run's messages holds the run's.
 use mathlib.Core.Path.{_≡_, refl, sym, ap, ap₂, subst, _∙_}
 use mathlib.Core.Bool.{Bool, true, true≢false}
-use mathlib.Core.List.{List, [], _∷_, _++_}
+use mathlib.Core.List.{List, [], _∷_}
 use Prim.Native.Nat.{ℕ, _*_, _<_}
 use lib.ListN.{length}
 use borrow.Author.Tests.{eqb-true}
@@ -33,7 +33,8 @@ use Rattle.calls.proofs.Refusals.{Faithful, faithful-on}
 use Rattle.calls.proofs.Begins.{begun-faithful}
 use Rattle.calls.proofs.Answers.{Going, holds-here}
 use Rattle.calls.proofs.Hits.{Prefix}
-use Rattle.calls.proofs.HeardFollows.{claimOf, Follows}
+use Rattle.calls.proofs.HeardTrip.{claimOf}
+use Rattle.calls.proofs.HeardFollows.{Follows}
 
 -- what is noted of the claim
 running-noted : (p : ℕ) (c : Call) (past : Notes) (o : Outcome Reply) → noted p c past o .running ≡ afterOutcome p (past .running) c o

@@ -1,6 +1,6 @@
 -- What holds of every state that answered calls make, and so of the records that it stands for.
 use mathlib.Core.Path.{_≡_, refl, ap, _∙_}
-use mathlib.Core.Bool.{Bool, true, false}
+use mathlib.Core.Bool.{Bool, true, false, cond}
 use mathlib.Core.List.{List, []}
 use mathlib.Core.Logic.{_⊎_, inl, inr, ⊎-elim}
 use Prim.Native.Nat.{ℕ, zero, suc, _+_, _*_, _-_, _<_, _≤_}
@@ -22,7 +22,7 @@ use Rattle.phase.specs.declared.Next.the-variants as next
 use Rattle.phase.specs.declared.Kind.{Kind}
 use Rattle.phase.specs.declared.Kind.the-variants.{Shut}
 use Rattle.phase.specs.Cases.{waits}
-use Rattle.phase.specs.Order.{roundFits, kindFits}
+use Rattle.phase.specs.Order.{roundOrEnds, roundFits, kindFits}
 use Rattle.pass.specs.Formed.{turnFormed}
 use Rattle.prover.specs.WellFormed.{runFormed, wellFormed}
 use Rattle.prover.specs.Challenge.{keptMessage}
@@ -48,6 +48,15 @@ givenAt i next.Message = i
 givenAt i next.Challenge = suc i
 givenAt i next.Ends = i
 givenAt i next.Openings = i
+
+-- after the total and after a challenge: a message or the ends
+pub given-round : (i n : ℕ) → (givenAt i (roundOrEnds i n) ≡ i) × (waits next.Openings (roundOrEnds i n) ≡ false) × (waits next.Challenge (roundOrEnds i n) ≡ false)
+given-round i n = by (ltb i n)
+  where
+    by : (b : Bool) → (givenAt i (cond b next.Message next.Ends) ≡ i) × (waits next.Openings (cond b next.Message next.Ends) ≡ false)
+        × (waits next.Challenge (cond b next.Message next.Ends) ≡ false)
+    by true = (refl, refl, refl)
+    by false = (refl, refl, refl)
 
 -- both Numbers of an item are field Numbers
 abbrev pub Fine : ℕ → Start → Given → Type 0

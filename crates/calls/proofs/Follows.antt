@@ -69,7 +69,7 @@ use Rattle.calls.proofs.Steps.{row-passed, keepingStep, closeStep, does
 use Rattle.calls.proofs.Turns.{both, pass-kind, openings-kind, change-kind, full-shut, challenge-shut}
 use Rattle.item.specs.Mark.{countsAs}
 use Rattle.calls.proofs.ItemRows.{Limits, item-admitted}
-use Rattle.calls.proofs.Fits.{Fine, givenAt, RunFits, PassFits, Fits, few, run-formed, kind-is}
+use Rattle.calls.proofs.Fits.{Fine, givenAt, given-round, RunFits, PassFits, Fits, few, run-formed, kind-is}
 use Rattle.calls.proofs.Numbers.{own-message, own-ends, slice-below}
 use Rattle.calls.proofs.HeardTrip as heard
 
@@ -174,14 +174,12 @@ module _ (p : ℕ) (large : maxWeight < p) where
       (does p (runOf a past) (passOf p a past) (call.Give x) l) (takes-run p (runOf a past) (passOf p a past) (contributes p (a .start) x) (l .f) (l .g)) refl
 
   -- WHAT IS NEXT after the total and after a challenge
-  round-next : (i n : ℕ) → i ≤ n → (roundFits (roundOrEnds i n) i n ≡ true) × (givenAt i (roundOrEnds i n) ≡ i) × (waits next.Challenge (roundOrEnds i n) ≡ false)
+  round-next : (i n : ℕ) → i ≤ n → roundFits (roundOrEnds i n) i n ≡ true
   round-next i n h = by (ltb i n) refl
     where
-      by : (b : Bool) → ltb i n ≡ b
-          → (roundFits (cond b next.Message next.Ends) i n ≡ true) × (givenAt i (cond b next.Message next.Ends) ≡ i)
-          × (waits next.Challenge (cond b next.Message next.Ends) ≡ false)
-      by true e = (e, refl, refl)
-      by false e = (eq-eqb i n (omega (arith, ltb-false i n e)), refl, refl)
+      by : (b : Bool) → ltb i n ≡ b → roundFits (cond b next.Message next.Ends) i n ≡ true
+      by true e = e
+      by false e = eq-eqb i n (omega (arith, ltb-false i n e))
 
   pub shut-items : (s : Start) (m : Mode) (t : Next) → PassFits p s m t Shut []
   shut-items s m t = no-items s m t Shut refl
@@ -193,7 +191,7 @@ module _ (p : ℕ) (large : maxWeight < p) where
       let r = h .run in
       let none-yet : length (a .turn .challenges) ≡ 0 = eqb-true _ _ (subst (λ t. roundFits t (length (a .turn .challenges)) (a .start .rounds) ≡ true) e (r .round)) in
       let no-message : length (past .messages) ≡ 0 = r .given ∙ ap (λ t. 3 * givenAt (length (a .turn .challenges)) t) e in
-      let q = round-next 0 (a .start .rounds) (omega arith) in
+      let q = given-round 0 (a .start .rounds) in
       record {
         version = r .version;
         some = r .some;
@@ -203,8 +201,8 @@ module _ (p : ℕ) (large : maxWeight < p) where
         below = r .below;
         fend = r .fend;
         gend = r .gend;
-        round = rw none-yet (q .0);
-        given = no-message ∙ rw none-yet (ap (λ k. 3 * k) (sym (q .1)));
+        round = rw none-yet (round-next 0 (a .start .rounds) (omega arith));
+        given = no-message ∙ rw none-yet (ap (λ k. 3 * k) (sym (q .0)));
         last = λ w. absurd (true≢false (sym w ∙ q .2));
         claim = below;
       }
@@ -273,7 +271,7 @@ module _ (p : ℕ) (large : maxWeight < p) where
       let less : length (a .turn .challenges) < a .start .rounds = ltb-true _ _ (subst (λ t. roundFits t (length (a .turn .challenges)) (a .start .rounds) ≡ true) e (r .round)) in
       let given : length (past .messages) ≡ 3 * suc (length (a .turn .challenges)) = r .given ∙ ap (λ t. 3 * givenAt (length (a .turn .challenges)) t) e in
       let long : length cs ≡ suc (length (a .turn .challenges)) = length-append (a .turn .challenges) (c ∷ []) ∙ add-one (length (a .turn .challenges)) in
-      let q = round-next (length cs) (a .start .rounds) (omega arith) in
+      let q = given-round (length cs) (a .start .rounds) in
       record {
         version = r .version;
         some = r .some;
@@ -283,8 +281,8 @@ module _ (p : ℕ) (large : maxWeight < p) where
         below = r .below;
         fend = r .fend;
         gend = r .gend;
-        round = q .0;
-        given = given ∙ ap (λ k. 3 * k) (sym long ∙ sym (q .1));
+        round = round-next (length cs) (a .start .rounds) (omega arith);
+        given = given ∙ ap (λ k. 3 * k) (sym long ∙ sym (q .0));
         last = λ w. absurd (true≢false (sym w ∙ q .2));
         claim = next-below (past .running .message) c;
       }

@@ -11,9 +11,8 @@ use borrow.Author.Tests.{eq-eqb, eqb-true}
 use Rattle.algebra.specs.Mod.{addMod, mulMod}
 use Rattle.refusal.specs.Limit.{maxWeight}
 use Rattle.refusal.specs.Outcome.{answered}
-use Rattle.vector.specs.Rounds.{size}
 use Rattle.vector.specs.Vector.{at, dot, weight}
-use Rattle.vector.specs.Fold.{fold, endValue}
+use Rattle.vector.specs.Fold.{endValue}
 use Rattle.vector.specs.Message.{Message, passes, nextClaim}
 use Rattle.vector.specs.Slice.{fifteen}
 use Rattle.vector.proofs.Overwrite.{fifteen-at}
@@ -37,12 +36,7 @@ use Rattle.calls.specs.QueryState.{VerifierState, takesItem, atRound, he
 use Rattle.calls.proofs.QueryStands.{Carries, Stands}
 use Rattle.calls.proofs.QuerySteps.{heardAs}
 use Rattle.calls.proofs.QueryKeeps.{close-stands, message-stands, verdict-stands}
-use Rattle.calls.proofs.HeardTrip.{Fine, entersF, entersG, below-suc, end-f, end-g}
-
--- the claim before message i, and after the last: the scalar product of fold i
-abbrev pub claimOf : ℕ → Trip → List ℕ → ℕ → ℕ
-claimOf p T cs i =
-    dot p (size (T .start .rounds) i) (fold p (at cs) i (vectorF p T)) (fold p (at cs) i (vectorG p T))
+use Rattle.calls.proofs.HeardTrip.{claimOf, Fine, entersF, entersG, below-suc, end-f, end-g}
 
 -- the challenges as the verifier keeps them
 abbrev kept : Trip → List ℕ → ℕ → ℕ

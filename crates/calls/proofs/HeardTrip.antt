@@ -16,7 +16,8 @@ use Rattle.refusal.specs.Limit.{maxWeight}
 use Rattle.field.specs.Integer.{image}
 use Rattle.field.proofs.Integers.{image-residue, image-step}
 use Rattle.vector.specs.Vector.{Vector, at, sum, dot, weight}
-use Rattle.vector.specs.Fold.{combine, endValue}
+use Rattle.vector.specs.Rounds.{size}
+use Rattle.vector.specs.Fold.{combine, fold, endValue}
 use Rattle.vector.specs.Slice.{fifteen}
 use Rattle.vector.proofs.Sums.{sum-same, sum-first, running-product}
 use Rattle.vector.proofs.Folds.{fold-challenges}
@@ -29,6 +30,11 @@ use Rattle.item.specs.declared.Given.the-variants.{Reading, Numbers}
 use Rattle.item.specs.Mark.{countsAs}
 use Rattle.item.specs.Item.{contributes}
 use Rattle.runs.specs.Trip.{Trip, tripItem, entersAs, vectorF, vectorG, worth, sumOf, totalOf}
+
+-- the claim before message i, and after the last: the scalar product of fold i
+abbrev pub claimOf : ℕ → Trip → List ℕ → ℕ → ℕ
+claimOf p T cs i =
+    dot p (size (T .start .rounds) i) (fold p (at cs) i (vectorF p T)) (fold p (at cs) i (vectorG p T))
 
 -- an item of the run's kind within its limits
 abbrev pub Fine : ℕ → Bool → Given → Type 0

@@ -48,12 +48,12 @@ use Rattle.calls.specs.Meaning.{meant, roundMessage, ends, closeAsks, me
 use Rattle.calls.specs.Statement.{known}
 use Rattle.calls.proofs.Records.{Notes, noted, runOf, passOf}
 use Rattle.calls.proofs.Steps.{row-passed, closeStep, does}
-use Rattle.calls.proofs.Fits.{givenAt, Fits}
+use Rattle.calls.proofs.Fits.{givenAt, given-round, Fits}
 use Rattle.calls.proofs.Turns.{both}
 use Rattle.calls.proofs.Agrees.{tripAt, knownIn, Agrees, message-before, messages-before, old-challenges, new-challenge, enough}
 use Rattle.calls.proofs.AnswerParts.{numbersIn, messageIn, totalIn, fieldTotalIn}
-use Rattle.calls.proofs.Rights.{right, challenge-level}
-use Rattle.calls.proofs.HeardTrip.{Fine, total-product}
+use Rattle.calls.proofs.Rights.{right, round-level, challenge-level}
+use Rattle.calls.proofs.HeardTrip.{claimOf, Fine, total-product}
 
 -- nothing is known of the buffers in small mode outside a change
 small-none : (h q : ℕ) (m : Mode) (k : Kind) (o through : Bool) → isSmall m ≡ true → isChange k ≡ false → knownIn h q m k o through ≡ h
@@ -79,14 +79,6 @@ from-where false h low f j lo hi = absurd (omega arith)
 no-place : (h k j : ℕ) → k ≡ h → k ≤ j → j < h → ⊥
 no-place h k j e lo hi = omega arith
 
-given-round : (i n : ℕ) → (givenAt i (roundOrEnds i n) ≡ i) × (waits next.Openings (roundOrEnds i n) ≡ false) × (waits next.Challenge (roundOrEnds i n) ≡ false)
-given-round i n = by (ltb i n)
-  where
-    by : (b : Bool) → (givenAt i (cond b next.Message next.Ends) ≡ i) × (waits next.Openings (cond b next.Message next.Ends) ≡ false)
-        × (waits next.Challenge (cond b next.Message next.Ends) ≡ false)
-    by true = (refl, refl, refl)
-    by false = (refl, refl, refl)
-
 small-asked : (m : Mode) (t : Next) → kindFits Asked m t ≡ true → isSmall m ≡ true
 small-asked Small t e = refl
 small-asked Full t e = absurd (true≢false (sym e))
@@ -108,10 +100,6 @@ module _ (p : ℕ) (large : maxWeight < p) (through : Bool) (its : List Given) (
     (whole : length its ≡ a .start .items) (l : Lent) where
   abbrev T : Trip
   T = tripAt its a
-
-  -- the scalar product of fold i
-  abbrev productAt : List ℕ → ℕ → ℕ
-  productAt cs i = dot p (size (a .start .rounds) i) (fold p (at cs) i (vectorF p T)) (fold p (at cs) i (vectorG p T))
 
   -- A PASS IS OPENED
   pub opened-agrees : (b : ℕ) → isSmall (a .turn .mode) ≡ true → Agrees p through its (inPass a Asked b []) past
@@ -220,14 +208,6 @@ module _ (p : ℕ) (large : maxWeight < p) (through : Bool) (its : List Given) (
       total-product p large T (enough p its a h)
       (λ i l. subst (λ (xs : List Given). Fine p (a .start .plain) (getD xs i (Numbers 0 0))) same (h .pass .own i (omega arith))) plain whole
 
-  -- before the first round the current folds are the vectors
-  first-level : (k n : ℕ) → k ≡ 0 → levelNow n k 0 (roundOrEnds 0 n) ≡ 0
-  first-level k n e = by (ltb 0 n) refl
-    where
-      by : (b : Bool) → ltb 0 n ≡ b → levelNow n k 0 (cond b next.Message next.Ends) ≡ 0
-      by true z = e
-      by false z = omega (arith, ltb-false 0 n z)
-
   total-agrees : (plain : Bool) → a .start .plain ≡ plain → a .turn .next ≡ next.Total → isSmall (a .turn .mode) ≡ true → (z : ℤ) (d : ℕ) → (plain ≡ true → z ≡ totalOf T)
       → cond plain (image p z) d ≡ dot p (2 ^ a .start .rounds) (vectorF p T) (vectorG p T)
       → Agrees p through its (goesTo a (roundOrEnds 0 (a .start .rounds))) (noted p call.Close past (cond plain (answered (reply.total z)) (answered (reply.fieldTotal d))))
@@ -239,8 +219,9 @@ module _ (p : ℕ) (large : maxWeight < p) (through : Bool) (its : List Given) (
       let messages : a .start .plain ≡ true → past .messages ≡ messagesTo p T cs (givenAt (length cs) (roundOrEnds 0 n)) =
       λ plain. g .messages plain ∙ ap (λ t. messagesTo p T cs (givenAt (length cs) t)) et
       ∙ ap (messagesTo p T cs) (sym (q .0) ∙ ap (λ i. givenAt i (roundOrEnds 0 n)) (sym none-yet)) in
-      let first : dot p (2 ^ n) (vectorF p T) (vectorG p T) ≡ productAt cs (levelNow n (length cs) 0 (roundOrEnds 0 n)) =
-      sym (first-claim p n (at cs) (vectorF p T) (vectorG p T)) ∙ ap (productAt cs) (sym (first-level (length cs) n none-yet)) in
+      let first : dot p (2 ^ n) (vectorF p T) (vectorG p T) ≡ claimOf p T cs (levelNow n (length cs) 0 (roundOrEnds 0 n)) =
+      sym (first-claim p n (at cs) (vectorF p T) (vectorG p T))
+      ∙ ap (claimOf p T cs) (sym (ap (λ k. levelNow n k 0 (roundOrEnds 0 n)) none-yet ∙ round-level 0 n (omega arith))) in
       by plain ep e messages (q .1) (q .2) (claims ∙ first)
     where
       b : State
@@ -252,7 +233,7 @@ module _ (p : ℕ) (large : maxWeight < p) (through : Bool) (its : List Given) (
       by : (plain : Bool) → a .start .plain ≡ plain → (plain ≡ true → z ≡ totalOf T)
           → (a .start .plain ≡ true → past .messages ≡ messagesTo p T (a .turn .challenges) (givenAt (length (a .turn .challenges)) (roundOrEnds 0 (a .start .rounds))))
           → waits next.Openings (roundOrEnds 0 (a .start .rounds)) ≡ false → waits next.Challenge (roundOrEnds 0 (a .start .rounds)) ≡ false
-          → cond plain (image p z) d ≡ productAt (a .turn .challenges) (level b)
+          → cond plain (image p z) d ≡ claimOf p T (a .turn .challenges) (level b)
           → Agrees p through its b (noted p call.Close past (cond plain (answered (reply.total z)) (answered (reply.fieldTotal d))))
       by true ep e messages later soon claims =
           record {
@@ -289,9 +270,9 @@ module _ (p : ℕ) (large : maxWeight < p) (through : Bool) (its : List Given) (
   message-meant even cross odd e = ap messageIn e
 
   -- it leaves the claim, and the current folds are the same
-  message-claim : a .turn .next ≡ next.Message → past .running .claim ≡ productAt (a .turn .challenges) (length (a .turn .challenges))
+  message-claim : a .turn .next ≡ next.Message → past .running .claim ≡ claimOf p T (a .turn .challenges) (length (a .turn .challenges))
   message-claim et =
-      g .claim (ap amidRounds et) ∙ ap (λ t. productAt (a .turn .challenges) (levelNow (a .start .rounds) (length (a .turn .challenges)) 0 t)) et
+      g .claim (ap amidRounds et) ∙ ap (λ t. claimOf p T (a .turn .challenges) (levelNow (a .start .rounds) (length (a .turn .challenges)) 0 t)) et
 
   small-message : a .turn .next ≡ next.Message → isSmall (a .turn .mode) ≡ true → (even cross odd : ℕ) → answered (reply.message even cross odd) ≡ meant p T (a .turn .challenges) (roundMessage (length (a .turn .challenges))) .answer
       → Agrees p through its (goesTo a next.Challenge) (noted p call.Close past (answered (reply.message even cross odd)))
@@ -486,7 +467,7 @@ module _ (p : ℕ) (large : maxWeight < p) (through : Bool) (its : List Given) (
       ∙ ap (messagesTo p T ds) (sym up ∙ sym (given-round (length ds) (a .start .rounds) .0))
 
   -- the message at its challenge is the scalar product of the next folds
-  challenge-claim : a .turn .next ≡ next.Challenge → (c : ℕ) → nextClaim p (past .running .message) c ≡ productAt (a .turn .challenges ++ c ∷ []) (level (takesChallenge a c))
+  challenge-claim : a .turn .next ≡ next.Challenge → (c : ℕ) → nextClaim p (past .running .message) c ≡ claimOf p T (a .turn .challenges ++ c ∷ []) (level (takesChallenge a c))
   challenge-claim et c =
       let cs : List ℕ = a .turn .challenges in
       let i : ℕ = length cs in
@@ -494,7 +475,7 @@ module _ (p : ℕ) (large : maxWeight < p) (through : Bool) (its : List Given) (
       let same = g .last (ap (waits next.Challenge) et) ∙ message-before p T cs ds i (λ j less. sym (old-challenges cs c j less)) in
       ap₂ (nextClaim p) same (sym (new-challenge cs c))
       ∙ message-next p (a .start .rounds) (at ds) (vectorF p T) (vectorG p T) i
-      ∙ ap (productAt ds) (sym (challenge-level p large through its a h g whole l et c))
+      ∙ ap (claimOf p T ds) (sym (challenge-level p large through its a h g whole l et c))
 
   pub challenge-agrees : (c : ℕ) (o : Lent) (m : Mode) → a .turn .mode ≡ m → a .turn .next ≡ next.Challenge
       → (isFull m ≡ true → Written (foldF p T (takesChallenge a c)) 0 (size (a .start .rounds) (suc (length (a .turn .challenges)))) (l .f) (o .f)

@@ -18,7 +18,7 @@ use Rattle.phase.specs.declared.Next.the-variants as next
 use Rattle.phase.specs.declared.Kind.{Kind}
 use Rattle.phase.specs.declared.Kind.the-variants.{Shut, Asked, Change}
 use Rattle.phase.specs.Cases.{waits, isFull, isOpen}
-use Rattle.phase.specs.Order.{roundOrEnds, roundFits, kindFits}
+use Rattle.phase.specs.Order.{roundFits, kindFits}
 use Rattle.prover.specs.declared.Run.{Run}
 use Rattle.pass.specs.declared.Pass.{Pass}
 use Rattle.prover.specs.declared.Step.{Step}

@@ -22,7 +22,6 @@ use Rattle.phase.specs.declared.Kind.{Kind}
 use Rattle.phase.specs.declared.Kind.the-variants.{Shut, Asked, Change}
 use Rattle.phase.specs.Cases.{waits}
 use Rattle.phase.specs.Level.{levelAt}
-use Rattle.phase.specs.Order.{roundOrEnds}
 use Rattle.prover.specs.declared.Run.{Run}
 use Rattle.pass.specs.declared.Pass.{Pass}
 use Rattle.prover.specs.declared.Answer.the-variants as answer

@@ -26,7 +26,7 @@ use Rattle.phase.specs.declared.Next.the-variants as next
 use Rattle.phase.specs.declared.Kind.{Kind}
 use Rattle.phase.specs.declared.Kind.the-variants.{Shut, Asked, Change}
 use Rattle.phase.specs.Cases.{waits, isChange, isFull, isOpen}
-use Rattle.phase.specs.Order.{roundFits, kindFits}
+use Rattle.phase.specs.Order.{roundOrEnds, roundFits, kindFits}
 use Rattle.prover.specs.declared.Run.{Run}
 use Rattle.pass.specs.declared.Pass.{Pass}
 use Rattle.prover.specs.Reply as reply
@@ -78,6 +78,14 @@ isWrite call.WriteProof = true
 
 not-write : (c : Call) → isWrite c ≡ false → c ≡ call.WriteProof → ⊥
 not-write c e h = true≢false (sym (ap isWrite h) ∙ e)
+
+-- the current fold after k challenges
+pub round-level : (k n : ℕ) → k ≤ n → levelNow n k 0 (roundOrEnds k n) ≡ k
+round-level k n l = by (ltb k n) refl
+  where
+    by : (b : Bool) → ltb k n ≡ b → levelNow n k 0 (cond b next.Message next.Ends) ≡ k
+    by true e = refl
+    by false e = omega (arith, ltb-false k n e)
 
 module _ (p : ℕ) (large : maxWeight < p) (through : Bool) (its : List Given) (a : State) {past : Notes} (h : Fits p a past) (g : Agrees p through its a past)
     (whole : length its ≡ a .start .items) (l : Lent) where
@@ -279,11 +287,7 @@ module _ (p : ℕ) (large : maxWeight < p) (through : Bool) (its : List Given) (
       let k : ℕ = length (a .turn .challenges ++ c ∷ []) in
       let e : k ≡ suc (length (a .turn .challenges)) = length-append (a .turn .challenges) (c ∷ []) ∙ add-one (length (a .turn .challenges)) in
       let less : length (a .turn .challenges) < a .start .rounds = ltb-true _ _ (subst (λ t. roundFits t (length (a .turn .challenges)) (a .start .rounds) ≡ true) et (h .run .round)) in
-      by k (a .start .rounds) (ltb k (a .start .rounds)) refl (omega arith) ∙ e
-    where
-      by : (k n : ℕ) (b : Bool) → ltb k n ≡ b → k ≤ n → levelNow n k 0 (cond b next.Message next.Ends) ≡ k
-      by k n true e l = refl
-      by k n false e l = omega (arith, ltb-false k n e)
+      round-level k (a .start .rounds) (omega arith) ∙ e
 
   challenge-right : (c : ℕ) → table p a (call.Challenge c) l ≡ none → KeptBy p T through a (call.Challenge c) l → Right p T a (call.Challenge c) l (does p R S (call.Challenge c) l)
   unfolding table challengedFull
