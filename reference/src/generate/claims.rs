@@ -58,6 +58,7 @@ impl Claims {
         match run.next {
             Next::Total => self.count("claim before the total"),
             Next::Message(0) => self.total(run),
+            Next::Ends if run.rounds == 0 => self.total(run),
             Next::Message(_) | Next::Ends if small => {
                 self.count("claim after a challenge, in small mode");
             }
