@@ -82,8 +82,7 @@ pub record PassFits (p : ℕ) (s : Start) (m : Mode) (t : Next) (k : Kind) (xs :
   pub idle : k ≡ Shut → xs ≡ []
   pub count : length xs ≤ s .items
   pub within : AllWithin s xs
-  pub fine : (q : ℕ) → Fine p s (getD xs q (Numbers 0 0))
-  -- of the run's kind
+  -- of the run's kind, within their limits
   pub own : (q : ℕ) → q < length xs → heard.Fine p (s .plain) (getD xs q (Numbers 0 0))
 
 pub record Fits (p : ℕ) (a : State) (past : Notes) : Type 0 where

@@ -2,6 +2,7 @@
 use mathlib.Core.Path.{_≡_, refl, sym, ap, ap₂, subst, _∙_}
 use mathlib.Core.Bool.{Bool, true, false, cond, not, _&&_, _||_, true≢false}
 use mathlib.Core.List.{List, [], _∷_, _++_}
+use mathlib.Core.Logic.{⊎-elim}
 use mathlib.Core.Option.{none, some}
 use Prim.Native.Nat.{ℕ, zero, suc, _+_, _*_, _/_, _^_, _<_, _≤_}
 use native.Mathlib.Numerals.{add-one}
@@ -9,7 +10,7 @@ use native.Mathlib.Omega.{arith}
 use lib.Dec.{eqb, ltb}
 use lib.IntN.{ℤ}
 use Rattle.refusal.specs.Outcome.{answered}
-use lib.ListN.{length, length-append, getD, set}
+use lib.ListN.{length, length-append, getD, set, List·getD-eq-default}
 use borrow.Author.Tests.{ltb-true, ltb-false, eqb-true, eq-eqb}
 use Rattle.refusal.specs.Limit.{maxWeight}
 use Rattle.algebra.proofs.Congruence.{base-of}
@@ -69,7 +70,7 @@ use Rattle.calls.proofs.Steps.{row-passed, keepingStep, closeStep, does
 use Rattle.calls.proofs.Turns.{both, pass-kind, openings-kind, change-kind, full-shut, challenge-shut}
 use Rattle.item.specs.Mark.{countsAs}
 use Rattle.calls.proofs.ItemRows.{Limits, item-admitted}
-use Rattle.calls.proofs.Fits.{Fine, givenAt, given-round, RunFits, PassFits, Fits, few, run-formed, kind-is}
+use Rattle.calls.proofs.Fits.{Fine, givenAt, given-round, RunFits, PassFits, Fits, lt-or-le, few, run-formed, kind-is}
 use Rattle.calls.proofs.Numbers.{own-message, own-ends, slice-below}
 use Rattle.calls.proofs.HeardTrip as heard
 
@@ -86,7 +87,7 @@ module _ (p : ℕ) (large : maxWeight < p) where
   -- nothing taken
   pub no-items : (s : Start) (m : Mode) (t : Next) (k : Kind) → kindFits k m t ≡ true → PassFits p s m t k []
   unfolding AllWithin
-  no-items s m t k h = record { kind = h; idle = λ e. refl; count = omega arith; within = tt; fine = λ q. (positive, positive); own = λ q l. absurd (omega arith) }
+  no-items s m t k h = record { kind = h; idle = λ e. refl; count = omega arith; within = tt; own = λ q l. absurd (omega arith) }
 
   -- A PASS IS OPENED
   pub open-follows : (a : State) {past : Notes} → Fits p a past → (l : Lent) → table p a call.OpenPass l ≡ none
@@ -124,15 +125,11 @@ module _ (p : ℕ) (large : maxWeight < p) where
 
   -- AN ITEM IS TAKEN
   one-more : (s : Start) (m : Mode) (t : Next) (k : Kind) (xs : List Given) (x : Given) → PassFits p s m t k xs → isOpen k ≡ true → length xs < s .items
-      → Within s x → Fine p s x → heard.Fine p (s .plain) x → PassFits p s m t k (x ∷ xs)
+      → Within s x → heard.Fine p (s .plain) x → PassFits p s m t k (x ∷ xs)
   unfolding AllWithin
-  one-more s m t k xs x h o l w f own =
-      record { kind = h .kind; idle = λ e. absurd (true≢false (sym o ∙ ap isOpen e)); count = omega arith; within = (w, h .within); fine = fines; own = owns }
+  one-more s m t k xs x h o l w own =
+      record { kind = h .kind; idle = λ e. absurd (true≢false (sym o ∙ ap isOpen e)); count = omega arith; within = (w, h .within); own = owns }
     where
-      fines : (q : ℕ) → Fine p s (getD (x ∷ xs) q (Numbers 0 0))
-      fines zero = f
-      fines (suc q) = h .fine q
-
       owns : (q : ℕ) → q < length (x ∷ xs) → heard.Fine p (s .plain) (getD (x ∷ xs) q (Numbers 0 0))
       owns zero l = own
       owns (suc q) l = h .own q (omega arith)
@@ -142,15 +139,15 @@ module _ (p : ℕ) (large : maxWeight < p) where
   with-or-without true a l o h = record { run = h .run; pass = h .pass; fits = record { run = h .fits .run; pass = h .fits .pass } }
   with-or-without false a l o h = h
 
-  take-follows : (a : State) {past : Notes} → Fits p a past → (x : Given) (l m : Lent) → isOpen (a .pass .kind) ≡ true → length (a .pass .items) < a .start .items → Within (a .start) x → Fine p (a .start) x → heard.Fine p (a .start .plain) x
+  take-follows : (a : State) {past : Notes} → Fits p a past → (x : Given) (l m : Lent) → isOpen (a .pass .kind) ≡ true → length (a .pass .items) < a .start .items → Within (a .start) x → heard.Fine p (a .start .plain) x
       → (o : Result) → o .run ≡ runOf a past → o .pass ≡ takes p (runOf a past) (passOf p a past) (contributes p (a .start) x) (l .f) (l .g) .pass
       → Follows p (buffersIn (isChange (a .pass .kind)) (inPass a (a .pass .kind) (a .pass .point) (x ∷ a .pass .items)) m) past o
-  take-follows a {past} h x l m op less w f own o er ep =
+  take-follows a {past} h x l m op less w own o er ep =
       with-or-without (isChange (a .pass .kind)) (inPass a (a .pass .kind) (a .pass .point) (x ∷ a .pass .items)) m o
       (record {
         run = er;
         pass = ep ∙ after-item p (runOf a past) (a .pass .kind) (a .pass .point) (a .pass .items) x (l .f) (l .g);
-        fits = record { run = h .run; pass = one-more (a .start) (a .turn .mode) (a .turn .next) (a .pass .kind) (a .pass .items) x (h .pass) op less w f own };
+        fits = record { run = h .run; pass = one-more (a .start) (a .turn .mode) (a .turn .next) (a .pass .kind) (a .pass .items) x (h .pass) op less w own };
       })
 
   -- an item within its limits
@@ -161,16 +158,24 @@ module _ (p : ℕ) (large : maxWeight < p) where
   image-below : (z : ℤ) → image p z < p
   image-below z = omega (arith, image-lt p z, base-of p positive)
 
-  fine : (s : Start) (x : Given) → Limits p s x → Fine p s x
-  fine s (Reading z w) h = (image-below (countsAs (s .version) z), omega (arith, h .1))
-  fine s (Numbers a b) h = h
+  -- both numbers of an item of the run's kind are field numbers
+  fine : (s : Start) (kind : Bool) (x : Given) → heard.Fine p kind x → Fine p s x
+  fine s true (Reading z w) h = (image-below (countsAs (s .version) z), omega arith)
+  fine s true (Numbers a b) h = absurd h
+  fine s false (Reading z w) h = absurd h
+  fine s false (Numbers a b) h = h
+
+  all-fine : (s : Start) (m : Mode) (t : Next) (k : Kind) (xs : List Given) → PassFits p s m t k xs → (q : ℕ) → Fine p s (getD xs q (Numbers 0 0))
+  all-fine s m t k xs h q =
+      ⊎-elim (λ (l : q < length xs). fine s (s .plain) (getD xs q (Numbers 0 0)) (h .own q l))
+      (λ (l : length xs ≤ q). subst (Fine p s) (sym (List·getD-eq-default xs (Numbers 0 0) {n = q} l)) (positive, positive)) (lt-or-le q (length xs))
 
   pub item-follows : (a : State) {past : Notes} → Fits p a past → (x : Given) (l : Lent)
       → table p a (call.Give x) l ≡ none
       → (let o : Result = does p (runOf a past) (passOf p a past) (call.Give x) l in Follows p (goesOn a (call.Give x) (o .lent)) past o)
   item-follows a {past} h x l e =
       let q = item-admitted p a l x e in
-      take-follows a h x l (does p (runOf a past) (passOf p a past) (call.Give x) l .lent) (q .opened) (q .more) (within (a .start) x (q .limits)) (fine (a .start) x (q .limits)) (q .own)
+      take-follows a h x l (does p (runOf a past) (passOf p a past) (call.Give x) l .lent) (q .opened) (q .more) (within (a .start) x (q .limits)) (q .own)
       (does p (runOf a past) (passOf p a past) (call.Give x) l) (takes-run p (runOf a past) (passOf p a past) (contributes p (a .start) x) (l .f) (l .g)) refl
 
   -- WHAT IS NEXT after the total and after a challenge
@@ -344,7 +349,7 @@ module _ (p : ℕ) (large : maxWeight < p) where
     close-core next.Total Asked et op fit fits = total-closed (a .start .plain) refl et (λ e. fits e refl)
     close-core next.Message Asked et op fit fits =
         let q = message-round a h et in
-        let b = own-message p positive R (a .pass .items) (h .pass .fine) (a .pass .point) (run-formed p a h) all (ap (waits next.Total) et) enough (length (a .turn .challenges))
+        let b = own-message p positive R (a .pass .items) (all-fine _ _ _ _ _ (h .pass)) (a .pass .point) (run-formed p a h) all (ap (waits next.Total) et) enough (length (a .turn .challenges))
         (ap (λ t. levelAt (a .start .rounds) (length (a .turn .challenges)) t Asked) et) (q .0) in
         record {
           run = message-run a h et (S Asked .even) (S Asked .cross) (S Asked .odd);
@@ -357,7 +362,7 @@ module _ (p : ℕ) (large : maxWeight < p) where
         no-pass Small e = true≢false (sym e)
         no-pass Full e = true≢false (sym e)
     close-core next.Ends Asked et op fit fits =
-        let b = own-ends p positive R (a .pass .items) (h .pass .fine) (a .pass .point) (run-formed p a h) all (ap (waits next.Total) et) enough et in
+        let b = own-ends p positive R (a .pass .items) (all-fine _ _ _ _ _ (h .pass)) (a .pass .point) (run-formed p a h) all (ap (waits next.Total) et) enough et in
         record { run = refl; pass = refl; fits = record { run = ends-fits a h et _ _ (b .0) (b .1); pass = shut-items (a .start) (a .turn .mode) _ } }
     close-core next.Openings Asked et op fit fits =
         record {
