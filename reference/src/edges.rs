@@ -11,9 +11,10 @@
 //!     of T, 22 of (s·32767, 1440), one of (s·32767, 1089), one of (T - s·1073741823, 1), in
 //!     this order, given from the last down
 //!   total-claimed T and what a verifier's close answers, with L = 1 and the item (0, 0)
+//!   rounds-all FIRST LAST N: the items from which and up to which a run has N rounds, for all L
 
 use crate::field::{from_signed, half, TOTAL_LIMIT};
-use crate::files::Item;
+use crate::files::{Item, MOST_ITEMS};
 use crate::prover::{Buffers, Call};
 use crate::refusal::Refusal;
 use crate::state::Run;
@@ -46,6 +47,7 @@ pub fn output() -> String {
     for total in totals {
         lines.push(format!("- total-claimed {total} {}", worded(claimed(total))));
     }
+    lines.extend(rounds_of_all());
     lines.join("\n") + "\n"
 }
 
@@ -85,6 +87,17 @@ fn messages_of_one() -> usize {
     }
     assert!(run.ends.is_some());
     run.messages.len()
+}
+
+fn rounds_of_all() -> Vec<String> {
+    let all: Vec<(usize, usize)> =
+        (1..=MOST_ITEMS).map(|items| (items, rounds_of(items))).collect();
+    let stretches = all.chunk_by(|one, next| one.1 == next.1);
+    let line = |stretch: &[(usize, usize)]| {
+        let (first, last) = (stretch[0], stretch[stretch.len() - 1]);
+        format!("- rounds-all {} {} {}", first.0, last.0, first.1)
+    };
+    stretches.map(line).collect()
 }
 
 /// The limit is 32,767 times 32,769 minutes.

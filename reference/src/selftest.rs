@@ -41,7 +41,11 @@ const PAPER_EDGES: &str = "* claim 0 2147478547
 - total-claimed 1073741823 taken
 - total-claimed 1073741824 refused 7
 - total-claimed -1073741823 taken
-- total-claimed -1073741824 refused 7";
+- total-claimed -1073741824 refused 7
+- rounds-all 1 1 0
+- rounds-all 2 2 1
+- rounds-all 3 4 2
+- rounds-all 16385 32768 15";
 
 /// -180 + 3 · 5 + 9 · 150 and so on; -370, 11 and 1090 at 2, and -370 + 3 · 11 + 9 · 1090.
 const PAPER_BATCH: &str = "combined 1185 1286 1435 2147483644

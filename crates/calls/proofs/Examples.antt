@@ -11,7 +11,7 @@ use Rattle.kernel.specs.Kernel.{hornerAt, arrived, topAt, climbFrom, evaluatedF
 use Rattle.kernel.specs.Change.{left, placed, placedAll}
 use Rattle.vector.specs.Opening.{tripleValues}
 use Rattle.vector.specs.Power.{sizeIn32}
-use Rattle.vector.specs.Rounds.{powers, firstFrom}
+use Rattle.vector.specs.Rounds.{roundsOf}
 use Rattle.vector.specs.Slice.{overwrite, foldSlice, messageSlice, every}
 use Rattle.vector.specs.Vector.{sum}
 use Rattle.wire.specs.Number.{bytes, bits}
@@ -49,7 +49,7 @@ use Rattle.calls.proofs.ExampleKept.{allTrue, all-kept}
 
 module _ (f g : List ℕ) where
   pub small-run : TripList smallCalls (claimsGo 11 9 7 17) (freshWorld tripStart f g)
-  unfolding each allTrue lastOf callsOf answersOf refusalsOf table sumOf step messageCall giveCall itemChecks openCall openAtCall closeCall challengeCall toFullCall writeCall wellFormed turnFormed passFormed powers firstFrom inLimits sizeIn32 partsOf takes takesIn entersIn summedItem enteredIn plus image residue negMod addMod mulMod valuesOf tripleValues bytes bits allBelow numbers proofHeader writeProof writtenIn hornerAt arrived topAt climbFrom evaluatedFrom climbed evaluated meetsAt summed settled sumsAfter stacksFit entered streamed paddingFrom paddingBelow left placed placedAll placedIn inRange isMark
+  unfolding each allTrue lastOf callsOf answersOf refusalsOf table sumOf step messageCall giveCall itemChecks openCall openAtCall closeCall challengeCall toFullCall writeCall wellFormed turnFormed passFormed roundsOf inLimits sizeIn32 partsOf takes takesIn entersIn summedItem enteredIn plus image residue negMod addMod mulMod valuesOf tripleValues bytes bits allBelow numbers proofHeader writeProof writtenIn hornerAt arrived topAt climbFrom evaluatedFrom climbed evaluated meetsAt summed settled sumsAfter stacksFit entered streamed paddingFrom paddingBelow left placed placedAll placedIn inRange isMark
   small-run =
       record {
         kept = all-kept P true trip (freshWorld tripStart f g) (callsOf smallCalls) refl;
@@ -60,7 +60,7 @@ module _ (f g : List ℕ) where
       }
 
   pub full-run : TripList fullCalls (claimsGo 4 18 3 8) (freshWorld tripStart f g)
-  unfolding each allTrue lastOf callsOf answersOf refusalsOf every table sumOf step messageGiven messageCall endsCall giveCall itemChecks openCall closeCall challengedFull challengeCall cleared toFullCall openingGiven openingCall writeCall wellFormed turnFormed passFormed powers firstFrom inLimits sizeIn32 partsOf takes takesIn entersIn summedItem enteredIn plus image residue negMod addMod mulMod sum foldWith overwrite foldSlice messageSlice tripleValues bytes bits allBelow numbers proofHeader writeProof writtenIn hornerAt arrived topAt climbFrom evaluatedFrom climbed evaluated meetsAt summed settled sumsAfter stacksFit entered streamed paddingFrom paddingBelow left placed placedAll placedIn inRange isMark
+  unfolding each allTrue lastOf callsOf answersOf refusalsOf every table sumOf step messageGiven messageCall endsCall giveCall itemChecks openCall closeCall challengedFull challengeCall cleared toFullCall openingGiven openingCall writeCall wellFormed turnFormed passFormed roundsOf inLimits sizeIn32 partsOf takes takesIn entersIn summedItem enteredIn plus image residue negMod addMod mulMod sum foldWith overwrite foldSlice messageSlice tripleValues bytes bits allBelow numbers proofHeader writeProof writtenIn hornerAt arrived topAt climbFrom evaluatedFrom climbed evaluated meetsAt summed settled sumsAfter stacksFit entered streamed paddingFrom paddingBelow left placed placedAll placedIn inRange isMark
   full-run =
       record {
         kept = all-kept P true trip (freshWorld tripStart f g) (callsOf fullCalls) refl;
@@ -71,7 +71,7 @@ module _ (f g : List ℕ) where
       }
 
   pub changing-run : TripList changing (claimsGo 5 7 14 7) (freshWorld tripStart f g)
-  unfolding each allTrue lastOf callsOf answersOf refusalsOf every table sumOf step messageGiven messageCall endsCall giveCall itemChecks openCall openAtCall closeCall challengedFull challengeCall cleared toFullCall openingGiven openingCall writeCall wellFormed turnFormed passFormed powers firstFrom inLimits sizeIn32 partsOf takes takesIn entersIn summedItem enteredIn plus image residue negMod addMod mulMod sum foldWith overwrite foldSlice messageSlice tripleValues bytes bits allBelow numbers proofHeader writeProof writtenIn hornerAt arrived topAt climbFrom evaluatedFrom climbed evaluated meetsAt summed settled sumsAfter stacksFit entered streamed paddingFrom paddingBelow left placed placedAll placedIn inRange isMark
+  unfolding each allTrue lastOf callsOf answersOf refusalsOf every table sumOf step messageGiven messageCall endsCall giveCall itemChecks openCall openAtCall closeCall challengedFull challengeCall cleared toFullCall openingGiven openingCall writeCall wellFormed turnFormed passFormed roundsOf inLimits sizeIn32 partsOf takes takesIn entersIn summedItem enteredIn plus image residue negMod addMod mulMod sum foldWith overwrite foldSlice messageSlice tripleValues bytes bits allBelow numbers proofHeader writeProof writtenIn hornerAt arrived topAt climbFrom evaluatedFrom climbed evaluated meetsAt summed settled sumsAfter stacksFit entered streamed paddingFrom paddingBelow left placed placedAll placedIn inRange isMark
   changing-run =
       record {
         kept = all-kept P true trip (freshWorld tripStart f g) (callsOf changing) refl;
@@ -82,7 +82,7 @@ module _ (f g : List ℕ) where
       }
 
   pub returning-run : TripList returning (claimsGo 4 10 8 15) (freshWorld tripStart f g)
-  unfolding each allTrue lastOf callsOf answersOf refusalsOf every table sumOf step messageGiven messageCall endsCall giveCall itemChecks openCall openAtCall closeCall challengedFull challengeCall cleared toFullCall toSmallCall openingGiven openingCall writeCall wellFormed turnFormed passFormed powers firstFrom inLimits sizeIn32 partsOf takes takesIn entersIn summedItem enteredIn plus image residue negMod addMod mulMod sum foldWith overwrite foldSlice messageSlice valuesOf tripleValues bytes bits allBelow numbers proofHeader writeProof writtenIn hornerAt arrived topAt climbFrom evaluatedFrom climbed evaluated meetsAt summed settled sumsAfter stacksFit entered streamed paddingFrom paddingBelow left placed placedAll placedIn inRange isMark
+  unfolding each allTrue lastOf callsOf answersOf refusalsOf every table sumOf step messageGiven messageCall endsCall giveCall itemChecks openCall openAtCall closeCall challengedFull challengeCall cleared toFullCall toSmallCall openingGiven openingCall writeCall wellFormed turnFormed passFormed roundsOf inLimits sizeIn32 partsOf takes takesIn entersIn summedItem enteredIn plus image residue negMod addMod mulMod sum foldWith overwrite foldSlice messageSlice valuesOf tripleValues bytes bits allBelow numbers proofHeader writeProof writtenIn hornerAt arrived topAt climbFrom evaluatedFrom climbed evaluated meetsAt summed settled sumsAfter stacksFit entered streamed paddingFrom paddingBelow left placed placedAll placedIn inRange isMark
   returning-run =
       record {
         kept = all-kept P true trip (freshWorld tripStart f g) (callsOf returning) refl;

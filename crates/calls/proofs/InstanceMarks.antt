@@ -8,7 +8,7 @@ use lib.IntN.{pos}
 use Rattle.refusal.specs.Outcome.{requireAll}
 use Rattle.field.specs.Modulus.{modulus}
 use Rattle.field.proofs.ModulusLaws.{modulus-weights, modulus-prime, modulus-odd, modulus-word}
-use Rattle.vector.specs.Rounds.{powers, firstFrom}
+use Rattle.vector.specs.Rounds.{roundsOf}
 use Rattle.wire.specs.Number.{num, numAt, signed}
 use Rattle.wire.specs.Header.{marked}
 use Rattle.wire.specs.Log.{readingOf, readLogWithin}
@@ -66,12 +66,12 @@ pub tenths-total : totalOf (logTrip tenths) ≡ pos 0
 tenths-total = marked-total (logTrip tenths) tenths-marked
 
 pub tenths-proved : (full : ℕ → Bool) (f g : List ℕ) → Proved (logTrip tenths) full f g
-unfolding powers firstFrom numAt num
+unfolding roundsOf numAt num
 tenths-proved = proved (logTrip tenths) tenths-marked refl
 
 pub thousandths-total : totalOf (logTrip thousandths) ≡ pos 0
 thousandths-total = marked-total (logTrip thousandths) thousandths-marked
 
 pub thousandths-proved : (full : ℕ → Bool) (f g : List ℕ) → Proved (logTrip thousandths) full f g
-unfolding powers firstFrom numAt num
+unfolding roundsOf numAt num
 thousandths-proved = proved (logTrip thousandths) thousandths-marked refl

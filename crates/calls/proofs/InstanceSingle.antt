@@ -13,7 +13,7 @@ use Rattle.field.specs.Total.{inLimits, plus}
 use Rattle.wire.specs.Number.{num, bytes, numAt, signed, bits}
 use Rattle.wire.specs.Header.{marked}
 use Rattle.wire.specs.Proof.{allBelow, readProof, readProofOf, numbers as fileNumbers, proofHeader}
-use Rattle.vector.specs.Rounds.{powers, firstFrom}
+use Rattle.vector.specs.Rounds.{roundsOf}
 use Rattle.vector.specs.Power.{sizeIn32}
 use Rattle.vector.specs.Vector.{weight, sum}
 use Rattle.vector.specs.Fold.{foldWith}
@@ -75,15 +75,15 @@ abbrev single : Trip
 single = record { start = record { items = 1; rounds = 0; plain = true; version = 2; twists = replicate 15 0 }; items = Reading (negsuc 17999) 10 ∷ [] }
 
 pub single-starts : startPlain 1 2 ≡ answered (started (freshRun (single .start)))
-unfolding startPlain powers firstFrom
+unfolding startPlain roundsOf
 single-starts = refl
 
 single-whole : Whole single
-unfolding powers firstFrom
+unfolding roundsOf
 single-whole = record { start = record { version = refl; least = omega arith; most = omega arith; rounds = refl }; items = refl }
 
 single-valid : Valid P single
-unfolding powers firstFrom inLimits sumOf inRange isMark
+unfolding roundsOf inLimits sumOf inRange isMark
 single-valid = record { whole = single-whole; items = fits; total = λ e. refl }
   where
     fits : (i : ℕ) → i < 1 → ItemFits P (single .start) (tripItem single i)
@@ -121,7 +121,7 @@ pub single-replies :
     ∷ says reply.taken
     ∷ says (reply.ends 2147465647 10)
     ∷ []
-unfolding each itemsBelow roundsFrom openingsFrom step endsCall giveCall itemChecks openCall closeCall cleared toFullCall wellFormed turnFormed passFormed powers firstFrom inLimits sizeIn32 partsOf takes takesIn entersIn summedItem enteredIn plus image residue negMod addMod mulMod sum foldWith overwrite every hornerAt arrived topAt climbFrom evaluatedFrom climbed evaluated meetsAt summed settled sumsAfter stacksFit entered streamed paddingFrom paddingBelow left placed placedAll placedIn inRange isMark
+unfolding each itemsBelow roundsFrom openingsFrom step endsCall giveCall itemChecks openCall closeCall cleared toFullCall wellFormed turnFormed passFormed roundsOf inLimits sizeIn32 partsOf takes takesIn entersIn summedItem enteredIn plus image residue negMod addMod mulMod sum foldWith overwrite every hornerAt arrived topAt climbFrom evaluatedFrom climbed evaluated meetsAt summed settled sumsAfter stacksFit entered streamed paddingFrom paddingBelow left placed placedAll placedIn inRange isMark
 single-replies = refl
 
 -- and with a change before the ends
@@ -135,7 +135,7 @@ pub single-changed :
     ∷ says reply.changed
     ∷ says (reply.ends 2147465647 10)
     ∷ []
-unfolding each itemsBelow roundsFrom openingsFrom step endsCall giveCall itemChecks openCall closeCall cleared toFullCall wellFormed turnFormed passFormed powers firstFrom inLimits sizeIn32 partsOf takes takesIn entersIn summedItem enteredIn plus image residue negMod addMod mulMod sum foldWith overwrite every hornerAt arrived topAt climbFrom evaluatedFrom climbed evaluated meetsAt summed settled sumsAfter stacksFit entered streamed paddingFrom paddingBelow left placed placedAll placedIn inRange isMark
+unfolding each itemsBelow roundsFrom openingsFrom step endsCall giveCall itemChecks openCall closeCall cleared toFullCall wellFormed turnFormed passFormed roundsOf inLimits sizeIn32 partsOf takes takesIn entersIn summedItem enteredIn plus image residue negMod addMod mulMod sum foldWith overwrite every hornerAt arrived topAt climbFrom evaluatedFrom climbed evaluated meetsAt summed settled sumsAfter stacksFit entered streamed paddingFrom paddingBelow left placed placedAll placedIn inRange isMark
 single-changed = refl
 
 -- its verifier's own list: the item, the close and the verdict; or the item and the file of 18 bytes
@@ -160,11 +160,11 @@ single-file-list = refl
 pub single-told :
     toldAll (freshHearing (single .start) []) singleList
     ≡ answered (said.replies heard.taken) ∷ answered (said.replies heard.closed) ∷ answered (said.finds yes) ∷ []
-unfolding each ask give passOpen verifierFormed turnOf partsOf oneMore verifierEntering freshVerifier fifteen overwrite powers firstFrom weight image residue addMod negMod mulMod close closedWith inLimits hears passedWith failedNow verdict verdictTurn finds inRange isMark
+unfolding each ask give passOpen verifierFormed turnOf partsOf oneMore verifierEntering freshVerifier fifteen overwrite roundsOf weight image residue addMod negMod mulMod close closedWith inLimits hears passedWith failedNow verdict verdictTurn finds inRange isMark
 single-told = refl
 
 pub single-file-told : toldAll (freshHearing (single .start) []) singleByFile ≡ answered (said.replies heard.taken) ∷ answered (said.finds yes) ∷ []
-unfolding each ask give passOpen verifierFormed turnOf partsOf oneMore verifierEntering freshVerifier fifteen overwrite powers firstFrom weight image residue addMod negMod mulMod closedWith inLimits hears passedWith failedNow finds proof readProofOf readProof marked allBelow numAt num bytes signed bits proofHeader fileNumbers hearsNext hearsFirst endsAgree compares afterFile inRange isMark
+unfolding each ask give passOpen verifierFormed turnOf partsOf oneMore verifierEntering freshVerifier fifteen overwrite roundsOf weight image residue addMod negMod mulMod closedWith inLimits hears passedWith failedNow finds proof readProofOf readProof marked allBelow numAt num bytes signed bits proofHeader fileNumbers hearsNext hearsFirst endsAgree compares afterFile inRange isMark
 single-file-told = refl
 
 -- what demand 3 says of them, whatever the mode

@@ -9,7 +9,7 @@ use Rattle.algebra.specs.Mod.{residue, addMod, subMod, negMod, mulMod, halfOne,
 use Rattle.refusal.specs.Outcome.{answered}
 use Rattle.field.specs.Integer.{image}
 use Rattle.field.specs.Total.{inLimits, plus}
-use Rattle.vector.specs.Rounds.{powers, firstFrom}
+use Rattle.vector.specs.Rounds.{roundsOf}
 use Rattle.vector.specs.Power.{sizeIn32}
 use Rattle.vector.specs.Vector.{weight, sum}
 use Rattle.vector.specs.Fold.{foldWith}
@@ -82,15 +82,15 @@ twisted =
     }
 
 pub twisted-starts : startTwisted P 3 (5 ∷ 7 ∷ []) ≡ answered (started (freshRun (twisted .start)))
-unfolding startTwisted powers firstFrom fifteen overwrite every
+unfolding startTwisted roundsOf fifteen overwrite every
 twisted-starts = refl
 
 twisted-whole : Whole twisted
-unfolding powers firstFrom
+unfolding roundsOf
 twisted-whole = record { start = record { version = refl; least = omega arith; most = omega arith; rounds = refl }; items = refl }
 
 twisted-valid : Valid P twisted
-unfolding powers firstFrom
+unfolding roundsOf
 twisted-valid = record { whole = twisted-whole; items = fits; total = λ e. absurd (true≢false (sym e)) }
   where
     fits : (i : ℕ) → i < 3 → ItemFits P (twisted .start) (tripItem twisted i)
@@ -147,12 +147,12 @@ pub twisted-replies :
     ++ (says reply.changed ∷ says (reply.ends 231 45) ∷ says reply.changed ∷ [])
     ++ items3
     ++ ((record { answer = answered reply.opening; values = inNinety 2 twistedOpening }) ∷ [])
-unfolding each itemsBelow roundsFrom openingsFrom step messageGiven messageCall endsCall giveCall itemChecks openCall openAtCall closeCall challengedFull challengeCall cleared toFullCall toSmallCall openingGiven openingCall wellFormed turnFormed passFormed powers firstFrom inLimits sizeIn32 partsOf takes takesIn entersIn weight summedItem enteredIn plus image residue negMod addMod mulMod sum foldWith overwrite foldSlice messageSlice valuesOf tripleValues every hornerAt arrived topAt climbFrom evaluatedFrom climbed evaluated meetsAt summed settled sumsAfter stacksFit entered streamed paddingFrom paddingBelow left placed placedAll placedIn inRange isMark
+unfolding each itemsBelow roundsFrom openingsFrom step messageGiven messageCall endsCall giveCall itemChecks openCall openAtCall closeCall challengedFull challengeCall cleared toFullCall toSmallCall openingGiven openingCall wellFormed turnFormed passFormed roundsOf inLimits sizeIn32 partsOf takes takesIn entersIn weight summedItem enteredIn plus image residue negMod addMod mulMod sum foldWith overwrite foldSlice messageSlice valuesOf tripleValues every hornerAt arrived topAt climbFrom evaluatedFrom climbed evaluated meetsAt summed settled sumsAfter stacksFit entered streamed paddingFrom paddingBelow left placed placedAll placedIn inRange isMark
 twisted-replies = refl
 
 -- the claim after each call: 726; 516 + 141·2 + 210·4; 1134 + 1575·3 + 504·9, which is 231·45
 pub twisted-claims : each (onward P) (λ w m. came P w m .run .claim) twistedWorld twistedRun ≡ replicate 4 0 ++ replicate 7 726 ++ replicate 7 1638 ++ replicate 13 10395
-unfolding each itemsBelow roundsFrom openingsFrom step messageGiven messageCall endsCall giveCall itemChecks openCall openAtCall closeCall challengedFull challengeCall cleared toFullCall toSmallCall openingGiven openingCall wellFormed turnFormed passFormed powers firstFrom inLimits sizeIn32 partsOf takes takesIn entersIn weight summedItem enteredIn plus image residue negMod addMod mulMod sum foldWith overwrite foldSlice messageSlice valuesOf tripleValues every hornerAt arrived topAt climbFrom evaluatedFrom climbed evaluated meetsAt summed settled sumsAfter stacksFit entered streamed paddingFrom paddingBelow left placed placedAll placedIn inRange isMark
+unfolding each itemsBelow roundsFrom openingsFrom step messageGiven messageCall endsCall giveCall itemChecks openCall openAtCall closeCall challengedFull challengeCall cleared toFullCall toSmallCall openingGiven openingCall wellFormed turnFormed passFormed roundsOf inLimits sizeIn32 partsOf takes takesIn entersIn weight summedItem enteredIn plus image residue negMod addMod mulMod sum foldWith overwrite foldSlice messageSlice valuesOf tripleValues every hornerAt arrived topAt climbFrom evaluatedFrom climbed evaluated meetsAt summed settled sumsAfter stacksFit entered streamed paddingFrom paddingBelow left placed placedAll placedIn inRange isMark
 twisted-claims = refl
 
 -- its verifier's own list: the items, the claim, two messages, the verdict and a check
@@ -169,7 +169,7 @@ twistedList =
     ∷ []
 
 pub twisted-list : wholeByMessages P twisted (2 ∷ 3 ∷ []) (3 ∷ []) ≡ twistedList
-unfolding messagesFrom tripleValues powers firstFrom residue negMod addMod mulMod sum foldWith weight
+unfolding messagesFrom tripleValues roundsOf residue negMod addMod mulMod sum foldWith weight
 twisted-list = refl
 
 pub twisted-told :
@@ -183,13 +183,13 @@ pub twisted-told :
     ∷ answered (said.finds yes)
     ∷ answered (said.opens holds)
     ∷ []
-unfolding each ask give passOpen verifierFormed turnOf partsOf oneMore verifierEntering freshVerifier fifteen overwrite powers firstFrom weight image residue addMod negMod mulMod closeClaim closedWith inLimits message messageTurn allReduced3 hears passedWith failedNow verdict verdictTurn finds checkOpening hasRounds every openingFinds firstFault opens divMod inverseMod inverseIn halfMod halfOne subMod inRange isMark
+unfolding each ask give passOpen verifierFormed turnOf partsOf oneMore verifierEntering freshVerifier fifteen overwrite roundsOf weight image residue addMod negMod mulMod closeClaim closedWith inLimits message messageTurn allReduced3 hears passedWith failedNow verdict verdictTurn finds checkOpening hasRounds every openingFinds firstFault opens divMod inverseMod inverseIn halfMod halfOne subMod inRange isMark
 twisted-told = refl
 
 -- the verifier's claims
 pub twisted-heard : each (hearsOn P) (λ h q. hearsOn P h q .verifier .claim) (freshHearing (twisted .start) (2 ∷ 3 ∷ [])) twistedList
     ≡ replicate 3 0 ++ 726 ∷ 1638 ∷ replicate 3 10395
-unfolding each ask give passOpen verifierFormed turnOf partsOf oneMore verifierEntering freshVerifier fifteen overwrite powers firstFrom weight image residue addMod negMod mulMod closeClaim closedWith inLimits message messageTurn allReduced3 hears passedWith failedNow verdict verdictTurn finds checkOpening hasRounds every openingFinds firstFault opens divMod inverseMod inverseIn halfMod halfOne subMod inRange isMark
+unfolding each ask give passOpen verifierFormed turnOf partsOf oneMore verifierEntering freshVerifier fifteen overwrite roundsOf weight image residue addMod negMod mulMod closeClaim closedWith inLimits message messageTurn allReduced3 hears passedWith failedNow verdict verdictTurn finds checkOpening hasRounds every openingFinds firstFault opens divMod inverseMod inverseIn halfMod halfOne subMod inRange isMark
 twisted-heard = refl
 
 -- what demand 3 says of them

@@ -8,7 +8,7 @@ use native.Mathlib.Omega.{arith}
 use lib.IntN.{pos, negsuc}
 use lib.ListN.{replicate, take}
 use Rattle.field.specs.Total.{inLimits}
-use Rattle.vector.specs.Rounds.{powers, firstFrom}
+use Rattle.vector.specs.Rounds.{roundsOf}
 use Rattle.item.specs.declared.Given.the-variants.{Reading}
 use Rattle.item.specs.Version.{inRange}
 use Rattle.item.specs.Mark.{isMark}
@@ -34,7 +34,7 @@ trip =
     }
 
 valid : Valid P trip
-unfolding powers firstFrom inLimits sumOf inRange isMark
+unfolding roundsOf inLimits sumOf inRange isMark
 valid = record { whole = record { start = record { version = refl; least = omega arith; most = omega arith; rounds = refl }; items = refl }; items = fits; total = λ e. refl }
   where
     fits : (i : ℕ) → i < 3 → ItemFits P (trip .start) (tripItem trip i)

@@ -7,7 +7,7 @@ use mathlib.Core.Option.{Option, none, some}
 use lib.IntN.{pos, negsuc}
 use lib.ListN.{replicate}
 use Rattle.refusal.specs.Outcome.{Outcome, answered, refused, refusedAt}
-use Rattle.vector.specs.Rounds.{powers, firstFrom}
+use Rattle.vector.specs.Rounds.{roundsOf}
 use Rattle.item.specs.declared.Start.{Start}
 use Rattle.item.specs.declared.Given.the-variants.{Reading}
 use Rattle.prover.specs.Reply as reply
@@ -33,7 +33,7 @@ tripStart = record { items = 3; rounds = 2; plain = true; version = 1; twists = 
 
 -- the start is answered so
 pub trip-starts : startPlain 3 1 ≡ answered (started (freshRun tripStart))
-unfolding startPlain powers firstFrom
+unfolding startPlain roundsOf
 trip-starts = refl
 
 abbrev pub trip : Trip

@@ -11,7 +11,7 @@ use Rattle.field.specs.Total.{inLimits}
 use Rattle.wire.specs.Number.{num, bytes, numAt, signed, bits}
 use Rattle.wire.specs.Header.{marked}
 use Rattle.wire.specs.Proof.{allBelow, readProof, readProofOf, numbers, proofHeader, proofFile}
-use Rattle.vector.specs.Rounds.{powers, firstFrom}
+use Rattle.vector.specs.Rounds.{roundsOf}
 use Rattle.vector.specs.Vector.{sum, weight}
 use Rattle.vector.specs.Opening.{opens}
 use Rattle.vector.specs.Slice.{overwrite, fifteen, every}
@@ -97,7 +97,7 @@ pub trip-told :
     ∷ answered (said.opens holds)
     ∷ answered (said.finds yes)
     ∷ []
-unfolding each ask give passOpen wellFormed turnOf partsOf oneMore entering freshVerifier fifteen overwrite powers firstFrom weight image residue addMod negMod mulMod close closedWith inLimits message messageTurn allReduced3 hears passedWith failedNow verdict verdictTurn finds checkOpening hasRounds every openingFinds firstFault opens divMod inverseMod inverseIn halfMod halfOne subMod inRange isMark
+unfolding each ask give passOpen wellFormed turnOf partsOf oneMore entering freshVerifier fifteen overwrite roundsOf weight image residue addMod negMod mulMod close closedWith inLimits message messageTurn allReduced3 hears passedWith failedNow verdict verdictTurn finds checkOpening hasRounds every openingFinds firstFault opens divMod inverseMod inverseIn halfMod halfOne subMod inRange isMark
 trip-told = refl
 
 -- with the proof file, given once
@@ -110,7 +110,7 @@ pub trip-file-told :
     ∷ answered (said.finds yes)
     ∷ refused 10
     ∷ []
-unfolding each ask give passOpen wellFormed turnOf partsOf oneMore entering freshVerifier fifteen overwrite powers firstFrom weight image residue addMod negMod mulMod closedWith inLimits hears passedWith failedNow verdict verdictTurn finds proof readProofOf readProof marked allBelow numAt num bytes signed bits proofHeader numbers hearsNext hearsFirst endsAgree compares afterFile inRange isMark
+unfolding each ask give passOpen wellFormed turnOf partsOf oneMore entering freshVerifier fifteen overwrite roundsOf weight image residue addMod negMod mulMod closedWith inLimits hears passedWith failedNow verdict verdictTurn finds proof readProofOf readProof marked allBelow numAt num bytes signed bits proofHeader numbers hearsNext hearsFirst endsAgree compares afterFile inRange isMark
 trip-file-told = refl
 
 -- document 02, (a): two logs, z = 3 and the point 2; the combined vector is -165, -154, 40, 0, and the logs' values are -370 and 19
@@ -145,5 +145,5 @@ pub batch-told :
     ∷ refused 6
     ∷ refused 11
     ∷ []
-unfolding each ask wellFormed turnOf freshVerifier fifteen overwrite powers firstFrom residue addMod negMod mulMod hasRounds every checkBatch batchFinds firstFault opens divMod inverseMod inverseIn halfMod halfOne subMod sum
+unfolding each ask wellFormed turnOf freshVerifier fifteen overwrite roundsOf residue addMod negMod mulMod hasRounds every checkBatch batchFinds firstFault opens divMod inverseMod inverseIn halfMod halfOne subMod sum
 batch-told = refl

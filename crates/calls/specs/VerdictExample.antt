@@ -11,7 +11,7 @@ use Rattle.field.specs.Total.{inLimits}
 use Rattle.wire.specs.Number.{num, bytes, numAt, signed, bits}
 use Rattle.wire.specs.Header.{marked}
 use Rattle.wire.specs.Proof.{allBelow, readProof, readProofOf, numbers as fileNumbers, proofHeader, proofFile}
-use Rattle.vector.specs.Rounds.{powers, firstFrom}
+use Rattle.vector.specs.Rounds.{roundsOf}
 use Rattle.vector.specs.Vector.{weight}
 use Rattle.vector.specs.Slice.{overwrite, fifteen}
 use Rattle.refusal.specs.Outcome.{Outcome, answered}
@@ -87,16 +87,16 @@ pub trip-brought :
       messages = messageOf3 2147482047 2147478297 2147480147 ∷ messageOf3 2147457147 2147482997 200 ∷ [];
       ends = none;
     }
-unfolding after ask give passOpen wellFormed turnOf partsOf oneMore entering freshVerifier fifteen overwrite powers firstFrom weight image residue addMod negMod mulMod close closedWith inLimits message messageTurn allReduced3 hears passedWith failedNow verdict verdictTurn finds inRange isMark
+unfolding after ask give passOpen wellFormed turnOf partsOf oneMore entering freshVerifier fifteen overwrite roundsOf weight image residue addMod negMod mulMod close closedWith inLimits message messageTurn allReduced3 hears passedWith failedNow verdict verdictTurn finds inRange isMark
 trip-brought = refl
 
 pub trip-yes : toldNext (plainStart 3 1) (2 ∷ 3 ∷ []) (tripCalls 200) (plainly query.Verdict) ≡ answered (said.finds yes)
-unfolding after ask give passOpen wellFormed turnOf partsOf oneMore entering freshVerifier fifteen overwrite powers firstFrom weight image residue addMod negMod mulMod close closedWith inLimits message messageTurn allReduced3 hears passedWith failedNow verdict verdictTurn finds inRange isMark
+unfolding after ask give passOpen wellFormed turnOf partsOf oneMore entering freshVerifier fifteen overwrite roundsOf weight image residue addMod negMod mulMod close closedWith inLimits message messageTurn allReduced3 hears passedWith failedNow verdict verdictTurn finds inRange isMark
 trip-yes = refl
 
 -- another last message does not pass
 pub other-no : toldNext (plainStart 3 1) (2 ∷ 3 ∷ []) (tripCalls 201) (plainly query.Verdict) ≡ answered (said.finds (no 1))
-unfolding after ask give passOpen wellFormed turnOf partsOf oneMore entering freshVerifier fifteen overwrite powers firstFrom weight image residue addMod negMod mulMod close closedWith inLimits message messageTurn allReduced3 hears passedWith failedNow verdict verdictTurn finds inRange isMark
+unfolding after ask give passOpen wellFormed turnOf partsOf oneMore entering freshVerifier fifteen overwrite roundsOf weight image residue addMod negMod mulMod close closedWith inLimits message messageTurn allReduced3 hears passedWith failedNow verdict verdictTurn finds inRange isMark
 other-no = refl
 
 -- the proof file brings the same, and its end values; others are no at n
@@ -108,11 +108,11 @@ pub file-brought :
       messages = messageOf3 2147482047 2147478297 2147480147 ∷ messageOf3 2147457147 2147482997 200 ∷ [];
       ends = some (2147483237, 65);
     }
-unfolding after fileMessages ask give passOpen wellFormed turnOf partsOf oneMore entering freshVerifier fifteen overwrite powers firstFrom weight image residue addMod negMod mulMod closedWith inLimits message messageTurn allReduced3 hears passedWith failedNow finds proof readProofOf readProof marked allBelow numAt num bytes signed bits proofHeader fileNumbers hearsNext hearsFirst endsAgree compares afterFile inRange isMark
+unfolding after fileMessages ask give passOpen wellFormed turnOf partsOf oneMore entering freshVerifier fifteen overwrite roundsOf weight image residue addMod negMod mulMod closedWith inLimits message messageTurn allReduced3 hears passedWith failedNow finds proof readProofOf readProof marked allBelow numAt num bytes signed bits proofHeader fileNumbers hearsNext hearsFirst endsAgree compares afterFile inRange isMark
 file-brought = refl
 
 pub file-no : toldNext (plainStart 3 1) (2 ∷ 3 ∷ []) tripItems (file 66) ≡ answered (said.finds (no 2))
-unfolding after ask give passOpen wellFormed turnOf partsOf oneMore entering freshVerifier fifteen overwrite powers firstFrom weight image residue addMod negMod mulMod closedWith inLimits message messageTurn allReduced3 hears passedWith failedNow finds proof readProofOf readProof marked allBelow numAt num bytes signed bits proofHeader fileNumbers hearsNext hearsFirst endsAgree compares afterFile inRange isMark
+unfolding after ask give passOpen wellFormed turnOf partsOf oneMore entering freshVerifier fifteen overwrite roundsOf weight image residue addMod negMod mulMod closedWith inLimits message messageTurn allReduced3 hears passedWith failedNow finds proof readProofOf readProof marked allBelow numAt num bytes signed bits proofHeader fileNumbers hearsNext hearsFirst endsAgree compares afterFile inRange isMark
 file-no = refl
 
 -- THE TWISTED RUN: its total 38, its message 2, 22, 36, its end values 19 and 10; a close of the other kind between
@@ -128,18 +128,18 @@ twistedCalls claim cross =
 pub twisted-brought :
     broughtBy (twistedStart 2 (3 ∷ [])) (2 ∷ []) (twistedCalls 38 22)
     ≡ record { items = Numbers 1 2 ∷ Numbers 3 4 ∷ []; claim = 38; messages = messageOf3 2 22 36 ∷ []; ends = none }
-unfolding after ask give passOpen wellFormed turnOf partsOf oneMore entering freshVerifier fifteen overwrite powers firstFrom weight residue addMod mulMod close closeClaim closedWith message messageTurn allReduced3 hears passedWith failedNow inRange isMark
+unfolding after ask give passOpen wellFormed turnOf partsOf oneMore entering freshVerifier fifteen overwrite roundsOf weight residue addMod mulMod close closeClaim closedWith message messageTurn allReduced3 hears passedWith failedNow inRange isMark
 twisted-brought = refl
 
 pub twisted-yes : toldNext (twistedStart 2 (3 ∷ [])) (2 ∷ []) (twistedCalls 38 22) (plainly query.Verdict) ≡ answered (said.finds yes)
-unfolding after ask give passOpen wellFormed turnOf partsOf oneMore entering freshVerifier fifteen overwrite powers firstFrom weight residue addMod mulMod close closeClaim closedWith message messageTurn allReduced3 hears passedWith failedNow verdict verdictTurn finds inRange isMark
+unfolding after ask give passOpen wellFormed turnOf partsOf oneMore entering freshVerifier fifteen overwrite roundsOf weight residue addMod mulMod close closeClaim closedWith message messageTurn allReduced3 hears passedWith failedNow verdict verdictTurn finds inRange isMark
 twisted-yes = refl
 
 -- another claim fails at round 0, another cross number at n
 pub twisted-no : toldNext (twistedStart 2 (3 ∷ [])) (2 ∷ []) (twistedCalls 39 22) (plainly query.Verdict) ≡ answered (said.finds (no 0))
-unfolding after ask give passOpen wellFormed turnOf partsOf oneMore entering freshVerifier fifteen overwrite powers firstFrom weight residue addMod mulMod close closeClaim closedWith message messageTurn allReduced3 hears passedWith failedNow verdict verdictTurn finds inRange isMark
+unfolding after ask give passOpen wellFormed turnOf partsOf oneMore entering freshVerifier fifteen overwrite roundsOf weight residue addMod mulMod close closeClaim closedWith message messageTurn allReduced3 hears passedWith failedNow verdict verdictTurn finds inRange isMark
 twisted-no = refl
 
 pub twisted-last : toldNext (twistedStart 2 (3 ∷ [])) (2 ∷ []) (twistedCalls 38 23) (plainly query.Verdict) ≡ answered (said.finds (no 1))
-unfolding after ask give passOpen wellFormed turnOf partsOf oneMore entering freshVerifier fifteen overwrite powers firstFrom weight residue addMod mulMod close closeClaim closedWith message messageTurn allReduced3 hears passedWith failedNow verdict verdictTurn finds inRange isMark
+unfolding after ask give passOpen wellFormed turnOf partsOf oneMore entering freshVerifier fifteen overwrite roundsOf weight residue addMod mulMod close closeClaim closedWith message messageTurn allReduced3 hears passedWith failedNow verdict verdictTurn finds inRange isMark
 twisted-last = refl

@@ -8,7 +8,7 @@ use lib.IntN.{ℤ, pos, negℤ}
 use lib.ListN.{length}
 use Rattle.algebra.specs.Mod.{residue, addMod, negMod, mulMod, halfOne, halfMod}
 use Rattle.field.specs.Integer.{image}
-use Rattle.vector.specs.Rounds.{powers, firstFrom, roundsOf}
+use Rattle.vector.specs.Rounds.{roundsOf}
 use Rattle.vector.specs.Vector.{Vector, at, sum}
 use Rattle.vector.specs.Fold.{foldWith, endValue}
 use Rattle.vector.specs.Message.{Message, message}
@@ -123,5 +123,5 @@ table item =
     ∷ []
 
 pub starred : (item : Given) → map left (table item) ≡ map right (table item)
-unfolding inOrder claimAt powers firstFrom tripleValues foldWith sum sumOf isMark image residue addMod negMod mulMod halfOne halfMod
+unfolding inOrder claimAt roundsOf tripleValues foldWith sum sumOf isMark image residue addMod negMod mulMod halfOne halfMod
 starred item = refl

@@ -6,6 +6,7 @@ use super::output::number;
 use super::output::other;
 use super::output::signed;
 use super::output::text;
+use super::rounds::rounds_in_run;
 use field::Field;
 use prover::Answer;
 use prover::Run;
@@ -35,11 +36,10 @@ fn half(x: Field) {
     text(b"\n");
 }
 
-// As a run of L items has it.
 fn rounds(label: &[u8], items: u32) {
     text(label);
     number(items);
-    number(Run::start_plain(items, 1).run.start.rounds);
+    number(rounds_in_run(items));
     text(b"\n");
 }
 

@@ -6,7 +6,7 @@ use Prim.Native.Nat.{ℕ}
 use lib.ListN.{replicate}
 use Rattle.refusal.specs.Number as number
 use Rattle.refusal.specs.Outcome.{answered, refused}
-use Rattle.vector.specs.Rounds.{powers, firstFrom}
+use Rattle.vector.specs.Rounds.{roundsOf}
 use Rattle.vector.specs.Slice.{overwrite, every, fifteen}
 use Rattle.algebra.specs.Mod.{residue, mulMod, powMod}
 use Rattle.item.specs.declared.Start.{Start}
@@ -21,11 +21,11 @@ no-items = refl
 
 -- document 01's trip
 three-items : startPlain 3 1 ≡ answered (started (freshRun (start 3 2 true 1 (replicate 15 0))))
-unfolding startPlain powers firstFrom
+unfolding startPlain roundsOf
 three-items = refl
 
 most-items : startPlain 32768 2 ≡ answered (started (freshRun (start 32768 15 true 2 (replicate 15 0))))
-unfolding startPlain powers firstFrom
+unfolding startPlain roundsOf
 most-items = refl
 
 too-many : startPlain 32769 2 ≡ refused number.count
@@ -43,16 +43,16 @@ no-wrapping = refl
 
 -- three items have two rounds
 one-twist-more : startTwisted 7 3 (1 ∷ 2 ∷ 3 ∷ []) ≡ refused number.argument
-unfolding startTwisted powers firstFrom
+unfolding startTwisted roundsOf
 one-twist-more = refl
 
 -- a number modulo 7 is at most 6
 twist-seven : startTwisted 7 3 (1 ∷ 7 ∷ []) ≡ refused number.argument
-unfolding startTwisted powers firstFrom every
+unfolding startTwisted roundsOf every
 twist-seven = refl
 
 two-twists : startTwisted 7 3 (5 ∷ 6 ∷ []) ≡ answered (started (freshRun (start 3 2 false 0 (5 ∷ 6 ∷ 0 ∷ 0 ∷ 0 ∷ 0 ∷ 0 ∷ 0 ∷ 0 ∷ 0 ∷ 0 ∷ 0 ∷ 0 ∷ 0 ∷ 0 ∷ []))))
-unfolding startTwisted powers firstFrom every overwrite fifteen
+unfolding startTwisted roundsOf every overwrite fifteen
 two-twists = refl
 
 -- 3, its square, and the square of that
@@ -62,14 +62,14 @@ rule-twists = refl
 
 -- a batch of one item has no openings, whatever the challenges
 no-openings : startOpenings 7 1 (7 ∷ []) ≡ refused number.order
-unfolding startOpenings powers firstFrom
+unfolding startOpenings roundsOf
 no-openings = refl
 
 batch-challenge : startOpenings 7 3 (5 ∷ 7 ∷ []) ≡ refused number.argument
-unfolding startOpenings powers firstFrom every
+unfolding startOpenings roundsOf every
 batch-challenge = refl
 
 -- its challenges are known, and its twists are 1
 batch-starts : startOpenings 7 3 (5 ∷ 6 ∷ []) ≡ answered (started (openingsRun (start 3 2 false 0 (replicate 15 1)) (5 ∷ 6 ∷ [])))
-unfolding startOpenings powers firstFrom every
+unfolding startOpenings roundsOf every
 batch-starts = refl

@@ -1,7 +1,6 @@
 pub mod Guards
 pub mod Overwrite
 pub mod Accumulate
-pub mod Scan
 pub mod FoldSizes
 pub mod Every
 pub mod Evaluation

@@ -1,89 +1,62 @@
 -- n of L is the least with 2^n >= L, and the sizes of the folds are powers of two.
 use mathlib.Core.Path.{_≡_, refl, sym, ap, _∙_}
-use mathlib.Core.Bool.{Bool, true, false, cond}
-use mathlib.Core.List.{List, [], _∷_}
-use Prim.Native.Nat.{ℕ, zero, suc, _+_, _-_, _*_, _/_, _^_, _<_, _≤_}
+use Prim.Native.Nat.{ℕ, suc, _+_, _-_, _*_, _/_, _^_, _<_, _≤_}
 use native.Mathlib.Nat.{div-div-eq-div-mul, div-one, div-self, mul-div-cancel, pow-suc, pow-succ'}
 use native.Mathlib.Omega.{arith}
 use native.Mathlib.Decide.{decLe}
-use lib.Dec.{leb}
-use lib.ListN.{length}
+use lib.Count.{leadingZeros, leading-top}
 use lib.Pow.{pow-pos, pow-mono, pow-lt, pow-add}
-use borrow.Author.Tests.{leb-true, leb-false}
+use borrow.Author.Tests.{le-leb, lt-leb}
 use Rattle.algebra.proofs.Primes.{by-dec}
-use Rattle.vector.specs.Rounds.{powers, firstFrom, roundsOf, size}
-
--- number i of the list is 2 ^ (k + i)
-unfoldable pub PowersFrom : ℕ → List ℕ → Type 0
-PowersFrom k [] = Unit {0}
-PowersFrom k (x ∷ xs) = (x ≡ 2 ^ k) × PowersFrom (suc k) xs
-
-table : PowersFrom 0 powers
-unfolding PowersFrom powers
-table = omega arith
-
-first-length : (xs : List ℕ) (items : ℕ) → firstFrom xs items ≤ length xs
-unfolding firstFrom
-first-length [] items = omega arith
-first-length (x ∷ xs) items = by (leb items x) (first-length xs items)
-  where
-    by : (b : Bool) → firstFrom xs items ≤ length xs → cond b 0 (suc (firstFrom xs items)) ≤ suc (length xs)
-    by true rest = omega arith
-    by false rest = omega arith
-
-first-enough : (xs : List ℕ) (k items : ℕ) → PowersFrom k xs → firstFrom xs items < length xs → items ≤ 2 ^ (k + firstFrom xs items)
-unfolding firstFrom PowersFrom
-first-enough [] k items t h = absurd (omega arith)
-first-enough (x ∷ xs) k items t h = by (leb items x) refl (first-enough xs (suc k) items (t .1)) h
-  where
-    by : (b : Bool) → leb items x ≡ b → (firstFrom xs items < length xs → items ≤ 2 ^ (suc k + firstFrom xs items))
-        → cond b 0 (suc (firstFrom xs items)) < suc (length xs) → items ≤ 2 ^ (k + cond b 0 (suc (firstFrom xs items)))
-    by true e rest h = let z : k + 0 ≡ k = omega arith in rw (z, ← t .0) (leb-true items x e)
-    by false e rest h =
-        let z : k + suc (firstFrom xs items) ≡ suc k + firstFrom xs items = omega arith in
-        rw z (rest (omega arith))
-
-first-least : (xs : List ℕ) (k items : ℕ) → PowersFrom k xs → (j : ℕ) → j < firstFrom xs items → 2 ^ (k + j) < items
-unfolding firstFrom PowersFrom
-first-least [] k items t j h = absurd (omega arith)
-first-least (x ∷ xs) k items t j h = by (leb items x) refl (first-least xs (suc k) items (t .1)) j h
-  where
-    by : (b : Bool) → leb items x ≡ b → ((j : ℕ) → j < firstFrom xs items → 2 ^ (suc k + j) < items)
-        → (j : ℕ) → j < cond b 0 (suc (firstFrom xs items)) → 2 ^ (k + j) < items
-    by true e rest j h = absurd (omega arith)
-    by false e rest zero h = let z : k + 0 ≡ k = omega arith in rw (z, ← t .0) (omega (arith, leb-false items x e))
-    by false e rest (suc j) h = let z : k + suc j ≡ suc k + j = omega arith in rw z (rest j (omega arith))
+use Rattle.vector.specs.Rounds.{LeastRounds, roundsOf, size}
 
 module _ (items : ℕ) where
+  pub rounds-few : items ≤ 1 → roundsOf items ≡ 0
+  unfolding roundsOf
+  rounds-few h = rw (le-leb items 1 h) refl
+
+  pub rounds-formula : 1 < items → roundsOf items ≡ 32 - leadingZeros 32 (items - 1)
+  unfolding roundsOf
+  rounds-formula h = rw (lt-leb items 1 h) refl
+
+  -- the highest set bit of L - 1 is bit n - 1
+  top-bit : 1 < items → items ≤ 2 ^ 32 → (j : ℕ) × (roundsOf items ≡ suc j) × (2 ^ j < items) × (items ≤ 2 ^ suc j)
+  top-bit more h =
+      let t = leading-top 32 (items - 1) (omega arith) (omega arith) in
+      (t .0, omega (arith, rounds-formula more, t .1), omega (arith, t .2), omega (arith, t .3))
+
   -- no smaller power is enough
   pub rounds-least : (k : ℕ) → k < roundsOf items → 2 ^ k < items
-  rounds-least k h = let z : 0 + k ≡ k = omega arith in rw z at (first-least powers 0 items table k h)
-
-  in-table : roundsOf items < 16 → items ≤ 2 ^ roundsOf items
-  unfolding powers
-  in-table h = let z : 0 + roundsOf items ≡ roundsOf items = omega arith in rw z at (first-enough powers 0 items table h)
+  rounds-least k h =
+      by-dec (decLe items 1) (λ few. absurd (omega (arith, rounds-few few)))
+      (λ n. let more : 1 < items = omega arith in
+      by-dec (decLe items (2 ^ 32))
+      (λ word. let t = top-bit more word in let below : 2 ^ k ≤ 2 ^ (t .0) = pow-mono {j = t .0} (omega (arith, t .1)) in omega (arith, t .2))
+      (λ m. let below : 2 ^ k ≤ 2 ^ 32 = pow-mono {j = 32} (omega (arith, rounds-formula more)) in omega arith))
 
   pub rounds-at-most : items ≤ 32768 → roundsOf items ≤ 15
   rounds-at-most h = by-dec (decLe (roundsOf items) 15) (λ l. l) (λ n. absurd (omega (arith, rounds-least 15 (omega arith))))
 
   pub rounds-enough : items ≤ 32768 → items ≤ 2 ^ roundsOf items
-  rounds-enough h = in-table (omega (arith, rounds-at-most h))
+  rounds-enough h =
+      by-dec (decLe items 1) (λ few. rw (rounds-few few) few)
+      (λ n. let t = top-bit (omega arith) (omega arith) in rw (t .1) (t .3))
 
-  pub rounds-beyond : 32768 < items → roundsOf items ≡ 16
-  unfolding powers
-  rounds-beyond h =
-      by-dec (decLe (roundsOf items) 15)
-      (λ l. absurd (let top : 2 ^ roundsOf items ≤ 2 ^ 15 = pow-mono l in omega (arith, in-table (omega arith))))
-      (λ n. omega (arith, first-length powers items))
+  -- document 02, (f): n unchanged for every L from 1 to 32,768, the one number that document 01 says
+  pub rounds-unchanged : items ≤ 32768 → LeastRounds items (roundsOf items) × ((n : ℕ) → LeastRounds items n → n ≡ roundsOf items)
+  rounds-unchanged h =
+      let enough = rounds-enough h in
+      let least : (k : ℕ) → items ≤ 2 ^ k → roundsOf items ≤ k
+      = λ k e. by-dec (decLe (roundsOf items) k) (λ l. l) (λ n. absurd (omega (arith, rounds-least k (omega arith)))) in
+      ((enough, least), λ n l. omega (arith, l .1 (roundsOf items) enough, least n (l .0)))
 
 -- a power of two needs its own exponent
 pub rounds-power : (k : ℕ) → k ≤ 15 → roundsOf (2 ^ k) ≡ k
 rounds-power k h =
-    let r : ℕ = roundsOf (2 ^ k) in
     let top : 2 ^ k ≤ 2 ^ 15 = pow-mono h in
-    let enough : 2 ^ k ≤ 2 ^ r = rounds-enough (2 ^ k) (omega arith) in
-    by-dec (decLe r k) (λ l. by-dec (decLe k r) (λ m. omega arith) (λ m. absurd (let less : 2 ^ r < 2 ^ k = pow-lt (omega arith) in omega arith)))
-    (λ l. absurd (omega (arith, rounds-least (2 ^ k) k (omega arith))))
+    let own : LeastRounds (2 ^ k) k
+    = (omega arith, λ j e. by-dec (decLe k j) (λ l. l) (λ n. absurd (let less : 2 ^ j < 2 ^ k = pow-lt (omega arith) in omega arith))) in
+    sym (rounds-unchanged (2 ^ k) (omega arith) .1 k own)
 
 -- how many items fold j has
 pub size-power : (n j : ℕ) → j ≤ n → size n j ≡ 2 ^ (n - j)

@@ -5,7 +5,6 @@ use mathlib.Core.List.{[], _∷_}
 use lib.IntN.{pos, negsuc}
 use Rattle.algebra.specs.Mod.{residue, addMod, negMod, mulMod}
 use Rattle.field.specs.Integer.{image}
-use Rattle.vector.specs.Rounds.{powers, firstFrom, roundsOf}
 use Rattle.vector.specs.Vector.{Vector, at, sum, dot, padded}
 use Rattle.vector.specs.Fold.{foldWith, endValue}
 use Rattle.vector.specs.Message.{message, nextClaim}
@@ -25,18 +24,6 @@ g = padded 3 (at (10 ∷ 20 ∷ 5 ∷ []))
 
 abbrev challenges : ℕ → ℕ
 challenges = at (2 ∷ 3 ∷ [])
-
-pub rounds-of-one : roundsOf 1 ≡ 0
-unfolding powers firstFrom
-rounds-of-one = refl
-
-pub rounds-of-two : roundsOf 2 ≡ 1
-unfolding powers firstFrom
-rounds-of-two = refl
-
-pub rounds-of-three : roundsOf 3 ≡ 2
-unfolding powers firstFrom
-rounds-of-three = refl
 
 pub first-message : message P 2 challenges f g 0 ≡ record { even = 2147482047; cross = 2147478297; odd = 2147480147 }
 unfolding foldWith sum image residue addMod negMod mulMod

@@ -9,3 +9,4 @@ pub mod Slice
 pub mod Twist
 pub mod SliceExample
 pub mod Example
+pub mod RoundsExample

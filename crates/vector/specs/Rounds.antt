@@ -1,20 +1,17 @@
--- Document 01: "n is the least number with 2^n >= L, 0 to 15, read from a table of the sixteen powers of two."
-use Prim.Native.Nat.{ℕ, suc, _/_, _^_}
+-- n of L, and how many items a fold has.
+use Prim.Native.Nat.{ℕ, _-_, _/_, _^_, _≤_}
 use mathlib.Core.Bool.{cond}
-use mathlib.Core.List.{List, [], _∷_}
+use lib.Count.{leadingZeros}
 use lib.Dec.{leb}
 
-unfoldable pub powers : List ℕ
-powers = 1 ∷ 2 ∷ 4 ∷ 8 ∷ 16 ∷ 32 ∷ 64 ∷ 128 ∷ 256 ∷ 512 ∷ 1024 ∷ 2048 ∷ 4096 ∷ 8192 ∷ 16384 ∷ 32768 ∷ []
+-- Document 01: "n is the least number with 2^n >= L"
+abbrev pub LeastRounds : ℕ → ℕ → Type 0
+LeastRounds items n = (items ≤ 2 ^ n) × ((k : ℕ) → items ≤ 2 ^ k → n ≤ k)
 
--- the first place of a table whose number is at least L; its length where none is
-unfoldable pub firstFrom : List ℕ → ℕ → ℕ
-firstFrom [] items = 0
-firstFrom (power ∷ rest) items = cond (leb items power) 0 (suc (firstFrom rest items))
-
--- n of L
-abbrev pub roundsOf : ℕ → ℕ
-roundsOf items = firstFrom powers items
+-- n of L by document 02, (f), "its formula from the leading zeros of L - 1, with L = 1 taken on its own": the width less these zeros
+unfoldable pub roundsOf : ℕ → ℕ
+unfolding leadingZeros
+roundsOf items = cond (leb items 1) 0 (32 - leadingZeros 32 (items - 1))
 
 -- how many items fold j has: N / 2^j, N = 2^n
 abbrev pub size : ℕ → ℕ → ℕ

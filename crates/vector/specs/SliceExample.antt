@@ -3,18 +3,9 @@ use mathlib.Core.Path.{_≡_, refl}
 use mathlib.Core.Bool.{true, false}
 use mathlib.Core.List.{[], _∷_}
 use Rattle.algebra.specs.Mod.{residue, addMod, mulMod, powMod}
-use Rattle.vector.specs.Rounds.{powers, firstFrom, roundsOf}
 use Rattle.vector.specs.Vector.{at, sum, weight}
 use Rattle.vector.specs.Slice.{overwrite, foldSlice, messageSlice, evaluateSlice, every, allReduced, allNonzero, fifteen}
 use Rattle.vector.specs.Twist.{twistsOf}
-
-pub most-items : roundsOf 32768 ≡ 15
-unfolding powers firstFrom
-most-items = refl
-
-pub too-many-items : roundsOf 32769 ≡ 16
-unfolding powers firstFrom
-too-many-items = refl
 
 -- 3 + 2·5 and 6 + 2·1, the other places kept
 pub folded : foldSlice 7 2 2 (3 ∷ 5 ∷ 6 ∷ 1 ∷ 4 ∷ []) ≡ 6 ∷ 1 ∷ 6 ∷ 1 ∷ 4 ∷ []

@@ -3,37 +3,17 @@ ghost use mathlib.Core.Path.{_≡_};
 ghost use Rattle.vector.specs.Rounds.{roundsOf};
 ghost use Rattle.vector.specs.Power.{sizeIn32};
 
-const POWERS: [u32; 16] = [
-    1,
-    2,
-    4,
-    8,
-    16,
-    32,
-    64,
-    128,
-    256,
-    512,
-    1024,
-    2048,
-    4096,
-    8192,
-    16384,
-    32768,
-];
+// The bits of a u32.
+const WIDTH: u32 = 32;
 
-// n of L; 16 where L is above the last power.
+// n of L: the width less the leading zeros of L - 1. L = 1 is apart, and 0, which no call brings, goes with it.
 pub fn rounds_of(items: u32) -> u32
     ensures { λ r. ⌜ r ≡ roundsOf items ⌝ }
 {
-    let mut n: u32 = 0;
-    while n < 16 {
-        if items <= POWERS[n as usize] {
-            return n;
-        }
-        n += 1;
+    if items <= 1 {
+        return 0;
     }
-    n
+    WIDTH - u32::leading_zeros(items - 1)
 }
 
 // How many items fold j of 2^n items has.

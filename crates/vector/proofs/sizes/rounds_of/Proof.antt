@@ -1,67 +1,24 @@
-use mathlib.Core.Path.{_≡_, sym, ap, _∙_}
-use Prim.Native.Nat.{_≤_, _-_}
+use mathlib.Core.Path.{sym}
+use Prim.Native.Nat.{_-_}
 use native.Mathlib.Omega.{arith}
+use lib.Count.{leading-top}
 use borrow.Author.Needs.{needs}
-use Rattle.vector.specs.Rounds.{powers, roundsOf}
-use Rattle.vector.proofs.Scan.{from-start, at-end, foundFrom, found, goes-on}
+use Rattle.vector.proofs.Rounds.{rounds-few, rounds-formula}
 use Rattle.vector.proofs.sizes.rounds_of.Statement.{statement}
 use Rattle.vector.proofs.sizes.rounds_of.Tie as tie
 
-abbrev Inv-loop : tie.InvT-loop
-Inv-loop items n₀ n = (n ≤ 16) × (foundFrom powers items n ≡ roundsOf items)
+returns : tie.Need-returns
+returns c = sym (rounds-few (c .before .args .items) (c .if1 .taken))
 
-abbrev μ-loop : tie.MeasureT-loop
-μ-loop items n₀ n = 16 - n
+sub-result : tie.Need-sub-result
+sub-result c = search needs
 
-loop-holds : tie.Need-loop-holds Inv-loop μ-loop
-loop-holds c = (omega arith, from-start powers _)
+-- L - 1 has a bit that is set
+sub-result-2 : tie.Need-sub-result-2
+sub-result-2 c = omega (arith, leading-top 32 (c .before .args .items - 1) (omega arith) (omega (arith, c .before .fits .items .fits)) .1)
 
-cast-if1 : tie.Need-cast-if1 Inv-loop μ-loop
-cast-if1 c = search needs
-
-mul-if1 : tie.Need-mul-if1 Inv-loop μ-loop
-mul-if1 c = search needs
-
-array-read-if1 : tie.Need-array-read-if1 Inv-loop μ-loop
-array-read-if1 c = search needs
-
-returns : tie.Need-returns Inv-loop μ-loop
-unfolding powers
-returns c =
-    let l = c .before .before .loop in
-    found powers (c .before .before .before .args .items) (l .n) (omega arith) (c .if1 .taken) ∙ l .inv .1
-
-add-n : tie.Need-add-n Inv-loop μ-loop
-add-n c = search needs
-
-loop-less : tie.Need-loop-less Inv-loop μ-loop
-loop-less c = search needs
-
-loop-again : tie.Need-loop-again Inv-loop μ-loop
-unfolding powers
-loop-again c =
-    let l = c .before .before .loop in
-    (omega arith, goes-on powers (c .before .before .before .args .items) (l .n) (omega arith) (c .if1 .left) ∙ l .inv .1)
-
-returns-2 : tie.Need-returns-2 Inv-loop μ-loop
-unfolding powers
-returns-2 c =
-    let l = c .before .loop in
-    let all : l .n ≡ 16 = omega arith in
-    all ∙ at-end powers (c .before .before .args .items) ∙ ap (foundFrom powers (c .before .before .args .items)) (sym all) ∙ l .inv .1
+returns-2 : tie.Need-returns-2
+returns-2 c = sym (rounds-formula (c .before .args .items) (c .if1 .left))
 
 pub rounds-of-spec : {M : Type 1} → statement M
-rounds-of-spec =
-    tie.close
-    (tie.spec
-    Inv-loop
-    μ-loop
-    loop-holds
-    cast-if1
-    mul-if1
-    array-read-if1
-    returns
-    add-n
-    loop-less
-    loop-again
-    returns-2)
+rounds-of-spec = tie.close (tie.spec returns sub-result sub-result-2 returns-2)
