@@ -34,29 +34,29 @@ module _ (items : ℕ) where
       (λ word. let t = top-bit more word in let below : 2 ^ k ≤ 2 ^ (t .0) = pow-mono {j = t .0} (omega (arith, t .1)) in omega (arith, t .2))
       (λ m. let below : 2 ^ k ≤ 2 ^ 32 = pow-mono {j = 32} (omega (arith, rounds-formula more)) in omega arith))
 
+  least : (k : ℕ) → items ≤ 2 ^ k → roundsOf items ≤ k
+  least k h = by-dec (decLe (roundsOf items) k) (λ l. l) (λ n. absurd (omega (arith, rounds-least k (omega arith))))
+
   pub rounds-at-most : items ≤ 32768 → roundsOf items ≤ 15
-  rounds-at-most h = by-dec (decLe (roundsOf items) 15) (λ l. l) (λ n. absurd (omega (arith, rounds-least 15 (omega arith))))
+  rounds-at-most h = least 15 h
 
   pub rounds-enough : items ≤ 32768 → items ≤ 2 ^ roundsOf items
   rounds-enough h =
       by-dec (decLe items 1) (λ few. rw (rounds-few few) few)
       (λ n. let t = top-bit (omega arith) (omega arith) in rw (t .1) (t .3))
 
-  -- document 02, (f): n unchanged for every L from 1 to 32,768, the one number that document 01 says
+  -- document 02, (f), "n is shown unchanged": up to 32,768 items it is document 01's least number, and no other number is
   pub rounds-unchanged : items ≤ 32768 → LeastRounds items (roundsOf items) × ((n : ℕ) → LeastRounds items n → n ≡ roundsOf items)
-  rounds-unchanged h =
-      let enough = rounds-enough h in
-      let least : (k : ℕ) → items ≤ 2 ^ k → roundsOf items ≤ k
-      = λ k e. by-dec (decLe (roundsOf items) k) (λ l. l) (λ n. absurd (omega (arith, rounds-least k (omega arith)))) in
-      ((enough, least), λ n l. omega (arith, l .1 (roundsOf items) enough, least n (l .0)))
+  rounds-unchanged h = ((rounds-enough h, least), λ n l. omega (arith, l .1 (roundsOf items) (rounds-enough h), least n (l .0)))
 
 -- a power of two needs its own exponent
 pub rounds-power : (k : ℕ) → k ≤ 15 → roundsOf (2 ^ k) ≡ k
 rounds-power k h =
+    let r : ℕ = roundsOf (2 ^ k) in
     let top : 2 ^ k ≤ 2 ^ 15 = pow-mono h in
-    let own : LeastRounds (2 ^ k) k
-    = (omega arith, λ j e. by-dec (decLe k j) (λ l. l) (λ n. absurd (let less : 2 ^ j < 2 ^ k = pow-lt (omega arith) in omega arith))) in
-    sym (rounds-unchanged (2 ^ k) (omega arith) .1 k own)
+    let enough : 2 ^ k ≤ 2 ^ r = rounds-enough (2 ^ k) (omega arith) in
+    by-dec (decLe r k) (λ l. by-dec (decLe k r) (λ m. omega arith) (λ m. absurd (let less : 2 ^ r < 2 ^ k = pow-lt (omega arith) in omega arith)))
+    (λ l. absurd (omega (arith, rounds-least (2 ^ k) k (omega arith))))
 
 -- how many items fold j has
 pub size-power : (n j : ℕ) → j ≤ n → size n j ≡ 2 ^ (n - j)
