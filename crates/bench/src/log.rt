@@ -2,9 +2,7 @@
 
 // Fills in as many items as there is room for.
 pub(crate) fn make(block: &mut [u8], items: u32) {
-    let mut at = 4 * (items as usize);
-    while at > 0 {
-        at -= 1;
+    for at in (0..4 * (items as usize)).rev() {
         put(block, at, byte_at(at));
     }
 }

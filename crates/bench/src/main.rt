@@ -1,37 +1,53 @@
 // Repeats one phase of a run or of a verifier over a log made by a formula, and prints a sum of all that it answers: bench/hand.rs is the
 // same by hand. Standard input is one record: the phase (0 small, 1 full, 2 verify), the items, the repeats.
+#![tactic(auto)]
+
 mod log;
 mod proving;
 mod verifying;
 
-use libc::{STDIN_FILENO, STDOUT_FILENO};
 use records::Record;
 use records::parts::within_bytes;
+use std::io;
+use std::io::{BufWriter, ErrorKind, Read, Write};
 
-fn main() {
+fn main(rt: HostRuntime) -> io::Result<()> {
+    let mut out = BufWriter::new(rt.alloc(), io::writer(&rt))?;
     let mut bytes = [0u8; 16];
-    let size = io::read_full(STDIN_FILENO, &mut bytes);
-    if size < 16 {
-        return;
+    match rt.reader().read_exact(&mut bytes) {
+        Ok(()) => {}
+        Err(e) if e.kind() == ErrorKind::UnexpectedEof => return Ok(()),
+        Err(e) => return Err(e),
     }
     let mut block = [0u8; 131072];
     let mut f = [0u32; 32768];
     let mut g = [0u32; 32768];
-    bench(records::decode(&bytes), &mut block, &mut f, &mut g);
+    bench(
+        &mut out,
+        records::decode(&bytes),
+        &mut block,
+        &mut f,
+        &mut g,
+    )?;
+    out.flush()
 }
 
-fn bench(r: Record, block: &mut [u8], f: &mut [u32], g: &mut [u32]) {
+fn bench<W: Write>(
+    out: &mut W,
+    r: Record,
+    block: &mut [u8],
+    f: &mut [u32],
+    g: &mut [u32],
+) -> io::Result<()> {
     log::make(block, r.a);
-    io::print_decimal(STDOUT_FILENO, repeats(r, block, f, g));
-    io::write_all(STDOUT_FILENO, b"\n");
+    let sum = repeats(r, block, f, g);
+    writeln!(out, "{sum}")
 }
 
 fn repeats(r: Record, block: &mut [u8], f: &mut [u32], g: &mut [u32]) -> u64 {
     let mut sum: u64 = 0;
-    let mut left = r.b;
-    while left > 0 {
-        left -= 1;
-        sum = std::num::wrapping_add_u64(sum, repeat(r, left, block, f, g));
+    for turn in (0..r.b).rev() {
+        sum = sum.wrapping_add(repeat(r, turn, block, f, g));
     }
     sum
 }

@@ -23,9 +23,7 @@ fn run(first: Step, block: &[u8], full: bool, f: &mut [u32], g: &mut [u32]) -> S
 
 fn rounds(first: Step, block: &[u8], full: bool, f: &mut [u32], g: &mut [u32]) -> Step {
     let mut step = first;
-    let mut left = first.run.start.rounds;
-    while left > 0 {
-        left -= 1;
+    for _ in 0..first.run.start.rounds {
         step = round(step, block, full, f, g);
     }
     step
@@ -100,11 +98,9 @@ fn lend(run: Run, block: &[u8], f: &mut [u32], g: &mut [u32]) {
 }
 
 fn pad(items: usize, size: usize, f: &mut [u32], g: &mut [u32]) {
-    let mut i = items;
-    while i < size {
+    for i in items..size {
         write(f, i, 0);
         write(g, i, 0);
-        i += 1;
     }
 }
 
@@ -112,12 +108,11 @@ fn pad(items: usize, size: usize, f: &mut [u32], g: &mut [u32]) {
 fn worth(step: Step) -> u64 {
     let messages = step.run.messages;
     let values = step.values;
-    let answers = std::num::wrapping_add_u64(message_sum(&messages), value_sum(&values));
+    let answers = message_sum(&messages).wrapping_add(value_sum(&values));
     let ends = end_sum(step.run.fend, step.run.gend);
-    std::num::wrapping_add_u64(
-        std::num::wrapping_add_u64(signed(step.run.total), ends),
-        answers,
-    )
+    signed(step.run.total)
+        .wrapping_add(ends)
+        .wrapping_add(answers)
 }
 
 fn message_sum(messages: &[u32; 45]) -> u64 {
@@ -136,17 +131,15 @@ fn end_sum(f: u32, g: u32) -> u64 {
 fn signed(t: i64) -> u64 {
     let m = field::integer::magnitude(t);
     if field::integer::is_negative(t) {
-        return std::num::wrapping_sub_u64(0, m);
+        return m.wrapping_neg();
     }
     m
 }
 
 fn sum(numbers: &[u32]) -> u64 {
     let mut sum: u64 = 0;
-    let mut i: usize = 0;
-    while i < numbers.len() {
-        sum = std::num::wrapping_add_u64(sum, wide(numbers[i]));
-        i += 1;
+    for x in numbers {
+        sum = sum.wrapping_add(wide(*x));
     }
     sum
 }

@@ -17,10 +17,8 @@ fn challenges() -> [u32; 15]
     ensures { 15 ≡ length result }
 {
     let mut out = [0u32; 15];
-    let mut k: u32 = 0;
-    while k < 15 {
+    for k in 0..15 {
         out[k as usize] = log::challenge(k);
-        k += 1;
     }
     out
 }

@@ -24,7 +24,7 @@ use Rattle.calls.specs.World.{Made, World, came, onward}
 use Rattle.calls.specs.Statement.{Decides}
 use Rattle.calls.specs.Begins.{Begin, CanBegin, begun}
 use Rattle.calls.specs.Demand3.{AllAnswered}
-use Rattle.calls.specs.Blocks.{block_table, with_items, Wide, made, given, block_came, wide_on, single, own_singles, StandsFor, BlockDecided, WideDecided, standing, expanded}
+use Rattle.calls.specs.Blocks.{block_table, with_items, Wide, made, given, block_came, wide_on, own_singles, StandsFor, BlockDecided, WideDecided, standing, expanded}
 use Rattle.calls.proofs.Records.{Notes, noted, run_of, pass_of}
 use Rattle.calls.proofs.Steps.{some_none, settled, refused_result, leaving-so}
 use Rattle.calls.proofs.Fits.{few, formed, kind-is, taken_is}

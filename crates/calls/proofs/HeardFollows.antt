@@ -10,7 +10,6 @@ use lib.ListN.{length}
 use borrow.Author.Tests.{eq-eqb, eqb-true}
 use Rattle.algebra.specs.Mod.{add_mod, mul_mod}
 use Rattle.refusal.specs.Limit.{max_weight}
-use Rattle.refusal.specs.Outcome.{answered}
 use Rattle.vector.specs.Vector.{at, dot, weight}
 use Rattle.vector.specs.Fold.{end_value}
 use Rattle.vector.specs.Message.{Message, passes, next_claim}

@@ -1,5 +1,5 @@
 -- Lists with blocks of items among the calls: a block is refused as a whole, or it stands for its single items.
-use Rattle.std.specs.Prelude.{ℕ, zero, suc, ◌+◌, ◌-◌, ◌%◌, ◌<◌, ◌≡◌, Bool, true, false, cond, not, List, [], ◌∷◌, ◌++◌, eqb, leb, length}
+use Rattle.std.specs.Prelude.{ℕ, zero, suc, ◌+◌, ◌-◌, ◌%◌, ◌<◌, ◌≡◌, true, false, cond, not, List, [], ◌∷◌, ◌++◌, eqb, leb, length}
 use Rattle.std.proofs.Math.Option.{Option, none, some}
 use Rattle.phase.specs.Cases.{is_change, is_open}
 use Rattle.refusal.specs.Outcome.{answered}

@@ -1,7 +1,7 @@
 -- DEMAND 3: "a single theorem whose subject is the whole list". To be read top to bottom with Lists, Starts, State, World, Begins, Table,
 -- Meaning, Claim, Statement (a run's list), Proper (a run's own list), QueryState (a verifier's list), Given (a verifier's beside a run's), Carried and
 -- WholeList (the verifier's own list), Verdict (a verifier's verdicts) and Blocks (lists with blocks of items).
-use Rattle.std.specs.Prelude.{ℕ, ◌+◌, ◌<◌, ◌≤◌, ◌≡◌, Bool, true, false, List, [], ◌∷◌, ◌++◌, length, take}
+use Rattle.std.specs.Prelude.{ℕ, ◌<◌, ◌≤◌, ◌≡◌, Bool, true, false, List, [], ◌∷◌, ◌++◌, length, take}
 use Rattle.std.proofs.Math.Option.{none}
 use Rattle.refusal.specs.Outcome.{answered}
 use Rattle.wire.specs.Proof.{proof_size}

@@ -1,5 +1,5 @@
 -- What an answered call answers and leaves, from the trip and the challenges alone, and what document 01 asks of the caller.
-use Rattle.std.specs.Prelude.{ℕ, zero, suc, ◌+◌, ◌-◌, ◌^◌, ◌<◌, ◌≡◌, Bool, true, cond, not, ◌&&◌, ◌||◌, List, [], ◌∷◌, ◌++◌, ℤ, length}
+use Rattle.std.specs.Prelude.{ℕ, zero, suc, ◌-◌, ◌^◌, ◌<◌, ◌≡◌, Bool, true, cond, not, ◌&&◌, ◌||◌, List, [], ◌∷◌, ◌++◌, ℤ, length}
 use Rattle.refusal.specs.Outcome.{Outcome, answered}
 use Rattle.wire.specs.Proof.{proof_file, proof_size}
 use Rattle.vector.specs.Rounds.{size}

@@ -1,5 +1,5 @@
 -- What is said of one call of a run's list, and of the list between two calls: to be read with State, Table and Meaning beside document 01.
-use Rattle.std.specs.Prelude.{ℕ, suc, ◌+◌, ◌-◌, ◌<◌, ◌≤◌, ◌≡◌, Bool, true, false, cond, ◌++◌, drop}
+use Rattle.std.specs.Prelude.{ℕ, suc, ◌-◌, ◌<◌, ◌≤◌, ◌≡◌, Bool, true, false, cond, ◌++◌, drop}
 use Rattle.std.proofs.Math.Option.{Option, none, some}
 use Rattle.wire.specs.Proof.{proof_size}
 use Rattle.vector.specs.Vector.{at, dot}

@@ -1,9 +1,11 @@
 // Calls of a run and of a verifier as data: what the theorem over lists of calls speaks of. The crate `dispatch` makes them.
+#![tactic(auto)]
+
 pub mod query;
 
 use item::Given;
 
-#[derive(Drop)]
+#[derive(Clone, Copy)]
 pub enum Call {
     OpenPass,
     OpenAt(u32),

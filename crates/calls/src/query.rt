@@ -1,7 +1,7 @@
 // Calls of a verifier as data.
 use item::Given;
 
-#[derive(Drop)]
+#[derive(Clone, Copy)]
 pub enum Query {
     Give(Given),
     Close(i64),

@@ -1,16 +1,18 @@
 // The claim's step, which a run and its verifier share, and the equations of a verifier: a message against its claim, the verdict, and
 // the sum of a batch.
+#![tactic(auto)]
+
 ghost use Rattle.std.specs.Prelude.{◌≡◌};
 ghost use Rattle.claim.specs.Claim.{message_of3, next_of, heard_of, own_ends, found_of, sum_holds};
 
-#[derive(Drop)]
+#[derive(Clone, Copy)]
 pub enum Heard {
     // The message passed, and this is the next claim.
     Passed(u32),
     Failed,
 }
 
-#[derive(Drop)]
+#[derive(Clone, Copy)]
 pub enum Finding {
     Yes,
     No(u32),

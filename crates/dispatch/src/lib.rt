@@ -1,4 +1,6 @@
 // Makes a call that is given as data: one function for a run, one for a verifier.
+#![tactic(auto)]
+
 ghost use Rattle.std.specs.Prelude.{◌≡◌};
 ghost use Rattle.prover.specs.Records.{out, leaves};
 ghost use Rattle.prover.specs.Calls.{give_call};

@@ -9,7 +9,7 @@ use records::signs::{Plain, signed64};
 use records::{Record, signs};
 
 // A call of a run.
-#[derive(Drop)]
+#[derive(Clone, Copy)]
 pub enum Named {
     Call(Call),
     // No such op, or a number out of its range.
@@ -17,7 +17,7 @@ pub enum Named {
 }
 
 // A call of a verifier.
-#[derive(Drop)]
+#[derive(Clone, Copy)]
 pub enum Posed {
     Query(Query),
     Nothing,

@@ -10,7 +10,7 @@ use calls::query::Query;
 use item::Given;
 use verifier::{Answer, Opened, Step, Verdict, Verifier};
 
-#[derive(Drop)]
+#[derive(Clone, Copy)]
 pub enum Told {
     Started,
     Taken,
@@ -30,7 +30,7 @@ pub enum Told {
 }
 
 // What a call hands back.
-#[derive(Drop)]
+#[derive(Clone, Copy)]
 pub struct Heard {
     pub verifier: Verifier,
     pub told: Told,

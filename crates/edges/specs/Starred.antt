@@ -1,6 +1,6 @@
 -- Document 01, "Edges": the starred cases, each a row of one table, in its order; its case for -32,768 ended with document 02, (d). To the
 -- left of `is` stands a case, whose numbers come from the definitions that the contracts cite; to the right what document 01 states.
-use Rattle.std.specs.Prelude.{ℕ, zero, suc, ◌-◌, ◌≡◌, refl, true, List, [], ◌∷◌, ◌++◌, map, ℤ, pos, neg_ℤ, length}
+use Rattle.std.specs.Prelude.{ℕ, zero, suc, ◌-◌, ◌≡◌, refl, List, [], ◌∷◌, ◌++◌, map, ℤ, pos, neg_ℤ, length}
 use Rattle.algebra.specs.Mod.{residue, add_mod, neg_mod, mul_mod, half_one, half_mod}
 use Rattle.field.specs.Integer.{image}
 use Rattle.vector.specs.Rounds.{rounds_of}

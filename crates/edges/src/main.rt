@@ -1,4 +1,6 @@
 // Document 01's edges, worked out by the proved calls: one line for each, marked * if it is in the starred table, else -; then n of every L.
+#![tactic(auto)]
+
 mod calls;
 mod limits;
 mod numbers;
@@ -6,9 +8,14 @@ mod output;
 mod rounds;
 mod trip;
 
-fn main() {
-    trip::lines();
-    numbers::lines();
-    limits::lines();
-    rounds::lines();
+use std::io;
+use std::io::{BufWriter, Write};
+
+fn main(rt: HostRuntime) -> io::Result<()> {
+    let mut out = BufWriter::new(rt.alloc(), io::writer(&rt))?;
+    trip::lines(&mut out)?;
+    numbers::lines(&mut out)?;
+    limits::lines(&mut out)?;
+    rounds::lines(&mut out)?;
+    out.flush()
 }

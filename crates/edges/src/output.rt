@@ -1,40 +1,41 @@
 // What a line is made of.
-use libc::STDOUT_FILENO;
+use std::io;
+use std::io::Write;
 
-pub(crate) fn text(bytes: &[u8]) {
-    io::write_all(STDOUT_FILENO, bytes);
+pub(crate) fn text<W: Write>(out: &mut W, bytes: &[u8]) -> io::Result<()> {
+    out.write_all(bytes)
 }
 
-pub(crate) fn number(x: u32) {
-    text(b" ");
-    io::print_decimal(STDOUT_FILENO, x as u64);
+pub(crate) fn number<W: Write>(out: &mut W, x: u32) -> io::Result<()> {
+    write!(out, " {x}")
 }
 
-pub(crate) fn signed(x: i64) {
+pub(crate) fn signed<W: Write>(out: &mut W, x: i64) -> io::Result<()> {
     if field::integer::is_negative(x) {
-        text(b" -");
+        text(out, b" -")?;
     } else {
-        text(b" ");
+        text(out, b" ")?;
     }
-    io::print_decimal(STDOUT_FILENO, field::integer::magnitude(x));
+    let size = field::integer::magnitude(x);
+    write!(out, "{size}")
 }
 
-pub(crate) fn three(a: u32, b: u32, c: u32) {
-    number(a);
-    number(b);
-    number(c);
+pub(crate) fn three<W: Write>(out: &mut W, a: u32, b: u32, c: u32) -> io::Result<()> {
+    number(out, a)?;
+    number(out, b)?;
+    number(out, c)
 }
 
-pub(crate) fn taken() {
-    text(b" taken");
+pub(crate) fn taken<W: Write>(out: &mut W) -> io::Result<()> {
+    text(out, b" taken")
 }
 
-pub(crate) fn refused(k: u8) {
-    text(b" refused");
-    number(k as u32);
+pub(crate) fn refused<W: Write>(out: &mut W, k: u8) -> io::Result<()> {
+    text(out, b" refused")?;
+    number(out, k as u32)
 }
 
 // An answer that no line should have.
-pub(crate) fn other() {
-    text(b" other");
+pub(crate) fn other<W: Write>(out: &mut W) -> io::Result<()> {
+    text(out, b" other")
 }

@@ -3,22 +3,25 @@ ghost use Rattle.std.specs.Prelude.{◌≤◌};
 
 use super::output::{number, text};
 use prover::Run;
+use std::io;
+use std::io::Write;
 
-pub(crate) fn lines() {
+pub(crate) fn lines<W: Write>(out: &mut W) -> io::Result<()> {
     let mut first: u32 = 1;
     while first <= refusal::MAX_ITEMS {
         let last = last_alike(first);
-        line(first, last);
+        line(out, first, last)?;
         first = last + 1;
     }
+    Ok(())
 }
 
-fn line(first: u32, last: u32) {
-    text(b"- rounds-all");
-    number(first);
-    number(last);
-    number(rounds_in_run(first));
-    text(b"\n");
+fn line<W: Write>(out: &mut W, first: u32, last: u32) -> io::Result<()> {
+    text(out, b"- rounds-all")?;
+    number(out, first)?;
+    number(out, last)?;
+    number(out, rounds_in_run(first))?;
+    text(out, b"\n")
 }
 
 // As a run of L items has it.

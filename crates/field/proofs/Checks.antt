@@ -1,6 +1,6 @@
 -- What the constructors' answers tell of the number handed in.
 use Prim.Native.Nat.{ℕ}
-use mathlib.Core.Path.{◌≡◌, refl, sym, ap, ◌∙◌}
+use mathlib.Core.Path.{◌≡◌, refl, sym, ap}
 use mathlib.Core.Bool.{Bool, true, false, cond, true≢false}
 use Rattle.field.specs.declared.Field.{Field}
 use Rattle.field.specs.declared.Checked.{Checked}

@@ -1,4 +1,6 @@
 // The field of document 01: numbers modulo P = 2^31 - 1. The arithmetic is in `modular`, over any modulus; `Field` passes its own.
+#![tactic(auto)]
+
 ghost use Rattle.std.specs.Prelude.{◌≡◌, ◌<◌, pos, nat_abs};
 ghost use Rattle.algebra.specs.Mod.{add_mod, sub_mod, neg_mod, mul_mod, half_mod, inverse_mod};
 ghost use Rattle.field.specs.Integer.{image, by_sign};
@@ -9,12 +11,12 @@ pub mod integer;
 pub mod modular;
 pub mod total;
 
-#[derive(Drop)]
+#[derive(Clone, Copy)]
 pub struct Field {
     value: u32,
 }
 
-#[derive(Drop)]
+#[derive(Clone, Copy)]
 pub enum Checked {
     Number(Field),
     Unreduced,

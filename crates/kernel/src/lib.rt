@@ -1,4 +1,6 @@
 // The stacks of a small pass: pairs enter at level 0, last to first, and climb to the level that the pass folds to.
+#![tactic(auto)]
+
 ghost use Rattle.std.specs.Prelude.{◌≡◌};
 ghost use Rattle.vector.specs.Vector.{at as item};
 ghost use Rattle.kernel.specs.Kernel.{no_points, pairs_in, streamed};
@@ -14,7 +16,7 @@ mod stacks;
 pub mod start;
 
 // The points of an opening pass: b, -b, b squared. Any other pass evaluates nothing.
-#[derive(Drop)]
+#[derive(Clone, Copy)]
 pub struct Points {
     pub on: bool,
     pub point: u32,
@@ -23,7 +25,7 @@ pub struct Points {
 }
 
 // For each level the evaluations so far of the fold of f and of g at the three points.
-#[derive(Drop)]
+#[derive(Clone, Copy)]
 pub struct Evals {
     pub fpoint: [u32; 16],
     pub fminus: [u32; 16],
@@ -34,7 +36,7 @@ pub struct Evals {
 }
 
 // The stacks of (level, value) entries of f and g, the sums of the pairs that met at the last level, and the evaluations.
-#[derive(Drop)]
+#[derive(Clone, Copy)]
 pub struct Kernel {
     pub flevels: [u32; 16],
     pub fvalues: [u32; 16],
@@ -48,7 +50,7 @@ pub struct Kernel {
     pub evals: Evals,
 }
 
-#[derive(Drop)]
+#[derive(Clone, Copy)]
 pub struct Sums {
     pub even: u32,
     pub cross: u32,
@@ -56,7 +58,7 @@ pub struct Sums {
 }
 
 // How far a pair climbed: how many entries are left below it, its level and its values.
-#[derive(Drop)]
+#[derive(Clone, Copy)]
 pub struct Climber {
     pub count: usize,
     pub level: u32,
@@ -64,7 +66,7 @@ pub struct Climber {
     pub g: u32,
 }
 
-#[derive(Drop)]
+#[derive(Clone, Copy)]
 pub struct Settled {
     pub count: usize,
     pub sums: Sums,

@@ -13,7 +13,7 @@ use refusal::{Check, pass_if};
 use vector::slice::write;
 
 // What the places of the current fold are.
-#[derive(Drop)]
+#[derive(Clone, Copy)]
 pub enum Lent {
     Good,
     Refused(u8),

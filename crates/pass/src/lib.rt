@@ -1,4 +1,6 @@
 // The record of a pass, and what opening, items and blocks of items do to it. It knows of its run only the stage that it is for.
+#![tactic(auto)]
+
 pub mod blocks;
 pub mod checks;
 pub mod formed;
@@ -13,7 +15,7 @@ use kernel::{Evals, Points};
 use phase::{Kind, Next};
 
 // The two stacks with their counts, and beside them 107 numbers.
-#[derive(Drop)]
+#[derive(Clone, Copy)]
 pub struct Pass {
     pub kind: Kind,
     pub taken: u32,
@@ -33,7 +35,7 @@ pub struct Pass {
 }
 
 // What a pass reads of its run.
-#[derive(Drop)]
+#[derive(Clone, Copy)]
 pub struct Stage {
     pub start: Start,
     pub challenges: [u32; 15],

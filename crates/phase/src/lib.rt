@@ -1,11 +1,13 @@
 // The phase of a run: its mode, what is next and the kind of its pass; what may open, close and change; the level.
+#![tactic(auto)]
+
 pub mod cases;
 pub mod folds;
 pub mod levels;
 pub mod order;
 pub mod turns;
 
-#[derive(Drop)]
+#[derive(Clone, Copy)]
 pub enum Mode {
     // Streaming: each answer takes a pass.
     Small,
@@ -14,7 +16,7 @@ pub enum Mode {
 }
 
 // What is next in the run. The round is the number of challenges taken.
-#[derive(Drop)]
+#[derive(Clone, Copy)]
 pub enum Next {
     Total,
     Message,
@@ -23,7 +25,7 @@ pub enum Next {
     Openings,
 }
 
-#[derive(Drop)]
+#[derive(Clone, Copy)]
 pub enum Kind {
     // No pass is open.
     Shut,

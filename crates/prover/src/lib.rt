@@ -1,5 +1,7 @@
 // The prover of a run: document 01's unit, in small mode, in full mode and changing over. A run and its pass go in by value and come
 // back by value; a refused call hands both back unchanged and writes no buffer.
+#![tactic(auto)]
+
 mod answers;
 mod blocks;
 mod challenge;
@@ -19,7 +21,7 @@ use pass::Pass;
 use phase::{Mode, Next};
 
 // 84 numbers: what the start fixed (L, n, plain, the twists), the mode and what is next, and what was taken and given.
-#[derive(Drop)]
+#[derive(Clone, Copy)]
 pub struct Run {
     pub start: Start,
     pub mode: Mode,
@@ -34,7 +36,7 @@ pub struct Run {
     pub gend: u32,
 }
 
-#[derive(Drop)]
+#[derive(Clone, Copy)]
 pub enum Answer {
     Started,
     Opened,
@@ -53,7 +55,7 @@ pub enum Answer {
 }
 
 // What a call hands back. `values` has an opening's 6n values in its first places, f before g; all other places are zero.
-#[derive(Drop)]
+#[derive(Clone, Copy)]
 pub struct Step {
     pub run: Run,
     pub pass: Pass,

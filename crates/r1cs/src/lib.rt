@@ -1,4 +1,6 @@
 // The R1CS check: the products of matrix files and a vector, and the claim that stands in for the total.
+#![tactic(auto)]
+
 ghost use Rattle.std.specs.Prelude.{◌≡◌};
 ghost use Rattle.refusal.specs.Outcome.{answered};
 ghost use Rattle.field.specs.Modulus.{modulus};
@@ -14,7 +16,7 @@ mod checks;
 mod entries;
 
 // What a product answers.
-#[derive(Drop)]
+#[derive(Clone, Copy)]
 pub enum Multiplied {
     // The matrix's n: the product is in the first 2^n places.
     Done(u32),
@@ -23,7 +25,7 @@ pub enum Multiplied {
 }
 
 // What a claim answers.
-#[derive(Drop)]
+#[derive(Clone, Copy)]
 pub enum Claimed {
     Claim(u32),
     Refused(u8),

@@ -1,5 +1,7 @@
 // What the tools for lists of calls share: the numbers of a record, and what they keep for the calls. It prints nothing, as no library
 // may: it answers what the tool says.
+#![tactic(auto)]
+
 ghost use Rattle.std.specs.Prelude.{◌≡◌};
 ghost use Rattle.wire.specs.Number.{word_at};
 
@@ -12,7 +14,7 @@ pub mod slots;
 use wire::words::word_at;
 
 // A call: its op and three numbers.
-#[derive(Drop)]
+#[derive(Clone, Copy)]
 pub struct Record {
     pub op: u32,
     pub a: u32,
@@ -33,7 +35,7 @@ pub fn decode(bytes: &[u8]) -> Record
 }
 
 // What the tool says of a record that makes no call.
-#[derive(Drop)]
+#[derive(Clone, Copy)]
 pub enum Said {
     Nothing,
     Bad,

@@ -6,7 +6,7 @@ use super::parts::{first, rest};
 use super::{Record, Said};
 
 // How many first places of each buffer are lent; the scratch list, how many numbers it has, and how many first ones are opening values.
-#[derive(Drop)]
+#[derive(Clone, Copy)]
 pub struct Lists {
     pub flent: usize,
     pub glent: usize,
@@ -15,7 +15,7 @@ pub struct Lists {
     pub opened: usize,
 }
 
-#[derive(Drop)]
+#[derive(Clone, Copy)]
 pub struct Kept {
     pub lists: Lists,
     pub said: Said,

@@ -4,13 +4,13 @@ ghost use Rattle.records.specs.Proof.{no_proof, saying, writes, resizes, changes
 
 use super::{Record, Said};
 
-#[derive(Drop)]
+#[derive(Clone, Copy)]
 pub struct Proof {
     pub bytes: [u8; 256],
     pub size: usize,
 }
 
-#[derive(Drop)]
+#[derive(Clone, Copy)]
 pub struct Changed {
     pub proof: Proof,
     pub said: Said,

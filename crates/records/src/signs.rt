@@ -5,7 +5,7 @@ ghost use Rattle.records.specs.Signs.{plain_item};
 
 use item::Given;
 
-#[derive(Drop)]
+#[derive(Clone, Copy)]
 pub enum Plain {
     Item(Given),
     // The weight takes more than sixteen bits.

@@ -6,13 +6,13 @@ use super::parts::{first_bytes, rest_bytes};
 use super::{Record, Said};
 
 // The slots one after the other, and how many bytes each has.
-#[derive(Drop)]
+#[derive(Clone, Copy)]
 pub struct Slots {
     pub bytes: [u8; 2048],
     pub sizes: [usize; 8],
 }
 
-#[derive(Drop)]
+#[derive(Clone, Copy)]
 pub struct Filled {
     pub slots: Slots,
     pub said: Said,

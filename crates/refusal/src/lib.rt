@@ -1,4 +1,6 @@
 // The refusal numbers and limits of documents 01 and 02, each under one name. specs/ has the same names; `numbers` and `limits` tie the two.
+#![tactic(auto)]
+
 ghost use Rattle.std.specs.Prelude.{◌≡◌};
 ghost use Rattle.refusal.specs.Number as number;
 ghost use Rattle.refusal.specs.Limit as limit;
@@ -73,7 +75,7 @@ pub fn limits() -> [u32; 6]
 }
 
 // The answer of one check, taken by `let else`.
-#[derive(Drop)]
+#[derive(Clone, Copy)]
 pub enum Check {
     Passed,
     Failed,

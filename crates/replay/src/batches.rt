@@ -4,6 +4,8 @@ use batch::{LogValue, combined_item, log_value, start_batch};
 use prover::Step;
 use records::Record;
 use records::slots::{Slots, slot};
+use std::io;
+use std::io::Write;
 
 pub(crate) fn start(s: Slots, r: Record, challenges: &[u32]) -> Step {
     let all = s.bytes;
@@ -25,16 +27,14 @@ pub(crate) fn start(s: Slots, r: Record, challenges: &[u32]) -> Step {
     )
 }
 
-pub(crate) fn tell(s: Slots, r: Record) {
+pub(crate) fn tell<W: Write>(out: &mut W, s: Slots, r: Record) -> io::Result<()> {
     if r.op == 63 {
-        print::one(b"number", item(s, r));
-        return;
+        return print::one(out, b"number", item(s, r));
     }
     if r.a > 7 {
-        print::bad();
-        return;
+        return print::bad(out);
     }
-    value(s, r);
+    value(out, s, r)
 }
 
 fn item(s: Slots, r: Record) -> u32 {
@@ -57,12 +57,12 @@ fn item(s: Slots, r: Record) -> u32 {
     )
 }
 
-fn value(s: Slots, r: Record) {
+fn value<W: Write>(out: &mut W, s: Slots, r: Record) -> io::Result<()> {
     let bytes = s.bytes;
     let sizes = s.sizes;
     match log_value(slot(&bytes, &sizes, r.a), r.b) {
-        LogValue::Value(x) => print::one(b"value", x),
-        LogValue::Refused(k) => print::refused(k),
-        LogValue::RefusedAt(k, i) => print::refused_at(k, i),
+        LogValue::Value(x) => print::one(out, b"value", x),
+        LogValue::Refused(k) => print::refused(out, k),
+        LogValue::RefusedAt(k, i) => print::refused_at(out, k, i),
     }
 }

@@ -4,31 +4,40 @@ use super::state::Prover;
 use pass::Pass;
 use phase::{Kind, Next};
 use prover::Run;
+use std::io;
+use std::io::Write;
 
-pub(crate) fn call(p: Prover, a: u32, f: &[u32; 4096], g: &[u32; 4096]) -> Prover {
+pub(crate) fn call<W: Write>(
+    out: &mut W,
+    p: Prover,
+    a: u32,
+    f: &[u32; 4096],
+    g: &[u32; 4096],
+) -> io::Result<Prover> {
     if a > 4096 {
-        print::bad();
-        return p;
+        print::bad(out)?;
+        return Ok(p);
     }
     if p.on {
-        stacks(p.run, p.pass);
+        stacks(out, p.run, p.pass)?;
     }
-    print::buffers(a as usize, f, g);
-    p
+    print::buffers(out, a as usize, f, g)?;
+    Ok(p)
 }
 
 // Printed while a small pass for a round, the ends or the openings is open.
-fn stacks(run: Run, pass: Pass) {
+fn stacks<W: Write>(out: &mut W, run: Run, pass: Pass) -> io::Result<()> {
     let kind = pass.kind;
     let next = run.next;
     if has_stacks(kind, next) {
         let flevels = pass.flevels;
         let fvalues = pass.fvalues;
-        stack(b"f-stack", flevels, fvalues, pass.fcount);
+        stack(out, b"f-stack", flevels, fvalues, pass.fcount)?;
         let glevels = pass.glevels;
         let gvalues = pass.gvalues;
-        stack(b"g-stack", glevels, gvalues, pass.gcount);
+        stack(out, b"g-stack", glevels, gvalues, pass.gcount)?;
     }
+    Ok(())
 }
 
 fn has_stacks(kind: Kind, next: Next) -> bool {
@@ -45,22 +54,24 @@ fn has_stacks(kind: Kind, next: Next) -> bool {
 }
 
 // Bottom first.
-fn stack(label: &[u8], levels: [u32; 16], values: [u32; 16], count: usize) {
-    print::text(label);
-    print::number(count as u64);
-    let mut i: usize = 0;
-    while i < count {
+fn stack<W: Write>(
+    out: &mut W,
+    label: &[u8],
+    levels: [u32; 16],
+    values: [u32; 16],
+    count: usize,
+) -> io::Result<()> {
+    print::text(out, label)?;
+    print::number(out, count as u64)?;
+    for i in 0..count {
         if i >= 16 {
             break;
         }
-        entry(levels[i], values[i]);
-        i += 1;
+        entry(out, levels[i], values[i])?;
     }
-    print::end();
+    print::end(out)
 }
 
-fn entry(level: u32, value: u32) {
-    print::number(level as u64);
-    print::text(b":");
-    io::print_decimal(libc::STDOUT_FILENO, value as u64);
+fn entry<W: Write>(out: &mut W, level: u32, value: u32) -> io::Result<()> {
+    write!(out, " {level}:{value}")
 }

@@ -1,5 +1,7 @@
 // Runs a list of calls of prover and verifier, and prints what each answers. A record of standard input is one call. The buffers are
 // lent to the calls as a host would lend them.
+#![tactic(auto)]
+
 mod answers;
 mod batches;
 mod blocks;
@@ -14,28 +16,38 @@ mod verifying;
 
 use ops::kind_of;
 use record::Read;
+use std::io;
+use std::io::{BufReader, BufWriter, Write};
 
-fn main() {
+fn main(rt: HostRuntime) -> io::Result<()> {
+    let mut input = BufReader::new(rt.alloc(), rt.reader())?;
+    let mut out = BufWriter::new(rt.alloc(), io::writer(&rt))?;
     let mut f = [0u32; 4096];
     let mut g = [0u32; 4096];
-    replay(&mut f, &mut g);
+    replay(&mut input, &mut out, &mut f, &mut g)
 }
 
 // A proved loop has to end, and nothing says that the input does: the count is one that no run uses up. Each op is one of the three's,
 // and the other two leave what they have.
-fn replay(f: &mut [u32; 4096], g: &mut [u32; 4096]) {
+fn replay<R: io::Read, W: Write>(
+    input: &mut R,
+    out: &mut W,
+    f: &mut [u32; 4096],
+    g: &mut [u32; 4096],
+) -> io::Result<()> {
     let mut h = state::none();
     let mut p = state::no_prover();
     let mut j = state::no_judge();
-    let mut turns: u64 = 18446744073709551615;
-    while turns > 0 {
-        turns -= 1;
-        let Read::Record(r) = record::next() else {
-            return;
+    for _ in 0..u64::MAX {
+        let Read::Record(r) = record::next(input)? else {
+            return Ok(());
         };
-        let kind = kind_of(r.op);
-        h = state::call(h, kind, r, f, g);
-        p = proving::call(p, h, kind, r, f, g);
-        j = verifying::call(j, h, p.proof, kind, r);
+        let kind = kind_of(out, r.op)?;
+        h = state::call(out, h, kind, r, f, g)?;
+        p = proving::call(out, p, h, kind, r, f, g)?;
+        j = verifying::call(out, j, h, p.proof, kind, r)?;
+        // A host may wait for the answer before it makes the next call.
+        out.flush()?;
     }
+    Ok(())
 }

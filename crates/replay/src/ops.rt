@@ -1,8 +1,10 @@
 // The ops that there are.
 use super::print;
+use std::io;
+use std::io::Write;
 
 // What an op is.
-#[derive(Drop)]
+#[derive(Clone, Copy)]
 pub enum Kind {
     Lists,
     Slots,
@@ -22,8 +24,8 @@ pub enum Kind {
     Unknown,
 }
 
-pub(crate) fn kind_of(op: u32) -> Kind {
-    match op {
+pub(crate) fn kind_of<W: Write>(out: &mut W, op: u32) -> io::Result<Kind> {
+    let kind = match op {
         1..=4 | 41 => Kind::Lists,
         5 => Kind::Dump,
         6..=8 => Kind::File,
@@ -37,8 +39,9 @@ pub(crate) fn kind_of(op: u32) -> Kind {
         60..=61 => Kind::Slots,
         63..=64 => Kind::Batch,
         _ => {
-            print::bad();
+            print::bad(out)?;
             Kind::Unknown
         }
-    }
+    };
+    Ok(kind)
 }

@@ -1,56 +1,48 @@
-// Lines of standard output. The same file stands in replay and in replay_files: a library must not name what it prints with.
-use libc::STDOUT_FILENO;
+// Lines of output. The same file stands in replay and in replay_files.
 use records::Said;
 use records::parts::within;
+use std::io;
+use std::io::Write;
 
-pub(crate) fn text(bytes: &[u8]) {
-    io::write_all(STDOUT_FILENO, bytes);
+pub(crate) fn text<W: Write>(out: &mut W, bytes: &[u8]) -> io::Result<()> {
+    out.write_all(bytes)
 }
 
-pub(crate) fn end() {
-    text(b"\n");
+pub(crate) fn end<W: Write>(out: &mut W) -> io::Result<()> {
+    text(out, b"\n")
 }
 
-pub(crate) fn line(bytes: &[u8]) {
-    text(bytes);
-    end();
+pub(crate) fn line<W: Write>(out: &mut W, bytes: &[u8]) -> io::Result<()> {
+    text(out, bytes)?;
+    end(out)
 }
 
-pub(crate) fn number(x: u64) {
-    text(b" ");
-    io::print_decimal(STDOUT_FILENO, x);
+pub(crate) fn number<W: Write>(out: &mut W, x: u64) -> io::Result<()> {
+    write!(out, " {x}")
 }
 
-pub(crate) fn signed(x: i64) {
-    if field::integer::is_negative(x) {
-        text(b" -");
-    } else {
-        text(b" ");
+pub(crate) fn signed<W: Write>(out: &mut W, x: i64) -> io::Result<()> {
+    write!(out, " {x}")
+}
+
+pub(crate) fn hex<W: Write>(out: &mut W, bytes: &[u8]) -> io::Result<()> {
+    for byte in bytes {
+        digits(out, *byte)?;
     }
-    io::print_decimal(STDOUT_FILENO, field::integer::magnitude(x));
+    Ok(())
 }
 
-pub(crate) fn hex(bytes: &[u8]) {
-    let mut i: usize = 0;
-    while i < bytes.len() {
-        digits(bytes[i]);
-        i += 1;
-    }
-}
-
-fn digits(byte: u8) {
-    io::print_hex(STDOUT_FILENO, byte as u64, 2);
+fn digits<W: Write>(out: &mut W, byte: u8) -> io::Result<()> {
+    write!(out, "{byte:02x}")
 }
 
 // A line of a label and the numbers of a slice.
-fn list(label: &[u8], values: &[u32]) {
-    text(label);
-    let mut i: usize = 0;
-    while i < values.len() {
-        number(wide(values[i]));
-        i += 1;
+fn list<W: Write>(out: &mut W, label: &[u8], values: &[u32]) -> io::Result<()> {
+    text(out, label)?;
+    for value in values {
+        number(out, wide(*value))?;
     }
-    end();
+    end(out)
 }
 
 fn wide(x: u32) -> u64 {
@@ -58,48 +50,53 @@ fn wide(x: u32) -> u64 {
 }
 
 // The first n numbers of a slice.
-pub(crate) fn first(label: &[u8], n: usize, values: &[u32]) {
+pub(crate) fn first<W: Write>(
+    out: &mut W,
+    label: &[u8],
+    n: usize,
+    values: &[u32],
+) -> io::Result<()> {
     let k = within(n, values);
-    list(label, &values[..k]);
+    list(out, label, &values[..k])
 }
 
-pub(crate) fn one(label: &[u8], x: u32) {
-    list(label, &[x]);
+pub(crate) fn one<W: Write>(out: &mut W, label: &[u8], x: u32) -> io::Result<()> {
+    list(out, label, &[x])
 }
 
-pub(crate) fn two(label: &[u8], x: u32, y: u32) {
-    list(label, &[x, y]);
+pub(crate) fn two<W: Write>(out: &mut W, label: &[u8], x: u32, y: u32) -> io::Result<()> {
+    list(out, label, &[x, y])
 }
 
-pub(crate) fn three(label: &[u8], x: u32, y: u32, z: u32) {
-    list(label, &[x, y, z]);
+pub(crate) fn three<W: Write>(out: &mut W, label: &[u8], x: u32, y: u32, z: u32) -> io::Result<()> {
+    list(out, label, &[x, y, z])
 }
 
-pub(crate) fn buffers(n: usize, f: &[u32], g: &[u32]) {
-    first(b"f-buffer", n, f);
-    first(b"g-buffer", n, g);
+pub(crate) fn buffers<W: Write>(out: &mut W, n: usize, f: &[u32], g: &[u32]) -> io::Result<()> {
+    first(out, b"f-buffer", n, f)?;
+    first(out, b"g-buffer", n, g)
 }
 
-pub(crate) fn bad() {
-    line(b"tool bad");
+pub(crate) fn bad<W: Write>(out: &mut W) -> io::Result<()> {
+    line(out, b"tool bad")
 }
 
-pub(crate) fn full() {
-    line(b"tool full");
+pub(crate) fn full<W: Write>(out: &mut W) -> io::Result<()> {
+    line(out, b"tool full")
 }
 
-pub(crate) fn said(said: Said) {
+pub(crate) fn said<W: Write>(out: &mut W, said: Said) -> io::Result<()> {
     match said {
-        Said::Nothing => {}
-        Said::Bad => bad(),
-        Said::Full => full(),
+        Said::Nothing => Ok(()),
+        Said::Bad => bad(out),
+        Said::Full => full(out),
     }
 }
 
-pub(crate) fn refused(k: u8) {
-    one(b"refused", k as u32);
+pub(crate) fn refused<W: Write>(out: &mut W, k: u8) -> io::Result<()> {
+    one(out, b"refused", k as u32)
 }
 
-pub(crate) fn refused_at(k: u8, i: u32) {
-    two(b"refused", k as u32, i);
+pub(crate) fn refused_at<W: Write>(out: &mut W, k: u8, i: u32) -> io::Result<()> {
+    two(out, b"refused", k as u32, i)
 }

@@ -10,36 +10,39 @@ use records::Record;
 use records::lists::{Lists, numbers};
 use records::proof::Proof;
 use records::slots::Slots;
+use std::io;
+use std::io::Write;
 
 // Ops 5 to 8, 10 to 27 and 62.
-pub(crate) fn call(
+pub(crate) fn call<W: Write>(
+    out: &mut W,
     p: Prover,
     h: Held,
     kind: Kind,
     r: Record,
     f: &mut [u32; 4096],
     g: &mut [u32; 4096],
-) -> Prover {
+) -> io::Result<Prover> {
     match kind {
-        Kind::Dump => return dump::call(p, r.a, f, g),
-        Kind::File => return filed(p, r),
-        Kind::Start => return start(p, h.lists, h.slots, r),
-        Kind::Call => return called(p, h.lists, r, f, g),
-        Kind::Claim => claim(p),
-        Kind::Block => return blocks::to_run(p, h.lists, h.slots, r, f, g),
+        Kind::Dump => return dump::call(out, p, r.a, f, g),
+        Kind::File => return filed(out, p, r),
+        Kind::Start => return start(out, p, h.lists, h.slots, r),
+        Kind::Call => return called(out, p, h.lists, r, f, g),
+        Kind::Claim => claim(out, p)?,
+        Kind::Block => return blocks::to_run(out, p, h.lists, h.slots, r, f, g),
         _ => {}
     }
-    p
+    Ok(p)
 }
 
-fn filed(mut p: Prover, r: Record) -> Prover {
-    p.proof = proof::call(p.proof, r);
-    p
+fn filed<W: Write>(out: &mut W, mut p: Prover, r: Record) -> io::Result<Prover> {
+    p.proof = proof::call(out, p.proof, r)?;
+    Ok(p)
 }
 
-fn start(p: Prover, l: Lists, s: Slots, r: Record) -> Prover {
+fn start<W: Write>(out: &mut W, p: Prover, l: Lists, s: Slots, r: Record) -> io::Result<Prover> {
     let scratch = l.scratch;
-    started(p, start_of(r, s, numbers(l.held, &scratch)))
+    started(out, p, start_of(r, s, numbers(l.held, &scratch)))
 }
 
 // With the scratch list: twists, or a batch's challenges.
@@ -54,64 +57,71 @@ fn start_of(r: Record, s: Slots, values: &[u32]) -> Step {
 }
 
 // A refused start leaves the run that there is.
-fn started(p: Prover, step: Step) -> Prover {
-    let after = took(step, p.proof);
+fn started<W: Write>(out: &mut W, p: Prover, step: Step) -> io::Result<Prover> {
+    let after = took(out, step, p.proof)?;
     let answer = step.answer;
     let Answer::Started = answer else {
-        return p;
+        return Ok(p);
     };
-    after
+    Ok(after)
 }
 
-fn called(p: Prover, l: Lists, r: Record, f: &mut [u32; 4096], g: &mut [u32; 4096]) -> Prover {
+fn called<W: Write>(
+    out: &mut W,
+    p: Prover,
+    l: Lists,
+    r: Record,
+    f: &mut [u32; 4096],
+    g: &mut [u32; 4096],
+) -> io::Result<Prover> {
     let Named::Call(call) = call_of(r) else {
-        print::bad();
-        return p;
+        print::bad(out)?;
+        return Ok(p);
     };
     if p.on {
-        return after(p, call, l, r.a, f, g);
+        return after(out, p, call, l, r.a, f, g);
     }
-    print::line(b"no run");
-    p
+    print::line(out, b"no run")?;
+    Ok(p)
 }
 
 // The run's claim.
-fn claim(p: Prover) {
+fn claim<W: Write>(out: &mut W, p: Prover) -> io::Result<()> {
     if p.on {
-        print::one(b"claim", p.run.claim);
-        return;
+        return print::one(out, b"claim", p.run.claim);
     }
-    print::line(b"no run");
+    print::line(out, b"no run")
 }
 
-fn after(
+fn after<W: Write>(
+    out: &mut W,
     p: Prover,
     call: Call,
     l: Lists,
     a: u32,
     f: &mut [u32; 4096],
     g: &mut [u32; 4096],
-) -> Prover {
+) -> io::Result<Prover> {
     let mut bytes = p.proof.bytes;
     let step = make_within(
         p.run, p.pass, call, l.flent, l.glent, a as usize, f, g, &mut bytes,
     );
     let answer = step.answer;
     let size = size_after(p.proof.size, answer);
-    took(step, Proof { bytes, size })
+    took(out, step, Proof { bytes, size })
 }
 
 // Prints what a call answers.
-pub(crate) fn took(step: Step, proof: Proof) -> Prover {
-    answers::step(step);
+pub(crate) fn took<W: Write>(out: &mut W, step: Step, proof: Proof) -> io::Result<Prover> {
+    answers::step(out, step)?;
     let run = step.run;
     let pass = step.pass;
-    Prover {
+    Ok(Prover {
         on: true,
         proof,
         run,
         pass,
-    }
+    })
 }
 
 // A written proof sets the file's size.

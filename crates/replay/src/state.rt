@@ -7,15 +7,17 @@ use records::lists::Lists;
 use records::proof::Proof;
 use records::slots::Slots;
 use records::{Record, lists, proof, slots};
+use std::io;
+use std::io::Write;
 use verifier::Verifier;
 
-#[derive(Drop)]
+#[derive(Clone, Copy)]
 pub struct Held {
     pub lists: Lists,
     pub slots: Slots,
 }
 
-#[derive(Drop)]
+#[derive(Clone, Copy)]
 pub struct Prover {
     pub on: bool,
     // Before the run, where the checker still finds how many bytes it has.
@@ -24,7 +26,7 @@ pub struct Prover {
     pub pass: Pass,
 }
 
-#[derive(Drop)]
+#[derive(Clone, Copy)]
 pub struct Judge {
     pub on: bool,
     pub verifier: Verifier,
@@ -60,36 +62,43 @@ pub(crate) fn no_judge() -> Judge {
 }
 
 // Ops 1 to 4, 41, 60, 61, 63 and 64.
-pub(crate) fn call(
+pub(crate) fn call<W: Write>(
+    out: &mut W,
     h: Held,
     kind: Kind,
     r: Record,
     f: &mut [u32; 4096],
     g: &mut [u32; 4096],
-) -> Held {
+) -> io::Result<Held> {
     match kind {
-        Kind::Lists => return keep(h, r, f, g),
-        Kind::Slots => return fill(h, r),
-        Kind::Batch => batches::tell(h.slots, r),
+        Kind::Lists => return keep(out, h, r, f, g),
+        Kind::Slots => return fill(out, h, r),
+        Kind::Batch => batches::tell(out, h.slots, r)?,
         _ => {}
     }
-    h
+    Ok(h)
 }
 
-fn keep(mut h: Held, r: Record, f: &mut [u32; 4096], g: &mut [u32; 4096]) -> Held {
+fn keep<W: Write>(
+    out: &mut W,
+    mut h: Held,
+    r: Record,
+    f: &mut [u32; 4096],
+    g: &mut [u32; 4096],
+) -> io::Result<Held> {
     let kept = lists::keep(h.lists, r, f, g);
     let said = kept.said;
-    print::said(said);
+    print::said(out, said)?;
     let lists = kept.lists;
     h.lists = lists;
-    h
+    Ok(h)
 }
 
-fn fill(mut h: Held, r: Record) -> Held {
+fn fill<W: Write>(out: &mut W, mut h: Held, r: Record) -> io::Result<Held> {
     let filled = slots::fill(h.slots, r);
     let said = filled.said;
-    print::said(said);
+    print::said(out, said)?;
     let slots = filled.slots;
     h.slots = slots;
-    h
+    Ok(h)
 }

@@ -10,27 +10,35 @@ use records::Record;
 use records::lists::{Lists, numbers};
 use records::parts::{first, rest};
 use records::proof::Proof;
+use std::io;
+use std::io::Write;
 use verifier::{Answer, Step, Verifier};
 
 // Ops 30 to 40, and 42 to 44.
-pub(crate) fn call(j: Judge, h: Held, p: Proof, kind: Kind, r: Record) -> Judge {
+pub(crate) fn call<W: Write>(
+    out: &mut W,
+    j: Judge,
+    h: Held,
+    p: Proof,
+    kind: Kind,
+    r: Record,
+) -> io::Result<Judge> {
     match kind {
-        Kind::Begin => return start(j, h.lists, r),
-        Kind::Query => return called(j, h.lists, p, r),
-        Kind::Items => return blocks::to_judge(j, h.lists, h.slots, r),
-        _ => {}
+        Kind::Begin => start(out, j, h.lists, r),
+        Kind::Query => called(out, j, h.lists, p, r),
+        Kind::Items => blocks::to_judge(out, j, h.lists, h.slots, r),
+        _ => Ok(j),
     }
-    j
 }
 
-fn start(j: Judge, l: Lists, r: Record) -> Judge {
+fn start<W: Write>(out: &mut W, j: Judge, l: Lists, r: Record) -> io::Result<Judge> {
     let scratch = l.scratch;
     let values = numbers(l.held, &scratch);
     if has_twists(r, values) {
-        return started(j, start_of(r, values));
+        return started(out, j, start_of(r, values));
     }
-    print::bad();
-    j
+    print::bad(out)?;
+    Ok(j)
 }
 
 // The first b numbers are the twists of op 31.
@@ -54,49 +62,57 @@ fn start_of(r: Record, values: &[u32]) -> Step {
 }
 
 // A refused start leaves the verifier that there is.
-fn started(j: Judge, step: Step) -> Judge {
-    let after = said(stepped(step));
+fn started<W: Write>(out: &mut W, j: Judge, step: Step) -> io::Result<Judge> {
+    let after = said(out, stepped(step))?;
     let answer = step.answer;
     let Answer::Started = answer else {
-        return j;
+        return Ok(j);
     };
-    after
+    Ok(after)
 }
 
 // Prints what a call answers.
-pub(crate) fn said(heard: Heard) -> Judge {
+pub(crate) fn said<W: Write>(out: &mut W, heard: Heard) -> io::Result<Judge> {
     let told = heard.told;
-    answers::told(told);
+    answers::told(out, told)?;
     let verifier = heard.verifier;
-    Judge { on: true, verifier }
+    Ok(Judge { on: true, verifier })
 }
 
-fn called(j: Judge, l: Lists, p: Proof, r: Record) -> Judge {
+fn called<W: Write>(out: &mut W, j: Judge, l: Lists, p: Proof, r: Record) -> io::Result<Judge> {
     let Posed::Query(query) = query_of(r) else {
-        print::bad();
-        return j;
+        print::bad(out)?;
+        return Ok(j);
     };
     if j.on {
-        return asked(j, query, r.op, l, p);
+        return asked(out, j, query, r.op, l, p);
     }
-    print::line(b"no verifier");
-    j
+    print::line(out, b"no verifier")?;
+    Ok(j)
 }
 
 // With the scratch list and the proof file.
-fn asked(j: Judge, query: Query, op: u32, l: Lists, p: Proof) -> Judge {
+fn asked<W: Write>(
+    out: &mut W,
+    j: Judge,
+    query: Query,
+    op: u32,
+    l: Lists,
+    p: Proof,
+) -> io::Result<Judge> {
     let scratch = l.scratch;
     let bytes = p.bytes;
     let all = numbers(l.held, &scratch);
     let n = opening_values(op, l);
-    said(ask_within(
+    let heard = ask_within(
         j.verifier,
         query,
         p.size,
         &bytes,
         first(n, all),
         rest(n, all),
-    ))
+    );
+    said(out, heard)
 }
 
 // The scratch list of a batch is split by op 41; all of it is values elsewhere.

@@ -3,11 +3,13 @@ use super::print;
 use super::state::State;
 use records::Record;
 use records::parts::within_bytes;
+use std::io;
+use std::io::Write;
 use wire::log::{ItemRead, LogRead};
 use wire::matrix::{EntryRead, MatrixRead};
 use wire::proof::ProofRead;
 
-#[derive(Drop)]
+#[derive(Clone, Copy)]
 pub struct File {
     pub bytes: [u8; 1024],
     pub size: usize,
@@ -20,105 +22,105 @@ pub(crate) fn none() -> File {
     }
 }
 
-pub(crate) fn call(s: State, r: Record) -> State {
+pub(crate) fn call<W: Write>(out: &mut W, s: State, r: Record) -> io::Result<State> {
     let op = r.op;
     if op > 51 {
         let bytes = s.file.bytes;
         let n = within_bytes(s.file.size, &bytes);
-        read(op, r.a, &bytes[..n]);
-        return s;
+        read(out, op, r.a, &bytes[..n])?;
+        return Ok(s);
     }
     let file = if op == 50 {
         none()
     } else {
-        append(s.file, r.a)
+        append(out, s.file, r.a)?
     };
-    State { file, ..s }
+    Ok(State { file, ..s })
 }
 
-fn append(file: File, byte: u32) -> File {
+fn append<W: Write>(out: &mut W, file: File, byte: u32) -> io::Result<File> {
     if byte > 255 {
-        print::bad();
-        return file;
+        print::bad(out)?;
+        return Ok(file);
     }
     let size = file.size;
     if size >= 1024 {
-        print::full();
-        return file;
+        print::full(out)?;
+        return Ok(file);
     }
     let mut bytes = file.bytes;
     bytes[size] = byte as u8;
-    File {
+    Ok(File {
         bytes,
         size: size + 1,
-    }
+    })
 }
 
-fn read(op: u32, a: u32, file: &[u8]) {
+fn read<W: Write>(out: &mut W, op: u32, a: u32, file: &[u8]) -> io::Result<()> {
     match op {
-        52 => log(file),
-        53 => log_item(file, a),
-        54 => proof(file),
-        55 => proof_round(file, a),
-        56 => matrix(file),
-        _ => matrix_entry(file, a),
+        52 => log(out, file),
+        53 => log_item(out, file, a),
+        54 => proof(out, file),
+        55 => proof_round(out, file, a),
+        56 => matrix(out, file),
+        _ => matrix_entry(out, file, a),
     }
 }
 
-fn log(file: &[u8]) {
+fn log<W: Write>(out: &mut W, file: &[u8]) -> io::Result<()> {
     match wire::log::read_log(file) {
-        LogRead::Log(items, version) => print::two(b"log", items, version),
-        LogRead::Refused(k) => print::refused(k),
-        LogRead::RefusedAt(k, i) => print::refused_at(k, i),
+        LogRead::Log(items, version) => print::two(out, b"log", items, version),
+        LogRead::Refused(k) => print::refused(out, k),
+        LogRead::RefusedAt(k, i) => print::refused_at(out, k, i),
     }
 }
 
-fn log_item(file: &[u8], i: u32) {
+fn log_item<W: Write>(out: &mut W, file: &[u8], i: u32) -> io::Result<()> {
     match wire::log::log_item(file, i) {
-        ItemRead::Item(reading, weight) => item(reading, weight),
-        ItemRead::Nothing => print::line(b"nothing"),
+        ItemRead::Item(reading, weight) => item(out, reading, weight),
+        ItemRead::Nothing => print::line(out, b"nothing"),
     }
 }
 
-fn item(reading: i32, weight: u16) {
-    print::text(b"item");
-    print::signed(field::integer::widen(reading));
-    print::number(weight as u64);
-    print::end();
+fn item<W: Write>(out: &mut W, reading: i32, weight: u16) -> io::Result<()> {
+    print::text(out, b"item")?;
+    print::signed(out, field::integer::widen(reading))?;
+    print::number(out, weight as u64)?;
+    print::end(out)
 }
 
-fn proof(file: &[u8]) {
+fn proof<W: Write>(out: &mut W, file: &[u8]) -> io::Result<()> {
     match wire::proof::read_proof(file) {
-        ProofRead::Proof(rounds, total) => proof_line(rounds, total),
-        ProofRead::Refused(k) => print::refused(k),
+        ProofRead::Proof(rounds, total) => proof_line(out, rounds, total),
+        ProofRead::Refused(k) => print::refused(out, k),
     }
 }
 
-fn proof_line(rounds: u32, total: i64) {
-    print::text(b"proof");
-    print::number(rounds as u64);
-    print::signed(total);
-    print::end();
+fn proof_line<W: Write>(out: &mut W, rounds: u32, total: i64) -> io::Result<()> {
+    print::text(out, b"proof")?;
+    print::number(out, rounds as u64)?;
+    print::signed(out, total)?;
+    print::end(out)
 }
 
-fn proof_round(file: &[u8], round: u32) {
+fn proof_round<W: Write>(out: &mut W, file: &[u8], round: u32) -> io::Result<()> {
     let part = wire::proof::proof_round(file, round);
-    print::text(b"part ");
-    print::hex(part);
-    print::end();
+    print::text(out, b"part ")?;
+    print::hex(out, part)?;
+    print::end(out)
 }
 
-fn matrix(file: &[u8]) {
+fn matrix<W: Write>(out: &mut W, file: &[u8]) -> io::Result<()> {
     match wire::matrix::read_matrix(file) {
-        MatrixRead::Matrix(rounds, count) => print::two(b"matrix", rounds, count),
-        MatrixRead::Refused(k) => print::refused(k),
-        MatrixRead::RefusedAt(k, i) => print::refused_at(k, i),
+        MatrixRead::Matrix(rounds, count) => print::two(out, b"matrix", rounds, count),
+        MatrixRead::Refused(k) => print::refused(out, k),
+        MatrixRead::RefusedAt(k, i) => print::refused_at(out, k, i),
     }
 }
 
-fn matrix_entry(file: &[u8], k: u32) {
+fn matrix_entry<W: Write>(out: &mut W, file: &[u8], k: u32) -> io::Result<()> {
     match wire::matrix::matrix_entry(file, k) {
-        EntryRead::Entry(row, column, value) => print::three(b"entry", row, column, value),
-        EntryRead::Nothing => print::line(b"nothing"),
+        EntryRead::Entry(row, column, value) => print::three(out, b"entry", row, column, value),
+        EntryRead::Nothing => print::line(out, b"nothing"),
     }
 }

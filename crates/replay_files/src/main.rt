@@ -1,5 +1,7 @@
 // Runs a list of calls on files and rules, and prints what each answers. A record of standard input is one call. The buffers are lent
 // to the calls as a host would lend them.
+#![tactic(auto)]
+
 mod files;
 mod print;
 mod record;
@@ -9,46 +11,68 @@ mod state;
 use record::Read;
 use records::Record;
 use state::State;
+use std::io;
+use std::io::{BufReader, BufWriter, Write};
 
-fn main() {
+fn main(rt: HostRuntime) -> io::Result<()> {
+    let mut input = BufReader::new(rt.alloc(), rt.reader())?;
+    let mut out = BufWriter::new(rt.alloc(), io::writer(&rt))?;
     let mut f = [0u32; 4096];
     let mut g = [0u32; 4096];
-    replay(&mut f, &mut g);
+    replay(&mut input, &mut out, &mut f, &mut g)
 }
 
 // A proved loop has to end, and nothing says that the input does: the count is one that no run uses up.
-fn replay(f: &mut [u32; 4096], g: &mut [u32; 4096]) {
+fn replay<R: io::Read, W: Write>(
+    input: &mut R,
+    out: &mut W,
+    f: &mut [u32; 4096],
+    g: &mut [u32; 4096],
+) -> io::Result<()> {
     let mut s = state::fresh();
-    let mut turns: u64 = 18446744073709551615;
-    while turns > 0 {
-        turns -= 1;
-        let Read::Record(r) = record::next() else {
-            return;
+    for _ in 0..u64::MAX {
+        let Read::Record(r) = record::next(input)? else {
+            return Ok(());
         };
-        s = call(s, r, f, g);
+        s = call(out, s, r, f, g)?;
+        // A host may wait for the answer before it makes the next call.
+        out.flush()?;
     }
+    Ok(())
 }
 
-fn call(s: State, r: Record, f: &mut [u32; 4096], g: &mut [u32; 4096]) -> State {
+fn call<W: Write>(
+    out: &mut W,
+    s: State,
+    r: Record,
+    f: &mut [u32; 4096],
+    g: &mut [u32; 4096],
+) -> io::Result<State> {
     let op = r.op;
     match op {
-        1..=4 => state::keep(s, r, f, g),
-        5 => dump(s, r.a, f, g),
-        50..=57 => files::call(s, r),
-        58..=59 => rules::call(s, r, f),
-        _ => bad(s),
+        1..=4 => state::keep(out, s, r, f, g),
+        5 => dump(out, s, r.a, f, g),
+        50..=57 => files::call(out, s, r),
+        58..=59 => rules::call(out, s, r, f),
+        _ => bad(out, s),
     }
 }
 
-fn dump(s: State, a: u32, f: &[u32; 4096], g: &[u32; 4096]) -> State {
+fn dump<W: Write>(
+    out: &mut W,
+    s: State,
+    a: u32,
+    f: &[u32; 4096],
+    g: &[u32; 4096],
+) -> io::Result<State> {
     if a > 4096 {
-        return bad(s);
+        return bad(out, s);
     }
-    print::buffers(a as usize, f, g);
-    s
+    print::buffers(out, a as usize, f, g)?;
+    Ok(s)
 }
 
-fn bad(s: State) -> State {
-    print::bad();
-    s
+fn bad<W: Write>(out: &mut W, s: State) -> io::Result<State> {
+    print::bad(out)?;
+    Ok(s)
 }

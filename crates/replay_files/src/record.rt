@@ -1,19 +1,20 @@
-// The records of standard input. The same file stands in replay and in replay_files, as print.rt does.
-use libc::STDIN_FILENO;
+// The records of the input. The same file stands in replay and in replay_files, as print.rt does.
 use records::Record;
+use std::io;
+use std::io::ErrorKind;
 
-#[derive(Drop)]
+#[derive(Clone, Copy)]
 pub enum Read {
     Record(Record),
     // The input ended; a part of a record is ignored.
     End,
 }
 
-pub(crate) fn next() -> Read {
+pub(crate) fn next<R: io::Read>(input: &mut R) -> io::Result<Read> {
     let mut bytes = [0u8; 16];
-    let size = io::read_full(STDIN_FILENO, &mut bytes);
-    if size < 16 {
-        return Read::End;
+    match input.read_exact(&mut bytes) {
+        Ok(()) => Ok(Read::Record(records::decode(&bytes))),
+        Err(e) if e.kind() == ErrorKind::UnexpectedEof => Ok(Read::End),
+        Err(e) => Err(e),
     }
-    Read::Record(records::decode(&bytes))
 }

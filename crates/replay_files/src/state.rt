@@ -3,8 +3,10 @@ use super::files::File;
 use super::{files, print};
 use records::lists::Lists;
 use records::{Record, lists};
+use std::io;
+use std::io::Write;
 
-#[derive(Drop)]
+#[derive(Clone, Copy)]
 pub struct State {
     pub lists: Lists,
     pub file: File,
@@ -17,10 +19,16 @@ pub(crate) fn fresh() -> State {
     }
 }
 
-pub(crate) fn keep(s: State, r: Record, f: &mut [u32; 4096], g: &mut [u32; 4096]) -> State {
+pub(crate) fn keep<W: Write>(
+    out: &mut W,
+    s: State,
+    r: Record,
+    f: &mut [u32; 4096],
+    g: &mut [u32; 4096],
+) -> io::Result<State> {
     let kept = lists::keep(s.lists, r, f, g);
     let said = kept.said;
-    print::said(said);
+    print::said(out, said)?;
     let lists = kept.lists;
-    State { lists, ..s }
+    Ok(State { lists, ..s })
 }

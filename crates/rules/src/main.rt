@@ -1,8 +1,9 @@
+#![tactic(auto)]
 // A rule set of three rules on four numbers, multiplied out and checked: once where it holds, once with a row that fails.
 // z is 1, x, x², x³ for x = 3. The rules are x · x = x², x² · x = x³ and (x³ - x²) · 1 = 18; the fourth row is empty.
-use libc::STDOUT_FILENO;
 use prover::{Answer, Run, Step};
 use r1cs::{Claimed, Multiplied};
+use std::io::{self, BufWriter, Write};
 use vector::Message;
 use verifier::{Verdict, Verifier};
 
@@ -34,62 +35,61 @@ const C: [u8; 40] = [
     0, 0, 2, 0, 0, 0, 8, 0, 0, 0,
 ];
 
-fn text(bytes: &[u8]) {
-    io::write_all(STDOUT_FILENO, bytes);
+fn text<W: Write>(out: &mut W, bytes: &[u8]) -> io::Result<()> {
+    out.write_all(bytes)
 }
 
-fn number(x: u32) {
-    text(b" ");
-    io::print_decimal(STDOUT_FILENO, x as u64);
+fn number<W: Write>(out: &mut W, x: u32) -> io::Result<()> {
+    write!(out, " {x}")
 }
 
-fn refused(k: u8) {
-    text(b" refused");
-    number(k as u32);
+fn refused<W: Write>(out: &mut W, k: u8) -> io::Result<()> {
+    text(out, b" refused")?;
+    number(out, k as u32)
 }
 
-fn refused_at(k: u8, i: u32) {
-    refused(k);
-    text(b" at");
-    number(i);
+fn refused_at<W: Write>(out: &mut W, k: u8, i: u32) -> io::Result<()> {
+    refused(out, k)?;
+    text(out, b" at")?;
+    number(out, i)
 }
 
-fn four(xs: [u32; 4]) {
-    number(xs[0]);
-    number(xs[1]);
-    number(xs[2]);
-    number(xs[3]);
+fn four<W: Write>(out: &mut W, xs: [u32; 4]) -> io::Result<()> {
+    number(out, xs[0])?;
+    number(out, xs[1])?;
+    number(out, xs[2])?;
+    number(out, xs[3])
 }
 
 // The product of a file and z.
-fn multiply(label: &[u8], file: &[u8]) -> [u32; 4] {
+fn multiply<W: Write>(out: &mut W, label: &[u8], file: &[u8]) -> io::Result<[u32; 4]> {
     let z = Z;
-    let mut out = [0u32; 4];
-    let answer = r1cs::product(file, &z, &mut out);
-    text(label);
+    let mut places = [0u32; 4];
+    let answer = r1cs::product(file, &z, &mut places);
+    text(out, label)?;
     match answer {
-        Multiplied::Done(n) => four(out),
-        Multiplied::Refused(k) => refused(k),
-        Multiplied::RefusedAt(k, i) => refused_at(k, i),
+        Multiplied::Done(n) => four(out, places)?,
+        Multiplied::Refused(k) => refused(out, k)?,
+        Multiplied::RefusedAt(k, i) => refused_at(out, k, i)?,
     }
-    text(b"\n");
-    out
+    text(out, b"\n")?;
+    Ok(places)
 }
 
 // The claim; 0 where it is refused.
-fn claim(cz: [u32; 4]) -> u32 {
-    text(b"claim");
+fn claim<W: Write>(out: &mut W, cz: [u32; 4]) -> io::Result<u32> {
+    text(out, b"claim")?;
     let answer = r1cs::claim(&cz, ROUNDS, V);
     let mut value: u32 = 0;
     match answer {
         Claimed::Claim(x) => {
-            number(x);
+            number(out, x)?;
             value = x;
         }
-        Claimed::Refused(k) => refused(k),
+        Claimed::Refused(k) => refused(out, k)?,
     }
-    text(b"\n");
-    value
+    text(out, b"\n")?;
+    Ok(value)
 }
 
 fn opened(s: Step) -> Step {
@@ -130,19 +130,19 @@ fn streamed(s: Step, a: [u32; 4], b: [u32; 4]) -> Step {
     closed(s)
 }
 
-fn total(s: Step) {
-    text(b"total");
+fn total<W: Write>(out: &mut W, s: Step) -> io::Result<()> {
+    text(out, b"total")?;
     let answer = s.answer;
     if let Answer::FieldTotal(x) = answer {
-        number(x);
+        number(out, x)?;
     } else {
-        text(b" none");
+        text(out, b" none")?;
     }
-    text(b"\n");
+    text(out, b"\n")
 }
 
 // The message of a step; zeros where it has none.
-fn message(s: Step, round: u32) -> Message {
+fn message<W: Write>(out: &mut W, s: Step, round: u32) -> io::Result<Message> {
     let mut m = Message {
         even: 0,
         cross: 0,
@@ -152,13 +152,13 @@ fn message(s: Step, round: u32) -> Message {
     if let Answer::Message(even, cross, odd) = answer {
         m = Message { even, cross, odd };
     }
-    text(b"round");
-    number(round);
-    number(m.even);
-    number(m.cross);
-    number(m.odd);
-    text(b"\n");
-    m
+    text(out, b"round")?;
+    number(out, round)?;
+    number(out, m.even)?;
+    number(out, m.cross)?;
+    number(out, m.odd)?;
+    text(out, b"\n")?;
+    Ok(m)
 }
 
 fn heard(w: Verifier, m: Message) -> Verifier {
@@ -187,146 +187,148 @@ fn started(a: [u32; 4], b: [u32; 4]) -> Verifier {
     taken(w, a[3], b[3])
 }
 
-fn verdict(w: Verifier) {
-    text(b"verdict");
+fn verdict<W: Write>(out: &mut W, w: Verifier) -> io::Result<()> {
+    text(out, b"verdict")?;
     match w.verdict() {
-        Verdict::Yes => text(b" yes"),
+        Verdict::Yes => text(out, b" yes")?,
         Verdict::No(round) => {
-            text(b" no");
-            number(round);
+            text(out, b" no")?;
+            number(out, round)?;
         }
-        Verdict::Refused(k) => refused(k),
+        Verdict::Refused(k) => refused(out, k)?,
     }
-    text(b"\n");
+    text(out, b"\n")
 }
 
 // The prover's run, and the verifier's with the claim in place of the total.
-fn check(a: [u32; 4], b: [u32; 4], c: [u32; 4]) {
+fn check<W: Write>(out: &mut W, a: [u32; 4], b: [u32; 4], c: [u32; 4]) -> io::Result<()> {
     let s = streamed(Run::start_rule(ROUNDS, V), a, b);
-    total(s);
-    let w = closed_with(started(a, b), claim(c));
+    total(out, s)?;
+    let w = closed_with(started(a, b), claim(out, c)?);
     let s = streamed(s, a, b);
-    let first = message(s, 0);
+    let first = message(out, s, 0)?;
     let s = streamed(challenged(s, FIRST), a, b);
-    let second = message(s, 1);
-    verdict(heard(heard(w, first), second));
+    let second = message(out, s, 1)?;
+    verdict(out, heard(heard(w, first), second))
 }
 
-fn holding() {
+fn holding<W: Write>(out: &mut W) -> io::Result<()> {
     let fa = A;
     let fb = B;
     let fc = C;
-    let a = multiply(b"Az", &fa[..]);
-    let b = multiply(b"Bz", &fb[..]);
-    let c = multiply(b"Cz", &fc[..]);
-    check(a, b, c);
+    let a = multiply(out, b"Az", &fa[..])?;
+    let b = multiply(out, b"Bz", &fb[..])?;
+    let c = multiply(out, b"Cz", &fc[..])?;
+    check(out, a, b, c)
 }
 
 // 10 and 9 in the third row of C.
-fn failing() {
+fn failing<W: Write>(out: &mut W) -> io::Result<()> {
     let fa = A;
     let fb = B;
     let mut fc = C;
     fc[36] = 9;
-    let a = multiply(b"Az", &fa[..]);
-    let b = multiply(b"Bz", &fb[..]);
-    let c = multiply(b"Cz", &fc[..]);
-    check(a, b, c);
+    let a = multiply(out, b"Az", &fa[..])?;
+    let b = multiply(out, b"Bz", &fb[..])?;
+    let c = multiply(out, b"Cz", &fc[..])?;
+    check(out, a, b, c)
 }
 
-fn answered(label: &[u8], answer: Multiplied) {
-    text(label);
-    text(b":");
+fn answered<W: Write>(out: &mut W, label: &[u8], answer: Multiplied) -> io::Result<()> {
+    text(out, label)?;
+    text(out, b":")?;
     match answer {
         Multiplied::Done(n) => {
-            text(b" n");
-            number(n);
+            text(out, b" n")?;
+            number(out, n)
         }
-        Multiplied::Refused(k) => refused(k),
-        Multiplied::RefusedAt(k, i) => refused_at(k, i),
+        Multiplied::Refused(k) => refused(out, k),
+        Multiplied::RefusedAt(k, i) => refused_at(out, k, i),
     }
 }
 
-fn left(out: [u32; 5]) {
-    text(b", left");
-    number(out[0]);
-    number(out[1]);
-    number(out[2]);
-    number(out[3]);
-    number(out[4]);
-    text(b"\n");
+fn left<W: Write>(out: &mut W, places: [u32; 5]) -> io::Result<()> {
+    text(out, b", left")?;
+    number(out, places[0])?;
+    number(out, places[1])?;
+    number(out, places[2])?;
+    number(out, places[3])?;
+    number(out, places[4])?;
+    text(out, b"\n")
 }
 
 // A product into five places, and what it leaves in them.
-fn tried(label: &[u8], file: &[u8], z: &[u32]) {
-    let mut out = [7u32; 5];
-    answered(label, r1cs::product(file, z, &mut out));
-    left(out);
+fn tried<W: Write>(out: &mut W, label: &[u8], file: &[u8], z: &[u32]) -> io::Result<()> {
+    let mut places = [7u32; 5];
+    answered(out, label, r1cs::product(file, z, &mut places))?;
+    left(out, places)
 }
 
 // The same with three of the places lent.
-fn tried_short(label: &[u8], file: &[u8], z: &[u32]) {
-    let mut out = [7u32; 5];
-    answered(label, r1cs::product(file, z, &mut out[..3]));
-    left(out);
+fn tried_short<W: Write>(out: &mut W, label: &[u8], file: &[u8], z: &[u32]) -> io::Result<()> {
+    let mut places = [7u32; 5];
+    answered(out, label, r1cs::product(file, z, &mut places[..3]))?;
+    left(out, places)
 }
 
 // A with one byte changed.
-fn damaged(label: &[u8], at: usize, byte: u8) {
+fn damaged<W: Write>(out: &mut W, label: &[u8], at: usize, byte: u8) -> io::Result<()> {
     let mut file = A;
     if at < 40 {
         file[at] = byte;
     }
-    tried_on_z(label, &file);
+    tried_on_z(out, label, &file)
 }
 
-fn tried_on_z(label: &[u8], file: &[u8; 40]) {
+fn tried_on_z<W: Write>(out: &mut W, label: &[u8], file: &[u8; 40]) -> io::Result<()> {
     let z = Z;
-    tried(label, &file[..], &z);
+    tried(out, label, &file[..], &z)
 }
 
-fn products() {
+fn products<W: Write>(out: &mut W) -> io::Result<()> {
     let file = A;
     let z = Z;
     let large = [1, 3, 9, 2147483647];
-    tried(b"product into 5 places", &file, &z);
-    damaged(b"mark RVL", 2, b'L');
-    damaged(b"n 16", 5, 16);
-    damaged(b"row 4", 24, 4);
-    damaged(b"column falls", 34, 1);
-    damaged(b"value 0", 36, 0);
-    tried(b"vector of 3", &file, &z[..3]);
-    tried(b"vector with P", &file, &large);
-    tried_short(b"into 3 places", &file, &z);
+    tried(out, b"product into 5 places", &file, &z)?;
+    damaged(out, b"mark RVL", 2, b'L')?;
+    damaged(out, b"n 16", 5, 16)?;
+    damaged(out, b"row 4", 24, 4)?;
+    damaged(out, b"column falls", 34, 1)?;
+    damaged(out, b"value 0", 36, 0)?;
+    tried(out, b"vector of 3", &file, &z[..3])?;
+    tried(out, b"vector with P", &file, &large)?;
+    tried_short(out, b"into 3 places", &file, &z)
 }
 
-fn claimed(label: &[u8], cz: &[u32], rounds: u32, v: u32) {
-    text(label);
-    text(b":");
+fn claimed<W: Write>(out: &mut W, label: &[u8], cz: &[u32], rounds: u32, v: u32) -> io::Result<()> {
+    text(out, label)?;
+    text(out, b":")?;
     match r1cs::claim(cz, rounds, v) {
-        Claimed::Claim(x) => number(x),
-        Claimed::Refused(k) => refused(k),
+        Claimed::Claim(x) => number(out, x)?,
+        Claimed::Refused(k) => refused(out, k)?,
     }
-    text(b"\n");
+    text(out, b"\n")
 }
 
-fn claims() {
+fn claims<W: Write>(out: &mut W) -> io::Result<()> {
     let cz = [9, 27, 19, 0];
     let large = [9, 27, 19, 2147483647];
-    claimed(b"claim n 16", &cz, 16, V);
-    claimed(b"claim v 0", &cz, ROUNDS, 0);
-    claimed(b"claim v P", &cz, ROUNDS, 2147483647);
-    claimed(b"claim of 3", &cz[..3], ROUNDS, V);
-    claimed(b"claim with P", &large, ROUNDS, V);
-    claimed(b"claim", &cz, ROUNDS, V);
+    claimed(out, b"claim n 16", &cz, 16, V)?;
+    claimed(out, b"claim v 0", &cz, ROUNDS, 0)?;
+    claimed(out, b"claim v P", &cz, ROUNDS, 2147483647)?;
+    claimed(out, b"claim of 3", &cz[..3], ROUNDS, V)?;
+    claimed(out, b"claim with P", &large, ROUNDS, V)?;
+    claimed(out, b"claim", &cz, ROUNDS, V)
 }
 
-fn main() {
-    text(b"rules that hold\n");
-    holding();
-    text(b"a row that fails\n");
-    failing();
-    text(b"refusals\n");
-    products();
-    claims();
+fn main(rt: HostRuntime) -> io::Result<()> {
+    let mut out = BufWriter::new(rt.alloc(), io::writer(&rt))?;
+    text(&mut out, b"rules that hold\n")?;
+    holding(&mut out)?;
+    text(&mut out, b"a row that fails\n")?;
+    failing(&mut out)?;
+    text(&mut out, b"refusals\n")?;
+    products(&mut out)?;
+    claims(&mut out)?;
+    out.flush()
 }

@@ -1,28 +1,50 @@
 // The program's arguments: none, `full`, `change K` or `modes WORD`.
+ghost use Rattle.std.specs.Prelude.{◌≤◌, length};
+
 use super::modes;
-use check::same;
+use std::env::{Env, FillError};
 
 // No step of a run has this number.
 const NEVER: u64 = 4294967297;
 
-#[derive(Drop)]
+#[derive(Clone, Copy)]
 pub struct Plan {
     // Whether the arguments are known, and then the letters of the steps (`modes`).
     pub known: bool,
     pub letters: [u8; 17],
 }
 
-#[derive(Drop)]
+#[derive(Clone, Copy)]
 enum Number {
     Is(u64),
     Nothing,
 }
 
-pub(crate) fn read() -> Plan {
-    let count = os::arg_count();
-    let mut word = io::buffer();
-    let size = os::arg(1, &mut word);
-    plan_of(count, &word[..size])
+pub(crate) fn read<R: Env>(rt: &R) -> Plan {
+    let mut word = [0u8; 4096];
+    let size = argument(rt, 1, &mut word);
+    plan_of(rt, count_to_four(rt), &word[..size])
+}
+
+// How many arguments the program was started with, its own name among them; 4 where they are more.
+fn count_to_four<R: Env>(rt: &R) -> usize {
+    let mut word = [0u8; 1];
+    for i in 0..4 {
+        if let Err(FillError::NotPresent) = rt.arg(i, &mut word) {
+            return i;
+        }
+    }
+    4
+}
+
+// Puts argument i at the start of the buffer and returns its length, 0 where it is missing or longer than the buffer.
+fn argument<R: Env>(rt: &R, i: usize, word: &mut [u8]) -> usize
+    ensures { result ≤ length word.new }
+{
+    match rt.arg(i, word) {
+        Ok(size) => size,
+        Err(_) => 0,
+    }
 }
 
 fn known(letters: [u8; 17]) -> Plan {
@@ -44,7 +66,7 @@ fn changing(step: u64) -> Plan {
     known(modes::letters_of(b"s", step))
 }
 
-fn plan_of(count: usize, word: &[u8]) -> Plan {
+fn plan_of<R: Env>(rt: &R, count: usize, word: &[u8]) -> Plan {
     if count < 2 {
         return changing(NEVER);
     }
@@ -52,27 +74,27 @@ fn plan_of(count: usize, word: &[u8]) -> Plan {
         return read_full(word);
     }
     if count == 3 {
-        return read_two(word);
+        return read_two(rt, word);
     }
     unknown()
 }
 
 fn read_full(word: &[u8]) -> Plan {
-    if same(word, b"full") {
+    if word == b"full".as_slice() {
         return changing(0);
     }
     unknown()
 }
 
 // Linux hands a program no longer argument than the buffer holds.
-fn read_two(word: &[u8]) -> Plan {
+fn read_two<R: Env>(rt: &R, word: &[u8]) -> Plan {
     let mut second = [0u8; 131072];
-    let size = os::arg(2, &mut second);
+    let size = argument(rt, 2, &mut second);
     read_second(word, &second[..size])
 }
 
 fn read_second(word: &[u8], second: &[u8]) -> Plan {
-    if same(word, b"modes") {
+    if word == b"modes".as_slice() {
         return read_modes(second);
     }
     read_change(word, second)
@@ -86,7 +108,7 @@ fn read_modes(word: &[u8]) -> Plan {
 }
 
 fn read_change(word: &[u8], number: &[u8]) -> Plan {
-    if same(word, b"change") {} else {
+    if word != b"change".as_slice() {
         return unknown();
     }
     match decimal(number) {

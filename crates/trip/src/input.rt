@@ -1,6 +1,6 @@
 // The two files, and which of the refusals 1 to 6 and 18 they deserve.
 ghost use Rattle.std.specs.Prelude.{◌≡◌, ◌*◌, ◌≤◌, length};
-ghost use Rattle.io.specs.Counts.{IsPrefixLen};
+ghost use Rattle.std.specs.Io.{ReadsAtMost};
 ghost use Rattle.field.specs.Modulus.{modulus};
 ghost use Rattle.vector.specs.Slice.{every, is_nonzero};
 ghost use Rattle.wire.specs.Number.{word_at};
@@ -8,13 +8,16 @@ ghost use Rattle.wire.specs.Log.{head_with};
 ghost use Rattle.trip.specs.Input.{read_limited, read_numbers, read_trip, input_of, number_at};
 
 use field::{Checked, Field};
+use std::fs::Files;
+use std::io::Read;
+use std::{fs, io};
 use wire::log::LogRead;
 use wire::words::word_at;
 
 // The program's own limit on L.
 const LIMIT: u32 = 4096;
 
-#[derive(Drop)]
+#[derive(Clone, Copy)]
 pub enum Input {
     // Good files, with L and the version of the readings.
     Items(u32, u32),
@@ -22,16 +25,28 @@ pub enum Input {
 }
 
 // The first bytes of the file, as many as fit; none where it cannot be opened.
-pub(crate) fn read_file(path: &[u8], bytes: &mut [u8]) -> usize
-    ensures { IsPrefixLen result bytes.new }
+pub(crate) fn read_file<R: Files>(rt: &R, path: &str, bytes: &mut [u8]) -> io::Result<usize>
+    ensures { ReadsAtMost result bytes.new }
 {
-    let file = os::open_read(path);
-    if file < 0 {
-        return 0;
+    match fs::open(rt, path) {
+        Ok(mut file) => read_full(&mut file, bytes),
+        Err(_) => Ok(0),
     }
-    let size = io::read_full(file, bytes);
-    libc::close(file);
-    size
+}
+
+// Reads until the buffer is full or the file ends.
+fn read_full<R: Read>(file: &mut R, bytes: &mut [u8]) -> io::Result<usize>
+    ensures { ReadsAtMost result bytes.new }
+{
+    let mut size = 0;
+    while size < bytes.len() {
+        let read = file.read(&mut bytes[size..])?;
+        if read == 0 {
+            break;
+        }
+        size += read;
+    }
+    Ok(size)
 }
 
 pub(crate) fn check(log: &[u8], numbers: &[u8]) -> Input

@@ -1,3 +1,4 @@
+#![tactic(auto)]
 // Document 01's program: proves the trip of trip.rvl with the challenges and the point of trip.rvc, and has the verifier judge it.
 mod arguments;
 mod input;
@@ -8,36 +9,48 @@ mod verifying;
 
 use input::Input;
 use prover::{Answer, Run, Step};
+use std::fs::Files;
+use std::io;
+use std::io::{BufWriter, Write};
 use verifier::Verdict;
 
-fn main() {
-    let plan = arguments::read();
+fn main(rt: HostRuntime) -> io::Result<()> {
+    let plan = arguments::read(&rt);
     if plan.known {
         let modes = plan.letters;
-        trip(&modes);
+        let mut out = BufWriter::new(rt.alloc(), io::writer(&rt))?;
+        trip(&rt, &mut out, &modes)?;
+        out.flush()
     } else {
-        output::usage();
+        output::usage(&mut rt.stderr())
     }
 }
 
 // Each buffer is longer than the longest good file, so that no file is cut to a good one.
-fn trip(modes: &[u8]) {
+fn trip<R: Files, W: Write>(rt: &R, out: &mut W, modes: &[u8]) -> io::Result<()> {
     let mut log = [0u8; 24584];
-    let log_size = input::read_file(b"trip.rvl", &mut log);
+    let log_size = input::read_file(rt, "trip.rvl", &mut log)?;
     let mut numbers = [0u8; 64];
-    let numbers_size = input::read_file(b"trip.rvc", &mut numbers);
-    judge(&log[..log_size], &numbers[..numbers_size], modes);
+    let numbers_size = input::read_file(rt, "trip.rvc", &mut numbers)?;
+    judge(out, &log[..log_size], &numbers[..numbers_size], modes)
 }
 
-fn judge(log: &[u8], numbers: &[u8], modes: &[u8]) {
+fn judge<W: Write>(out: &mut W, log: &[u8], numbers: &[u8], modes: &[u8]) -> io::Result<()> {
     match input::check(log, numbers) {
-        Input::Items(items, version) => prove(log, numbers, items, version, modes),
-        Input::Refused(number) => output::refused(number),
+        Input::Items(items, version) => prove(out, log, numbers, items, version, modes),
+        Input::Refused(number) => output::refused(out, number),
     }
 }
 
 // The last call of a run is answered only where all before it were; nothing is printed before.
-fn prove(log: &[u8], numbers: &[u8], items: u32, version: u32, modes: &[u8]) {
+fn prove<W: Write>(
+    out: &mut W,
+    log: &[u8],
+    numbers: &[u8],
+    items: u32,
+    version: u32,
+    modes: &[u8],
+) -> io::Result<()> {
     let mut f = [0u32; 4096];
     let mut g = [0u32; 4096];
     let step = proving::prove(
@@ -50,18 +63,18 @@ fn prove(log: &[u8], numbers: &[u8], items: u32, version: u32, modes: &[u8]) {
     );
     let answer = step.answer;
     match answer {
-        Answer::Refused(number) => output::refused(number),
-        Answer::Ends(_, _) => report(step, log, numbers),
-        Answer::Opening => report(step, log, numbers),
-        _ => output::rejected(),
+        Answer::Refused(number) => output::refused(out, number),
+        Answer::Ends(_, _) => report(out, step, log, numbers),
+        Answer::Opening => report(out, step, log, numbers),
+        _ => output::rejected(out),
     }
 }
 
-fn report(step: Step, log: &[u8], numbers: &[u8]) {
-    output::report(step);
+fn report<W: Write>(out: &mut W, step: Step, log: &[u8], numbers: &[u8]) -> io::Result<()> {
+    output::report(out, step)?;
     match verifying::verify(step.run, log, numbers) {
-        Verdict::Yes => output::accepted(),
-        Verdict::No(_) => output::rejected(),
-        Verdict::Refused(_) => output::rejected(),
+        Verdict::Yes => output::accepted(out),
+        Verdict::No(_) => output::rejected(out),
+        Verdict::Refused(_) => output::rejected(out),
     }
 }

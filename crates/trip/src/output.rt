@@ -2,100 +2,106 @@
 ghost use Rattle.std.specs.Prelude.{◌≤◌};
 
 use super::verifying::count;
-use libc::{STDERR_FILENO, STDOUT_FILENO};
 use prover::Step;
+use std::io;
+use std::io::Write;
 
-pub(crate) fn usage() {
-    io::write_all(
-        STDERR_FILENO,
-        b"usage: trip [full | change K | modes WORD]\n",
-    );
+pub(crate) fn usage<W: Write>(err: &mut W) -> io::Result<()> {
+    text(err, b"usage: trip [full | change K | modes WORD]\n")
 }
 
-pub(crate) fn refused(k: u8) {
-    text(b"refused");
-    number(k as u32);
-    text(b"\n");
+pub(crate) fn refused<W: Write>(out: &mut W, k: u8) -> io::Result<()> {
+    text(out, b"refused")?;
+    number(out, k as u32)?;
+    text(out, b"\n")
 }
 
-pub(crate) fn accepted() {
-    text(b"accepted\n");
+pub(crate) fn accepted<W: Write>(out: &mut W) -> io::Result<()> {
+    text(out, b"accepted\n")
 }
 
-pub(crate) fn rejected() {
-    text(b"rejected\n");
+pub(crate) fn rejected<W: Write>(out: &mut W) -> io::Result<()> {
+    text(out, b"rejected\n")
 }
 
 // A run that gave its ends, and the values of its opening.
-pub(crate) fn report(step: Step) {
+pub(crate) fn report<W: Write>(out: &mut W, step: Step) -> io::Result<()> {
     let run = step.run;
     let messages = run.messages;
     let values = step.values;
     let n = count(run.start.rounds);
-    total(run.total);
-    rounds(messages, n);
-    ends(run.fend, run.gend);
-    opening(b"open f", values, 0, n);
-    opening(b"open g", values, 3 * n, n);
+    total(out, run.total)?;
+    rounds(out, messages, n)?;
+    ends(out, run.fend, run.gend)?;
+    opening(out, b"open f", values, 0, n)?;
+    opening(out, b"open g", values, 3 * n, n)
 }
 
-fn total(total: i64) {
+fn total<W: Write>(out: &mut W, total: i64) -> io::Result<()> {
     if field::integer::is_negative(total) {
-        text(b"total -");
+        text(out, b"total -")?;
     } else {
-        text(b"total ");
+        text(out, b"total ")?;
     }
-    io::print_decimal(STDOUT_FILENO, field::integer::magnitude(total));
-    text(b"\n");
+    let size = field::integer::magnitude(total);
+    write!(out, "{size}")?;
+    text(out, b"\n")
 }
 
-fn rounds(messages: [u32; 45], n: usize)
+fn rounds<W: Write>(out: &mut W, messages: [u32; 45], n: usize) -> io::Result<()>
     requires { n ≤ 15 }
 {
     let mut i: usize = 0;
     while i < n {
         let at = 3 * i;
-        text(b"round");
-        number(i as u32);
-        three(messages[at], messages[at + 1], messages[at + 2]);
+        text(out, b"round")?;
+        number(out, i as u32)?;
+        three(out, messages[at], messages[at + 1], messages[at + 2])?;
         i += 1;
     }
+    Ok(())
 }
 
-fn ends(f: u32, g: u32) {
-    text(b"ends");
-    number(f);
-    number(g);
-    text(b"\n");
+fn ends<W: Write>(out: &mut W, f: u32, g: u32) -> io::Result<()> {
+    text(out, b"ends")?;
+    number(out, f)?;
+    number(out, g)?;
+    text(out, b"\n")
 }
 
 // The values of one vector.
-fn opening(label: &[u8], values: [u32; 90], from: usize, n: usize)
+fn opening<W: Write>(
+    out: &mut W,
+    label: &[u8],
+    values: [u32; 90],
+    from: usize,
+    n: usize,
+) -> io::Result<()>
     requires { (n ≤ 15) × (from ≤ 45) }
 {
     let mut j: usize = 0;
     while j < n {
         let at = from + 3 * j;
-        text(label);
-        number((j + 1) as u32);
-        three(values[at], values[at + 1], values[at + 2]);
+        text(out, label)?;
+        number(out, (j + 1) as u32)?;
+        three(out, values[at], values[at + 1], values[at + 2])?;
         j += 1;
     }
+    Ok(())
 }
 
 // The rest of a line.
-fn three(a: u32, b: u32, c: u32) {
-    number(a);
-    number(b);
-    number(c);
-    text(b"\n");
+fn three<W: Write>(out: &mut W, a: u32, b: u32, c: u32) -> io::Result<()> {
+    number(out, a)?;
+    number(out, b)?;
+    number(out, c)?;
+    text(out, b"\n")
 }
 
-fn number(x: u32) {
-    text(b" ");
-    io::print_decimal(STDOUT_FILENO, x as u64);
+fn number<W: Write>(out: &mut W, x: u32) -> io::Result<()> {
+    write!(out, " {x}")
 }
 
-fn text(bytes: &[u8]) {
-    io::write_all(STDOUT_FILENO, bytes);
+fn text<W: Write>(out: &mut W, bytes: &[u8]) -> io::Result<()> {
+    out.write_all(bytes)
 }

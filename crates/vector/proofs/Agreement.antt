@@ -1,17 +1,15 @@
 -- A slice whose first places are the first items of a vector: what the functions on slices give is that of the vector.
 use mathlib.Core.List.{List}
-use mathlib.Core.Path.{◌≡◌, ap, ap₂, ◌∙◌}
+use mathlib.Core.Path.{◌≡◌, ap₂, ◌∙◌}
 use Prim.Native.Nat.{ℕ, suc, ◌+◌, ◌*◌, ◌≤◌, ◌<◌}
 use native.Mathlib.Omega.{arith}
 use borrow.Author.Tests.{le-leb}
 use lib.ListN.{length}
-use Rattle.algebra.specs.Mod.{residue}
-use Rattle.vector.specs.Vector.{Vector, at, dot, weight}
+use Rattle.vector.specs.Vector.{Vector, at, weight}
 use Rattle.vector.specs.Fold.{combine, fold, fold_with}
 use Rattle.vector.specs.Message.{message_of}
 use Rattle.vector.specs.Opening.{evaluate}
 use Rattle.vector.specs.Slice.{fold_slice, message_slice, evaluate_slice, fifteen}
-use Rattle.vector.proofs.Sums.{sum_same}
 use Rattle.vector.proofs.Messages.{message-same}
 use Rattle.vector.proofs.Horner.{evaluate-same}
 use Rattle.vector.proofs.Weights.{weight-challenges}

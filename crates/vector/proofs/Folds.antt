@@ -6,7 +6,7 @@ use native.Mathlib.Omega.{arith}
 use Rattle.algebra.specs.Mod.{residue, add_mod}
 use Rattle.algebra.proofs.Congruence.{residue-twice}
 use Rattle.vector.specs.Vector.{Vector}
-use Rattle.vector.specs.Fold.{fold_with, combine, fold, combine_pair, beside}
+use Rattle.vector.specs.Fold.{fold_with, fold, combine_pair, beside}
 
 module _ {A : Type 0} (combine : ℕ → A → A → A) where
   -- fold j uses the challenges below j

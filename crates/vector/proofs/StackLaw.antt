@@ -5,7 +5,7 @@ use Prim.Native.Nat.{ℕ, zero, suc, ◌+◌, ◌-◌, ◌/◌, ◌^◌, ◌<◌
 use native.Mathlib.Nat.{div-one, zero-div}
 use native.Mathlib.Omega.{arith}
 use Rattle.vector.specs.Rounds.{size}
-use Rattle.vector.specs.Fold.{fold_with, combine}
+use Rattle.vector.specs.Fold.{fold_with}
 use Rattle.vector.specs.Stack.{Stack, backwards, entry_on, entries_from, entries}
 use Rattle.vector.proofs.Rounds.{size-all, size-last, size-halves}
 use Rattle.vector.proofs.Counts.{completes_zero}

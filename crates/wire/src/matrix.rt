@@ -20,7 +20,7 @@ const COLUMN: usize = 2;
 
 const VALUE: usize = 4;
 
-#[derive(Drop)]
+#[derive(Clone, Copy)]
 pub enum MatrixRead {
     // A good matrix: n and the count M.
     Matrix(u32, u32),
@@ -28,7 +28,7 @@ pub enum MatrixRead {
     RefusedAt(u8, u32),
 }
 
-#[derive(Drop)]
+#[derive(Clone, Copy)]
 pub enum EntryRead {
     // Row, column and value.
     Entry(u32, u32, u32),

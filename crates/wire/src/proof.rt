@@ -11,28 +11,28 @@ use super::number::{bits32, get32, put32, signed32};
 use field::{Checked, Field};
 use refusal::{Check, pass_if};
 
-#[derive(Drop)]
+#[derive(Clone, Copy)]
 pub enum ProofRead {
     // A good proof: n and the total.
     Proof(u32, i64),
     Refused(u8),
 }
 
-#[derive(Drop)]
+#[derive(Clone, Copy)]
 pub enum MessageRead {
     // Even, cross and odd.
     Message(u32, u32, u32),
     Nothing,
 }
 
-#[derive(Drop)]
+#[derive(Clone, Copy)]
 pub enum EndsRead {
     // The end values of f and g.
     Ends(u32, u32),
     Nothing,
 }
 
-#[derive(Drop)]
+#[derive(Clone, Copy)]
 pub enum ProofWritten {
     // How many bytes the file has.
     Written(usize),

@@ -1,0 +1,10 @@
+use mathlib.Core.Path.{◌≡◌}
+use Prim.Native.Nat.{◌+◌, ◌≤◌}
+use Rattle.kernel.specs.Kernel.{padding_from}
+use Rattle.kernel.proofs.start.padding_below.Given as goal
+
+abbrev pub invariant-loop-level : goal.invariant-loop-level
+invariant-loop-level l = (l.level ≤ 16) × (l.k.fcount + l.level ≤ 16) × (l.k.gcount + l.level ≤ 16) × (padding_from l.taken l.level l.k ≡ padding_from l.taken l.initial.level l.initial.k)
+
+abbrev pub decreases-loop-level : goal.decreases-loop-level
+decreases-loop-level l = l.level
