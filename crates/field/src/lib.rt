@@ -36,6 +36,7 @@ impl Field {
     }
 
     // A number handed in to a call whose modulus is p.
+    #[tactic(auto, unfolding(crate::specs::Number::checked))]
     pub fn new_in(p: u32, x: u32) -> Checked
         ensures { result ≡ checked p x }
     {

@@ -15,6 +15,7 @@ pub fn limit(p: u32) -> i64
 }
 
 // Whether the total is within both limits.
+#[tactic(auto, unfolding(crate::specs::Total::in_limits))]
 pub fn within(p: u32, total: i64) -> bool
     ensures { result ≡ in_limits p total }
 {

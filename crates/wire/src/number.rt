@@ -44,6 +44,7 @@ pub(crate) fn put32(s: &mut [u8], at: usize, v: u32)
 }
 
 // Two's complement: a cast would ask that the number is in the lower half.
+#[tactic(auto, unfolding(crate::specs::Number::signed))]
 pub(crate) fn signed16(v: u32) -> i32
     requires { v < 65536 }
     ensures { result ≡ signed 2 v }
