@@ -9,12 +9,12 @@ mod verifying;
 use records::Record;
 use records::parts::within_bytes;
 use std::io;
-use std::io::{BufWriter, ErrorKind, Read, Write};
+use std::io::{ErrorKind, Read, Write};
 
 fn main(rt: HostRuntime) -> io::Result<()> {
-    let mut out = BufWriter::new(rt.alloc(), io::writer(&rt))?;
+    let mut out = rt.stdout();
     let mut bytes = [0u8; 16];
-    match rt.reader().read_exact(&mut bytes) {
+    match rt.stdin().read_exact(&mut bytes) {
         Ok(()) => {}
         Err(e) if e.kind() == ErrorKind::UnexpectedEof => return Ok(()),
         Err(e) => return Err(e),
@@ -28,8 +28,7 @@ fn main(rt: HostRuntime) -> io::Result<()> {
         &mut block,
         &mut f,
         &mut g,
-    )?;
-    out.flush()
+    )
 }
 
 fn bench<W: Write>(

@@ -6,7 +6,7 @@ mod output;
 mod run;
 
 use output::{six, three, verdict};
-use std::io::{self, BufWriter, Write};
+use std::io::{self, Write};
 use verifier::{Verdict, Verifier};
 
 fn combined<W: Write>(out: &mut W) -> io::Result<()> {
@@ -80,7 +80,7 @@ fn refusals<W: Write>(out: &mut W) -> io::Result<()> {
 }
 
 fn main(rt: HostRuntime) -> io::Result<()> {
-    let mut out = BufWriter::new(rt.alloc(), io::writer(&rt))?;
+    let mut out = rt.stdout();
     let mut f = [0u32; 4];
     let mut g = [0u32; 4];
     combined(&mut out)?;
@@ -92,6 +92,5 @@ fn main(rt: HostRuntime) -> io::Result<()> {
     let again = changing(&mut out, &mut f, &mut g)?;
     six(&mut out, b"after the return", again)?;
     checks(&mut out, values, own)?;
-    refusals(&mut out)?;
-    out.flush()
+    refusals(&mut out)
 }

@@ -9,13 +9,11 @@ mod rounds;
 mod trip;
 
 use std::io;
-use std::io::{BufWriter, Write};
 
 fn main(rt: HostRuntime) -> io::Result<()> {
-    let mut out = BufWriter::new(rt.alloc(), io::writer(&rt))?;
+    let mut out = rt.stdout();
     trip::lines(&mut out)?;
     numbers::lines(&mut out)?;
     limits::lines(&mut out)?;
-    rounds::lines(&mut out)?;
-    out.flush()
+    rounds::lines(&mut out)
 }

@@ -17,14 +17,12 @@ mod verifying;
 use ops::kind_of;
 use record::Read;
 use std::io;
-use std::io::{BufReader, BufWriter, Write};
+use std::io::Write;
 
 fn main(rt: HostRuntime) -> io::Result<()> {
-    let mut input = BufReader::new(rt.alloc(), rt.reader())?;
-    let mut out = BufWriter::new(rt.alloc(), io::writer(&rt))?;
     let mut f = [0u32; 4096];
     let mut g = [0u32; 4096];
-    replay(&mut input, &mut out, &mut f, &mut g)
+    replay(&mut rt.stdin(), &mut rt.stdout(), &mut f, &mut g)
 }
 
 // A proved loop has to end, and nothing says that the input does: the count is one that no run uses up. Each op is one of the three's,
@@ -46,8 +44,6 @@ fn replay<R: io::Read, W: Write>(
         h = state::call(out, h, kind, r, f, g)?;
         p = proving::call(out, p, h, kind, r, f, g)?;
         j = verifying::call(out, j, h, p.proof, kind, r)?;
-        // A host may wait for the answer before it makes the next call.
-        out.flush()?;
     }
     Ok(())
 }

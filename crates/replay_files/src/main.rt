@@ -12,14 +12,12 @@ use record::Read;
 use records::Record;
 use state::State;
 use std::io;
-use std::io::{BufReader, BufWriter, Write};
+use std::io::Write;
 
 fn main(rt: HostRuntime) -> io::Result<()> {
-    let mut input = BufReader::new(rt.alloc(), rt.reader())?;
-    let mut out = BufWriter::new(rt.alloc(), io::writer(&rt))?;
     let mut f = [0u32; 4096];
     let mut g = [0u32; 4096];
-    replay(&mut input, &mut out, &mut f, &mut g)
+    replay(&mut rt.stdin(), &mut rt.stdout(), &mut f, &mut g)
 }
 
 // A proved loop has to end, and nothing says that the input does: the count is one that no run uses up.
@@ -35,8 +33,6 @@ fn replay<R: io::Read, W: Write>(
             return Ok(());
         };
         s = call(out, s, r, f, g)?;
-        // A host may wait for the answer before it makes the next call.
-        out.flush()?;
     }
     Ok(())
 }

@@ -3,7 +3,7 @@
 // z is 1, x, x², x³ for x = 3. The rules are x · x = x², x² · x = x³ and (x³ - x²) · 1 = 18; the fourth row is empty.
 use prover::{Answer, Run, Step};
 use r1cs::{Claimed, Multiplied};
-use std::io::{self, BufWriter, Write};
+use std::io::{self, Write};
 use vector::Message;
 use verifier::{Verdict, Verifier};
 
@@ -322,13 +322,12 @@ fn claims<W: Write>(out: &mut W) -> io::Result<()> {
 }
 
 fn main(rt: HostRuntime) -> io::Result<()> {
-    let mut out = BufWriter::new(rt.alloc(), io::writer(&rt))?;
+    let mut out = rt.stdout();
     text(&mut out, b"rules that hold\n")?;
     holding(&mut out)?;
     text(&mut out, b"a row that fails\n")?;
     failing(&mut out)?;
     text(&mut out, b"refusals\n")?;
     products(&mut out)?;
-    claims(&mut out)?;
-    out.flush()
+    claims(&mut out)
 }

@@ -11,16 +11,14 @@ use input::Input;
 use prover::{Answer, Run, Step};
 use std::fs::Files;
 use std::io;
-use std::io::{BufWriter, Write};
+use std::io::Write;
 use verifier::Verdict;
 
 fn main(rt: HostRuntime) -> io::Result<()> {
     let plan = arguments::read(&rt);
     if plan.known {
         let modes = plan.letters;
-        let mut out = BufWriter::new(rt.alloc(), io::writer(&rt))?;
-        trip(&rt, &mut out, &modes)?;
-        out.flush()
+        trip(&rt, &mut rt.stdout(), &modes)
     } else {
         output::usage(&mut rt.stderr())
     }

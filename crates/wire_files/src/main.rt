@@ -2,7 +2,7 @@
 #![tactic(auto)]
 
 use std::io;
-use std::io::{BufWriter, Write};
+use std::io::Write;
 use wire::log::{ItemRead, LogRead};
 use wire::matrix::{EntryRead, MatrixRead};
 use wire::proof::{EndsRead, MessageRead, ProofRead, ProofWritten};
@@ -380,11 +380,10 @@ fn matrices<W: Write>(out: &mut W) -> io::Result<()> {
 }
 
 fn main(rt: HostRuntime) -> io::Result<()> {
-    let mut out = BufWriter::new(rt.alloc(), io::writer(&rt))?;
+    let mut out = rt.stdout();
     logs(&mut out)?;
     fine_logs(&mut out)?;
     proofs(&mut out)?;
     writes(&mut out)?;
-    matrices(&mut out)?;
-    out.flush()
+    matrices(&mut out)
 }
