@@ -47,30 +47,30 @@ mul_mod_lem : (q a b : ℕ) → (a * (b % q)) % q ≡ (a * b) % q
 mul_mod_lem q a b = ap (λ x. x % q) (mul_comm a (b % q)) ∙ mod_mul q b a ∙ ap (λ x. x % q) (mul_comm b a)
 
 module _ {p : ℕ} where
-  pub cong-refl : (a : ℕ) → Cong p a a
-  cong-refl a = record { residues = refl }
+  pub cong_refl : (a : ℕ) → Cong p a a
+  cong_refl a = record { residues = refl }
 
-  pub cong-sym : {a b : ℕ} → Cong p a b → Cong p b a
-  cong-sym e = record { residues = sym e.residues }
+  pub cong_sym : {a b : ℕ} → Cong p a b → Cong p b a
+  cong_sym e = record { residues = sym e.residues }
 
-  pub cong-trans : {a b c : ℕ} → Cong p a b → Cong p b c → Cong p a c
-  cong-trans e f = record { residues = e.residues ∙ f.residues }
+  pub cong_trans : {a b c : ℕ} → Cong p a b → Cong p b c → Cong p a c
+  cong_trans e f = record { residues = e.residues ∙ f.residues }
 
-  pub cong-eq : {a b : ℕ} → a ≡ b → Cong p a b
-  cong-eq e = record { residues = ap (residue p) e }
+  pub cong_eq : {a b : ℕ} → a ≡ b → Cong p a b
+  cong_eq e = record { residues = ap (residue p) e }
 
-  pub cong-residue : (a : ℕ) → Cong p (residue p a) a
-  cong-residue a = record { residues = residue-twice p a }
+  pub cong_residue : (a : ℕ) → Cong p (residue p a) a
+  cong_residue a = record { residues = residue-twice p a }
 
-  pub cong-add : {a b c d : ℕ} → Cong p a b → Cong p c d → Cong p (a + c) (b + d)
+  pub cong_add : {a b c d : ℕ} → Cong p a b → Cong p c d → Cong p (a + c) (b + d)
   unfolding residue
-  cong-add {a} {b} {c} {d} e f =
+  cong_add {a} {b} {c} {d} e f =
       let q = base p in
       record { residues = add-mod a c q ∙ ap₂ (λ u v. (u + v) % q) e.residues f.residues ∙ sym (add-mod b d q) }
 
-  pub cong-mul : {a b c d : ℕ} → Cong p a b → Cong p c d → Cong p (a * c) (b * d)
+  pub cong_mul : {a b c d : ℕ} → Cong p a b → Cong p c d → Cong p (a * c) (b * d)
   unfolding residue
-  cong-mul {a} {b} {c} {d} e f =
+  cong_mul {a} {b} {c} {d} e f =
       let q = base p in
       record {
         residues =
@@ -80,47 +80,47 @@ module _ {p : ℕ} where
       }
 
   -- two reduced numbers that are congruent are equal
-  pub cong-reduced : {a b : ℕ} → a < base p → b < base p → Cong p a b → a ≡ b
-  cong-reduced {a} {b} ha hb e = sym (residue-small p a ha) ∙ e.residues ∙ residue-small p b hb
+  pub cong_reduced : {a b : ℕ} → a < base p → b < base p → Cong p a b → a ≡ b
+  cong_reduced {a} {b} ha hb e = sym (residue-small p a ha) ∙ e.residues ∙ residue-small p b hb
 
   -- the whole modulus less a residue takes the number away
   base-off : (a k : ℕ) → Cong p (a + k + (base p - residue p k)) a
   unfolding residue
   base-off a k =
       let q = base p in
-      cong-trans (cong-eq (add_assoc a k (q - k % q)))
-      (cong-trans
-      (cong-add (cong-refl a) (record { residues = sym (mod-add-mod k q (q - k % q)) ∙ ap (λ x. x % q) (add-sub_of_le (le_of_lt (mod-lt k (base-pos p)))) }))
+      cong_trans (cong_eq (add_assoc a k (q - k % q)))
+      (cong_trans
+      (cong_add (cong_refl a) (record { residues = sym (mod-add-mod k q (q - k % q)) ∙ ap (λ x. x % q) (add-sub_of_le (le_of_lt (mod-lt k (base-pos p)))) }))
       (record { residues = add-mod_right a q }))
 
-  pub cong-cancel : {a b : ℕ} (k : ℕ) → Cong p (a + k) (b + k) → Cong p a b
-  cong-cancel {a} {b} k e =
-      cong-trans (cong-sym (base-off a k)) (cong-trans (cong-add e (cong-refl (base p - residue p k))) (base-off b k))
+  pub cong_cancel : {a b : ℕ} (k : ℕ) → Cong p (a + k) (b + k) → Cong p a b
+  cong_cancel {a} {b} k e =
+      cong_trans (cong_sym (base-off a k)) (cong_trans (cong_add e (cong_refl (base p - residue p k))) (base-off b k))
 
   pub add_cong : (a b : ℕ) → Cong p (add_mod p a b) (a + b)
   unfolding add_mod
-  add_cong a b = cong-residue (a + b)
+  add_cong a b = cong_residue (a + b)
 
-  pub mul-cong : (a b : ℕ) → Cong p (mul_mod p a b) (a * b)
+  pub mul_cong : (a b : ℕ) → Cong p (mul_mod p a b) (a * b)
   unfolding mul_mod
-  mul-cong a b = cong-residue (a * b)
+  mul_cong a b = cong_residue (a * b)
 
-  pub neg-cong : (a : ℕ) → Cong p (neg_mod p a + a) 0
+  pub neg_cong : (a : ℕ) → Cong p (neg_mod p a + a) 0
   unfolding neg_mod
-  neg-cong a =
-      cong-trans (cong-add (cong-residue (base p - residue p a)) (cong-refl a))
-      (cong-trans (cong-eq (omega arith)) (base-off 0 a))
+  neg_cong a =
+      cong_trans (cong_add (cong_residue (base p - residue p a)) (cong_refl a))
+      (cong_trans (cong_eq (omega arith)) (base-off 0 a))
 
-  pub sub-cong : (a b : ℕ) → Cong p (sub_mod p a b) (a + neg_mod p b)
+  pub sub_cong : (a b : ℕ) → Cong p (sub_mod p a b) (a + neg_mod p b)
   unfolding sub_mod neg_mod
-  sub-cong a b =
-      cong-trans (cong-residue (a + (base p - residue p b)))
-      (cong-add (cong-refl a) (cong-sym (cong-residue (base p - residue p b))))
+  sub_cong a b =
+      cong_trans (cong_residue (a + (base p - residue p b)))
+      (cong_add (cong_refl a) (cong_sym (cong_residue (base p - residue p b))))
 
 -- the modulus is congruent to 0
 pub cong_modulus : (p : ℕ) → Cong p p 0
 unfolding residue
-cong_modulus zero = cong-refl 0
+cong_modulus zero = cong_refl 0
 cong_modulus (suc q) =
     let p = suc q in
     record { residues = ap (λ b. p % b) (base-of p (omega arith)) ∙ mod_self p ∙ sym (zero-mod (base p)) }

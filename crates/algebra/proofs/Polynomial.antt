@@ -62,15 +62,15 @@ both false true h = absurd h
 both false false h = absurd h
 
 module _ (env : ℕ → ℕ) where
-  pub addC-ok : (i k : ℕ) (q : Pol) → val env i (add_c k q) ≡ k + val env i q
-  addC-ok i k (con l) = refl
-  addC-ok i k (hor c q) = omega (arith, addC-ok (suc i) k c)
+  pub add_c-ok : (i k : ℕ) (q : Pol) → val env i (add_c k q) ≡ k + val env i q
+  add_c-ok i k (con l) = refl
+  add_c-ok i k (hor c q) = omega (arith, add_c-ok (suc i) k c)
 
-  pub addP-ok : (i : ℕ) (a b : Pol) → val env i (add_p a b) ≡ val env i a + val env i b
-  addP-ok i (con k) b = addC-ok i k b
-  addP-ok i (hor c q) (con k) = omega (arith, addC-ok (suc i) k c)
-  addP-ok i (hor c q) (hor c' q') =
-      omega (arith, addP-ok (suc i) c c', ap (λ v. env i * v) (addP-ok i q q') ∙ mul-add (env i) (val env i q) (val env i q'))
+  pub add_p-ok : (i : ℕ) (a b : Pol) → val env i (add_p a b) ≡ val env i a + val env i b
+  add_p-ok i (con k) b = add_c-ok i k b
+  add_p-ok i (hor c q) (con k) = omega (arith, add_c-ok (suc i) k c)
+  add_p-ok i (hor c q) (hor c' q') =
+      omega (arith, add_p-ok (suc i) c c', ap (λ v. env i * v) (add_p-ok i q q') ∙ mul-add (env i) (val env i q) (val env i q'))
 
   pub times-ok : (i k : ℕ) (q : Pol) → val env i (times k q) ≡ k * val env i q
   times-ok i k (con l) = refl
@@ -87,29 +87,29 @@ module _ (env : ℕ → ℕ) where
   under-ok i f c h (hor c' q) =
       omega (arith, h c', ap (λ v. env i * v) (under-ok i f c h q) ∙ mul_left_comm (env i) (val env (suc i) c) (val env i q), mul-add (val env (suc i) c) (val env (suc i) c') (env i * val env i q))
 
-  pub mulP-ok : (i : ℕ) (a b : Pol) → val env i (mul_p a b) ≡ val env i a * val env i b
-  mulP-ok i (con k) b = scale_ok i k b
-  mulP-ok i (hor c p) (con l) = scale_ok i l (hor c p) ∙ mul_comm l (val env i (hor c p))
-  mulP-ok i (hor c p) (hor c' q) =
+  pub mul_p-ok : (i : ℕ) (a b : Pol) → val env i (mul_p a b) ≡ val env i a * val env i b
+  mul_p-ok i (con k) b = scale_ok i k b
+  mul_p-ok i (hor c p) (con l) = scale_ok i l (hor c p) ∙ mul_comm l (val env i (hor c p))
+  mul_p-ok i (hor c p) (hor c' q) =
       let w = val env i (hor c' q) in
-      addP-ok i (under (mul_p c) c (hor c' q)) (hor (con zero) (mul_p p (hor c' q)))
-      ∙ ap₂ ◌+◌ (under-ok i (mul_p c) c (λ d. mulP-ok (suc i) c d) (hor c' q))
-      (zero-add (env i * val env i (mul_p p (hor c' q))) ∙ ap (λ v. env i * v) (mulP-ok i p (hor c' q)) ∙ sym (mul_assoc (env i) (val env i p) w))
+      add_p-ok i (under (mul_p c) c (hor c' q)) (hor (con zero) (mul_p p (hor c' q)))
+      ∙ ap₂ ◌+◌ (under-ok i (mul_p c) c (λ d. mul_p-ok (suc i) c d) (hor c' q))
+      (zero-add (env i * val env i (mul_p p (hor c' q))) ∙ ap (λ v. env i * v) (mul_p-ok i p (hor c' q)) ∙ sym (mul_assoc (env i) (val env i p) w))
       ∙ sym (add-mul (val env (suc i) c) (env i * val env i p) w)
 
-  pub eqC-ok : (i k : ℕ) (q : Pol) → T (eq_c k q) → k ≡ val env i q
-  eqC-ok i k (con l) t = eqb→eq k l t
-  eqC-ok i k (hor c q) t =
+  pub eq_c-ok : (i k : ℕ) (q : Pol) → T (eq_c k q) → k ≡ val env i q
+  eq_c-ok i k (con l) t = eqb→eq k l t
+  eq_c-ok i k (hor c q) t =
       let b = both (eq_c k c) (eq_c zero q) t in
-      omega (arith, eqC-ok (suc i) k c b.0, ap (λ v. env i * v) (sym (eqC-ok i zero q b.1)) ∙ mul-zero (env i))
+      omega (arith, eq_c-ok (suc i) k c b.0, ap (λ v. env i * v) (sym (eq_c-ok i zero q b.1)) ∙ mul-zero (env i))
 
-  pub eqP-ok : (i : ℕ) (a b : Pol) → T (eq_p a b) → val env i a ≡ val env i b
-  eqP-ok i (con k) b t = eqC-ok i k b t
-  eqP-ok i (hor c q) (con k) t = sym (eqC-ok i k (hor c q) t)
-  eqP-ok i (hor c q) (hor c' q') t =
+  pub eq_p-ok : (i : ℕ) (a b : Pol) → T (eq_p a b) → val env i a ≡ val env i b
+  eq_p-ok i (con k) b t = eq_c-ok i k b t
+  eq_p-ok i (hor c q) (con k) t = sym (eq_c-ok i k (hor c q) t)
+  eq_p-ok i (hor c q) (hor c' q') t =
       let b = both (eq_p c c') (eq_p q q') t in
-      ap₂ (λ u v. u + env i * v) (eqP-ok (suc i) c c' b.0) (eqP-ok i q q' b.1)
+      ap₂ (λ u v. u + env i * v) (eq_p-ok (suc i) c c' b.0) (eq_p-ok i q q' b.1)
 
-  pub varP-ok : (i j : ℕ) → val env i (var_p j) ≡ env (i + j)
-  varP-ok i zero = zero-add (env i * 1) ∙ mul-one (env i) ∙ ap env (sym (add-zero i))
-  varP-ok i (suc j) = ap₂ ◌+◌ (varP-ok (suc i) j) (mul-zero (env i)) ∙ add-zero (env (suc i + j)) ∙ ap env (omega arith)
+  pub var_p-ok : (i j : ℕ) → val env i (var_p j) ≡ env (i + j)
+  var_p-ok i zero = zero-add (env i * 1) ∙ mul-one (env i) ∙ ap env (sym (add-zero i))
+  var_p-ok i (suc j) = ap₂ ◌+◌ (var_p-ok (suc i) j) (mul-zero (env i)) ∙ add-zero (env (suc i + j)) ∙ ap env (omega arith)

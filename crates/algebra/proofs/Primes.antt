@@ -33,16 +33,16 @@ module _ (p d : ℕ) (lo : 1 < d) (hi : d < p) (e : p % d ≡ 0) where
   cofactor : d * (p / d) ≡ p
   cofactor = sym (add-zero (d * (p / d))) ∙ ap (λ n. d * (p / d) + n) (sym e) ∙ div-add-mod p d
 
-  cofactor-divides : p % (p / d) ≡ 0
-  cofactor-divides = ap (λ n. n % (p / d)) (sym cofactor ∙ mul_comm d (p / d)) ∙ mul-mod_right (p / d) d
+  cofactor_divides : p % (p / d) ≡ 0
+  cofactor_divides = ap (λ n. n % (p / d)) (sym cofactor ∙ mul_comm d (p / d)) ∙ mul-mod_right (p / d) d
 
-  cofactor-big : 1 < p / d
-  cofactor-big =
+  cofactor_big : 1 < p / d
+  cofactor_big =
       by_dec (dec_lt 1 (p / d)) (λ h. h)
       (λ h. let l : d * (p / d) ≤ d * 1 = mul-le-mul_left d (omega arith) in absurd (let m = cofactor in omega arith))
 
-  cofactor-small : (m : ℕ) → p < m * m → (d < m → ⊥) → p / d < m
-  cofactor-small m root u =
+  cofactor_small : (m : ℕ) → p < m * m → (d < m → ⊥) → p / d < m
+  cofactor_small m root u =
       by_dec (dec_lt (p / d) m) (λ h. h)
       (λ h. let l : m * m ≤ d * (p / d) = mul-le-mul (omega arith) (omega arith) in absurd (let f = cofactor in omega arith))
 
@@ -52,7 +52,7 @@ prime_by p k lo root t =
       big = lo;
       only = λ d l h e.
           by_dec (dec_lt d (k + 2)) (λ u. trial-ok p k d t l u e)
-          (λ u. trial-ok p k (p / d) t (cofactor-big p d l h e) (cofactor-small p d l h e (k + 2) root u) (cofactor-divides p d l h e));
+          (λ u. trial-ok p k (p / d) t (cofactor_big p d l h e) (cofactor_small p d l h e (k + 2) root u) (cofactor_divides p d l h e));
     }
 
 pub prime_31 : Prime 2147483647

@@ -1,9 +1,9 @@
 -- A decision by computation of the identities of commutative rings, for numbers modulo any p.
 -- An expression is the difference of two polynomials, so that nothing here subtracts.
 --   solve p env a b tt       : the values of a and b are equal, both being operations
---   solve-cong p env a b tt  : they are congruent
---   solve-from p env a b u tt: they are congruent by a linear combination u of congruences
---   solve-by p env a b u tt: they are equal by it, both being operations
+--   solve_cong p env a b tt  : they are congruent
+--   solve_from p env a b u tt: they are congruent by a linear combination u of congruences
+--   solve_by p env a b u tt: they are equal by it, both being operations
 use mathlib.Core.Path.{◌≡◌, refl, sym, ap, ap₂, ◌∙◌}
 use mathlib.Core.Bool.{Bool, true, false, ◌&&◌}
 use mathlib.Core.List.{List}
@@ -13,8 +13,8 @@ use native.Mathlib.Omega.{arith}
 use lib.ListN.{get_or}
 use lib.Dec.{T}
 use Rattle.algebra.specs.Mod.{base, residue, add_mod, neg_mod, sub_mod, mul_mod}
-use Rattle.algebra.proofs.Congruence.{Cong, cong-refl, cong-sym, cong-trans, cong-eq, cong-add, cong-mul, cong-cancel, add_cong, mul-cong, neg-cong, sub-cong, residue-twice}
-use Rattle.algebra.proofs.Polynomial.{Pol, con, val, add_p, mul_p, var_p, eq_p, both, addP-ok, mulP-ok, eqP-ok, varP-ok}
+use Rattle.algebra.proofs.Congruence.{Cong, cong_refl, cong_sym, cong_trans, cong_eq, cong_add, cong_mul, cong_cancel, add_cong, mul_cong, neg_cong, sub_cong, residue-twice}
+use Rattle.algebra.proofs.Polynomial.{Pol, con, val, add_p, mul_p, var_p, eq_p, both, add_p-ok, mul_p-ok, eq_p-ok, var_p-ok}
 
 pub data Expr : Type 0 where
   var : ℕ → Expr
@@ -81,59 +81,59 @@ module _ (p : ℕ) (env : ℕ → ℕ) where
   Is x d = Cong p (x + val env 0 d.minus) (val env 0 d.plus)
 
   regroup : {a b : ℕ} → a ≡ b → {c d : ℕ} → Cong p b c → c ≡ d → Cong p a d
-  regroup e c f = cong-trans (cong-eq e) (cong-trans c (cong-eq f))
+  regroup e c f = cong_trans (cong_eq e) (cong_trans c (cong_eq f))
 
-  add-sound : (x y : ℕ) (a b : Diff) → Is x a → Is y b → Is (x + y) (add_d a b)
-  add-sound x y a b u v =
-      regroup (omega (arith, addP-ok env 0 a.minus b.minus)) (cong-add u v) (sym (addP-ok env 0 a.plus b.plus))
+  add_sound : (x y : ℕ) (a b : Diff) → Is x a → Is y b → Is (x + y) (add_d a b)
+  add_sound x y a b u v =
+      regroup (omega (arith, add_p-ok env 0 a.minus b.minus)) (cong_add u v) (sym (add_p-ok env 0 a.plus b.plus))
 
-  mul-sound : (x y : ℕ) (a b : Diff) → Is x a → Is y b → Is (x * y) (mul_d a b)
-  mul-sound x y a b u v =
+  mul_sound : (x y : ℕ) (a b : Diff) → Is x a → Is y b → Is (x * y) (mul_d a b)
+  mul_sound x y a b u v =
       let m = val env 0 a.minus in
       let n = val env 0 b.minus in
-      let lo = addP-ok env 0 (mul_p a.plus b.minus) (mul_p a.minus b.plus) ∙ ap₂ ◌+◌ (mulP-ok env 0 a.plus b.minus) (mulP-ok env 0 a.minus b.plus) in
-      let hi = addP-ok env 0 (mul_p a.plus b.plus) (mul_p a.minus b.minus) ∙ ap₂ ◌+◌ (mulP-ok env 0 a.plus b.plus) (mulP-ok env 0 a.minus b.minus) in
+      let lo = add_p-ok env 0 (mul_p a.plus b.minus) (mul_p a.minus b.plus) ∙ ap₂ ◌+◌ (mul_p-ok env 0 a.plus b.minus) (mul_p-ok env 0 a.minus b.plus) in
+      let hi = add_p-ok env 0 (mul_p a.plus b.plus) (mul_p a.minus b.minus) ∙ ap₂ ◌+◌ (mul_p-ok env 0 a.plus b.plus) (mul_p-ok env 0 a.minus b.minus) in
       regroup (ap (λ w. x * y + w) lo)
-      (cong-trans
-      (cong-add (cong-refl (x * y)) (cong-add (cong-mul (cong-sym u) (cong-refl n)) (cong-mul (cong-refl m) (cong-sym v))))
-      (cong-trans (cong-eq (expand x y m n)) (cong-add (cong-mul u v) (cong-refl (m * n)))))
+      (cong_trans
+      (cong_add (cong_refl (x * y)) (cong_add (cong_mul (cong_sym u) (cong_refl n)) (cong_mul (cong_refl m) (cong_sym v))))
+      (cong_trans (cong_eq (expand x y m n)) (cong_add (cong_mul u v) (cong_refl (m * n)))))
       (sym hi)
 
-  neg-sound : (x : ℕ) (a : Diff) → Is x a → Cong p (neg_mod p x + val env 0 a.plus) (val env 0 a.minus)
-  neg-sound x a u =
+  neg_sound : (x : ℕ) (a : Diff) → Is x a → Cong p (neg_mod p x + val env 0 a.plus) (val env 0 a.minus)
+  neg_sound x a u =
       let n = val env 0 a.minus in
-      cong-trans (cong-add (cong-refl (neg_mod p x)) (cong-sym u))
-      (regroup (sym (add_assoc (neg_mod p x) x n)) (cong-add (neg-cong x) (cong-refl n)) (zero-add n))
+      cong_trans (cong_add (cong_refl (neg_mod p x)) (cong_sym u))
+      (regroup (sym (add_assoc (neg_mod p x) x n)) (cong_add (neg_cong x) (cong_refl n)) (zero-add n))
 
   lift : (n : ℕ) {x y m : ℕ} → Cong p x y → Cong p (y + n) m → Cong p (x + n) m
-  lift n e u = cong-trans (cong-add e (cong-refl n)) u
+  lift n e u = cong_trans (cong_add e (cong_refl n)) u
 
   sound : (e : Expr) → Is (eval p env e) (norm e)
-  sound (var i) = cong-eq (add-zero (env i) ∙ ap env (sym (zero-add i)) ∙ sym (varP-ok env 0 i))
-  sound (num k) = cong-eq (add-zero k)
+  sound (var i) = cong_eq (add-zero (env i) ∙ ap env (sym (zero-add i)) ∙ sym (var_p-ok env 0 i))
+  sound (num k) = cong_eq (add-zero k)
   sound (add a b) =
       lift (val env 0 (norm (add a b)).minus) (add_cong (eval p env a) (eval p env b))
-      (add-sound (eval p env a) (eval p env b) (norm a) (norm b) (sound a) (sound b))
+      (add_sound (eval p env a) (eval p env b) (norm a) (norm b) (sound a) (sound b))
   sound (sub a b) =
-      lift (val env 0 (norm (sub a b)).minus) (sub-cong (eval p env a) (eval p env b))
-      (add-sound (eval p env a) (neg_mod p (eval p env b)) (norm a) (norm (neg b)) (sound a) (neg-sound (eval p env b) (norm b) (sound b)))
+      lift (val env 0 (norm (sub a b)).minus) (sub_cong (eval p env a) (eval p env b))
+      (add_sound (eval p env a) (neg_mod p (eval p env b)) (norm a) (norm (neg b)) (sound a) (neg_sound (eval p env b) (norm b) (sound b)))
   sound (mul a b) =
-      lift (val env 0 (norm (mul a b)).minus) (mul-cong (eval p env a) (eval p env b))
-      (mul-sound (eval p env a) (eval p env b) (norm a) (norm b) (sound a) (sound b))
-  sound (neg a) = neg-sound (eval p env a) (norm a) (sound a)
+      lift (val env 0 (norm (mul a b)).minus) (mul_cong (eval p env a) (eval p env b))
+      (mul_sound (eval p env a) (eval p env b) (norm a) (norm b) (sound a) (sound b))
+  sound (neg a) = neg_sound (eval p env a) (norm a) (sound a)
 
-  pub solve-cong : (a b : Expr) → T (agree a b) → Cong p (eval p env a) (eval p env b)
-  solve-cong a b t =
+  pub solve_cong : (a b : Expr) → T (agree a b) → Cong p (eval p env a) (eval p env b)
+  solve_cong a b t =
       let x = eval p env a in
       let y = eval p env b in
       let m = val env 0 (norm a).minus in
       let n = val env 0 (norm b).minus in
-      let same = eqP-ok env 0 (add_p (norm a).plus (norm b).minus) (add_p (norm b).plus (norm a).minus) t in
-      let ea = addP-ok env 0 (norm a).plus (norm b).minus in
-      let eb = addP-ok env 0 (norm b).plus (norm a).minus in
-      cong-cancel (m + n)
-      (cong-trans (regroup (sym (add_assoc x m n)) (cong-add (sound a) (cong-refl n)) (sym ea ∙ same ∙ eb))
-      (regroup refl (cong-add (cong-sym (sound b)) (cong-refl m)) (omega arith)))
+      let same = eq_p-ok env 0 (add_p (norm a).plus (norm b).minus) (add_p (norm b).plus (norm a).minus) t in
+      let ea = add_p-ok env 0 (norm a).plus (norm b).minus in
+      let eb = add_p-ok env 0 (norm b).plus (norm a).minus in
+      cong_cancel (m + n)
+      (cong_trans (regroup (sym (add_assoc x m n)) (cong_add (sound a) (cong_refl n)) (sym ea ∙ same ∙ eb))
+      (regroup refl (cong_add (cong_sym (sound b)) (cong_refl m)) (omega arith)))
 
   -- what an operation gives is reduced
   reduced : (e : Expr) → T (compound e) → residue p (eval p env e) ≡ eval p env e
@@ -149,7 +149,7 @@ module _ (p : ℕ) (env : ℕ → ℕ) where
   solve a b t =
       let t1 = both (compound a && compound b) (agree a b) t in
       let t2 = both (compound a) (compound b) t1.0 in
-      sym (reduced a t2.0) ∙ (solve-cong a b t1.1).residues ∙ reduced b t2.1
+      sym (reduced a t2.0) ∙ (solve_cong a b t1.1).residues ∙ reduced b t2.1
 
 -- a combination of congruences: the sum of k (l - r)
 pub data Uses (p : ℕ) (env : ℕ → ℕ) : Expr → Type 0 where
@@ -157,32 +157,32 @@ pub data Uses (p : ℕ) (env : ℕ → ℕ) : Expr → Type 0 where
   given : {rest : Expr} (k l r : Expr) → Cong p (eval p env l) (eval p env r) → Uses p env rest → Uses p env (add (mul k (sub l r)) rest)
 
 module _ (p : ℕ) (env : ℕ → ℕ) where
-  difference-zero : {x y : ℕ} → Cong p x y → Cong p (sub_mod p x y) 0
-  difference-zero {x} {y} e =
-      cong-trans (sub-cong x y)
-      (cong-trans (cong-add e (cong-refl (neg_mod p y))) (cong-trans (cong-eq (add_comm y (neg_mod p y))) (neg-cong y)))
+  difference_zero : {x y : ℕ} → Cong p x y → Cong p (sub_mod p x y) 0
+  difference_zero {x} {y} e =
+      cong_trans (sub_cong x y)
+      (cong_trans (cong_add e (cong_refl (neg_mod p y))) (cong_trans (cong_eq (add_comm y (neg_mod p y))) (neg_cong y)))
 
-  uses-zero : {s : Expr} → Uses p env s → Cong p (eval p env s) 0
-  uses-zero none = cong-refl 0
-  uses-zero (given {rest = rest} k l r e u) =
-      cong-trans (add_cong (mul_mod p (eval p env k) (sub_mod p (eval p env l) (eval p env r))) (eval p env rest))
-      (cong-add
-      (cong-trans (mul-cong (eval p env k) (sub_mod p (eval p env l) (eval p env r)))
-      (cong-trans (cong-mul (cong-refl (eval p env k)) (difference-zero e)) (cong-eq (mul-zero (eval p env k)))))
-      (uses-zero u))
+  uses_zero : {s : Expr} → Uses p env s → Cong p (eval p env s) 0
+  uses_zero none = cong_refl 0
+  uses_zero (given {rest = rest} k l r e u) =
+      cong_trans (add_cong (mul_mod p (eval p env k) (sub_mod p (eval p env l) (eval p env r))) (eval p env rest))
+      (cong_add
+      (cong_trans (mul_cong (eval p env k) (sub_mod p (eval p env l) (eval p env r)))
+      (cong_trans (cong_mul (cong_refl (eval p env k)) (difference_zero e)) (cong_eq (mul-zero (eval p env k)))))
+      (uses_zero u))
 
   -- a - b is the combination
-  pub solve-from : (a b : Expr) {s : Expr} → Uses p env s → T (agree (sub a b) s) → Cong p (eval p env a) (eval p env b)
-  solve-from a b {s} u t =
+  pub solve_from : (a b : Expr) {s : Expr} → Uses p env s → T (agree (sub a b) s) → Cong p (eval p env a) (eval p env b)
+  solve_from a b {s} u t =
       let y = eval p env b in
-      cong-cancel (neg_mod p y)
-      (cong-trans (cong-sym (sub-cong (eval p env a) y))
-      (cong-trans (solve-cong p env (sub a b) s t)
-      (cong-trans (uses-zero u)
-      (cong-sym (cong-trans (cong-eq (add_comm y (neg_mod p y))) (neg-cong y))))))
+      cong_cancel (neg_mod p y)
+      (cong_trans (cong_sym (sub_cong (eval p env a) y))
+      (cong_trans (solve_cong p env (sub a b) s t)
+      (cong_trans (uses_zero u)
+      (cong_sym (cong_trans (cong_eq (add_comm y (neg_mod p y))) (neg_cong y))))))
 
-  pub solve-by : (a b : Expr) {s : Expr} → Uses p env s → T (compound a && compound b && agree (sub a b) s) → eval p env a ≡ eval p env b
-  solve-by a b {s} u t =
+  pub solve_by : (a b : Expr) {s : Expr} → Uses p env s → T (compound a && compound b && agree (sub a b) s) → eval p env a ≡ eval p env b
+  solve_by a b {s} u t =
       let t1 = both (compound a && compound b) (agree (sub a b) s) t in
       let t2 = both (compound a) (compound b) t1.0 in
-      sym (reduced p env a t2.0) ∙ (solve-from a b u t1.1).residues ∙ reduced p env b t2.1
+      sym (reduced p env a t2.0) ∙ (solve_from a b u t1.1).residues ∙ reduced p env b t2.1

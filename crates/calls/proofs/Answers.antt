@@ -55,11 +55,11 @@ use Rattle.calls.proofs.Steps.{some_none, row-passed, close_step, does, refused_
 use Rattle.calls.proofs.Fits.{Fits, few, kind-is}
 use Rattle.calls.proofs.Turns.{both}
 use Rattle.calls.proofs.ItemRows.{Admitted, item-admitted}
-use Rattle.calls.proofs.Refusals.{refused_with_lem, Inv, Faithful, goes, step_is, faithful-on, fresh-faithful, asked-level}
+use Rattle.calls.proofs.Refusals.{refused_with_lem, Inv, Faithful, goes, step_is, faithful_on, fresh-faithful, asked-level}
 use Rattle.calls.proofs.Agrees.{trip_at, Agrees, pass_taken, round-most}
 use Rattle.calls.proofs.KeptCalls.{ItemKept, KeptBy, kept_by}
 use Rattle.calls.proofs.Rights.{right, item-written-so}
-use Rattle.calls.proofs.Keeps.{opened-agrees, to-full-agrees, item-agrees, close-agrees, returned-agrees, full-message, full-ends, challenge-agrees}
+use Rattle.calls.proofs.Keeps.{opened-agrees, to_full_agrees, item-agrees, close-agrees, returned_agrees, full_message, full_ends, challenge-agrees}
 
 module _ (p : ℕ) (large : max_weight < p) (through : Bool) (its : List Given) (a : State) {past : Notes} (h : Fits p a past) (g : Agrees p through its a past)
     (whole : length its ≡ a.start.items) (l : Lent) where
@@ -97,13 +97,13 @@ module _ (p : ℕ) (large : max_weight < p) (through : Bool) (its : List Given) 
   unfolding table message_given
   message-next e kept =
       let q = both (is_full a.turn.mode) (waits next.Message a.turn.next) (row-passed (is_full a.turn.mode && waits next.Message a.turn.next) 10 _ e).0 in
-      full-message p large through its a h g whole l (waits-for next.Message a.turn.next q.1) q.0 kept _ _ _ (right p large through its a h g whole l call.Message e kept).answer
+      full_message p large through its a h g whole l (waits-for next.Message a.turn.next q.1) q.0 kept _ _ _ (right p large through its a h g whole l call.Message e kept).answer
 
   ends_next : table p a call.Ends l ≡ none → AsLeft a l → (let o : Result = does p R S call.Ends l in Agrees p through its (goes_on a call.Ends o.lent) (noted p call.Ends past o.answer))
   unfolding table
   ends_next e kept =
       let q = both (is_full a.turn.mode) (waits next.Ends a.turn.next) (row-passed (is_full a.turn.mode && waits next.Ends a.turn.next) 10 _ e).0 in
-      full-ends p large through its a h g whole l (waits-for next.Ends a.turn.next q.1) q.0 _ _ (right p large through its a h g whole l call.Ends e kept).answer
+      full_ends p large through its a h g whole l (waits-for next.Ends a.turn.next q.1) q.0 _ _ (right p large through its a h g whole l call.Ends e kept).answer
 
   abbrev challenged_result : ℕ → Out
   challenged_result c = challenged_full p R S c l.f l.g
@@ -126,21 +126,21 @@ module _ (p : ℕ) (large : max_weight < p) (through : Bool) (its : List Given) 
           let o : Result = leaving l (challenged_result c) in
           challenge-agrees p large through its a h g whole l c o.lent Full em et (λ f. (wf, wg))
 
-  pub agrees-next : (c : Call) → table p a c l ≡ none → KeptBy p T through a c l → (let o : Result = does p R S c l in Agrees p through its (goes_on a c o.lent) (noted p c past o.answer))
+  pub agrees_next : (c : Call) → table p a c l ≡ none → KeptBy p T through a c l → (let o : Result = does p R S c l in Agrees p through its (goes_on a c o.lent) (noted p c past o.answer))
   unfolding table opening_given
-  agrees-next call.OpenPass e kept =
+  agrees_next call.OpenPass e kept =
       opened-agrees p large through its a h g whole l 0 (both (is_small a.turn.mode) _ (row-passed (pass_waits a.turn.mode a.turn.next) 10 none e).0).0
-  agrees-next (call.OpenAt b) e kept =
+  agrees_next (call.OpenAt b) e kept =
       opened-agrees p large through its a h g whole l b (both (is_small a.turn.mode) (openings_next a.turn.next a.start.rounds) (row-passed (is_small a.turn.mode && openings_next a.turn.next a.start.rounds) 10 _ e).0).0
-  agrees-next call.ToFull e kept = to-full-agrees p large through its a h g whole l e
-  agrees-next call.ToSmall e kept = returned-agrees p large through its a h g whole l
-  agrees-next (call.Give x) e kept = item-next x (item-admitted p a l x e) kept
-  agrees-next call.Close e kept = close-next e
-  agrees-next call.Message e kept = message-next e kept
-  agrees-next (call.Challenge c) e kept = challenge-next c e kept
-  agrees-next call.Ends e kept = ends_next e kept
-  agrees-next (call.Opening b) e kept = g
-  agrees-next call.WriteProof e kept = g
+  agrees_next call.ToFull e kept = to_full_agrees p large through its a h g whole l e
+  agrees_next call.ToSmall e kept = returned_agrees p large through its a h g whole l
+  agrees_next (call.Give x) e kept = item-next x (item-admitted p a l x e) kept
+  agrees_next call.Close e kept = close-next e
+  agrees_next call.Message e kept = message-next e kept
+  agrees_next (call.Challenge c) e kept = challenge-next c e kept
+  agrees_next call.Ends e kept = ends_next e kept
+  agrees_next (call.Opening b) e kept = g
+  agrees_next call.WriteProof e kept = g
 
 -- THE STACKS of an open small pass hold the trip's entries
 module _ (p : ℕ) (large : max_weight < p) (through : Bool) (its : List Given) where
@@ -181,13 +181,13 @@ module _ (p : ℕ) (large : max_weight < p) (through : Bool) (its : List Given) 
     right_so none e kept free = right p large through its a h g whole l c e (kept_by p U through a c l (kept (goes p large a h c l e).0))
     right_so (some k) e kept free = absurd (some_none free)
 
-    agrees-so : (t : Option Refusal) → table p a c l ≡ t → (is_answered (came-to t).answer ≡ true → Kept p U through a c l)
+    agrees_so : (t : Option Refusal) → table p a c l ≡ t → (is_answered (came-to t).answer ≡ true → Kept p U through a c l)
         → Agrees p through its (follow a c (came-to t)) (noted p c past (came-to t).answer)
-    agrees-so none e kept =
+    agrees_so none e kept =
         let o : Result = does p (run_of a past) (pass_of p a past) c l in
         let yes = (goes p large a h c l e).0 in
-        subst (λ b. Agrees p through its (cond b (goes_on a c o.lent) a) (noted p c past o.answer)) (sym yes) (agrees-next p large through its a h g whole l c e (kept_by p U through a c l (kept yes)))
-    agrees-so (some k) e kept =
+        subst (λ b. Agrees p through its (cond b (goes_on a c o.lent) a) (noted p c past o.answer)) (sym yes) (agrees_next p large through its a h g whole l c e (kept_by p U through a c l (kept yes)))
+    agrees_so (some k) e kept =
         let o : Result = refused_result (run_of a past) (pass_of p a past) l k in
         subst (λ b. Agrees p through its (cond b (goes_on a c o.lent) a) (noted p c past o.answer)) (sym (refused_with_lem _ k.0 k.1))
         (subst (Agrees p through its a) (sym (refusal_noted p c past k.0 k.1)) g)
@@ -200,13 +200,13 @@ module _ (p : ℕ) (large : max_weight < p) (through : Bool) (its : List Given) 
       (subst (λ s. P (step p (run_of a past) s c l)) (sym i.pass)
       (subst P (sym (step_is p large a i.fits c l)) (right_so a i.fits g whole c l (table p a c l) refl)))
 
-  pub agrees-step : (a : State) {past : Notes} (r : Run) (s : Pass) → Inv p large a past r s → Agrees p through its a past → length its ≡ a.start.items → (c : Call) → (l : Lent)
+  pub agrees_step : (a : State) {past : Notes} (r : Run) (s : Pass) → Inv p large a past r s → Agrees p through its a past → length its ≡ a.start.items → (c : Call) → (l : Lent)
       → (is_answered (step p r s c l).answer ≡ true → Kept p (trip_at its a) through a c l) → Agrees p through its (follow a c (step p r s c l)) (noted p c past (step p r s c l).answer)
-  agrees-step a {past} r s i g whole c l =
+  agrees_step a {past} r s i g whole c l =
       let P : Result → Type 0 = λ o. (is_answered o.answer ≡ true → Kept p (trip_at its a) through a c l) → Agrees p through its (follow a c o) (noted p c past o.answer) in
       subst (λ r. P (step p r s c l)) (sym i.run)
       (subst (λ s. P (step p (run_of a past) s c l)) (sym i.pass)
-      (subst P (sym (step_is p large a i.fits c l)) (agrees-so a i.fits g whole c l (table p a c l) refl)))
+      (subst P (sym (step_is p large a i.fits c l)) (agrees_so a i.fits g whole c l (table p a c l) refl)))
 
 -- the start stays
 buffers-start : (b : Bool) (a : State) (l : Lent) → (buffers_in b a l).start ≡ a.start
@@ -222,24 +222,24 @@ closed-start a next.Ends Asked = refl
 closed-start a next.Openings Asked = refl
 closed-start a t Change = refl
 
-goes-start : (a : State) (c : Call) (l : Lent) → (goes_on a c l).start ≡ a.start
-goes-start a call.OpenPass l = refl
-goes-start a (call.OpenAt b) l = refl
-goes-start a call.ToFull l = refl
-goes-start a call.ToSmall l = refl
-goes-start a (call.Give x) l = buffers-start (is_change a.pass.kind) _ l
-goes-start a call.Close l = closed-start a a.turn.next a.pass.kind
-goes-start a call.Message l = refl
-goes-start a (call.Challenge c) l = buffers-start (is_full a.turn.mode) (takes_challenge a c) l
-goes-start a call.Ends l = refl
-goes-start a (call.Opening b) l = refl
-goes-start a call.WriteProof l = refl
+goes_start : (a : State) (c : Call) (l : Lent) → (goes_on a c l).start ≡ a.start
+goes_start a call.OpenPass l = refl
+goes_start a (call.OpenAt b) l = refl
+goes_start a call.ToFull l = refl
+goes_start a call.ToSmall l = refl
+goes_start a (call.Give x) l = buffers-start (is_change a.pass.kind) _ l
+goes_start a call.Close l = closed-start a a.turn.next a.pass.kind
+goes_start a call.Message l = refl
+goes_start a (call.Challenge c) l = buffers-start (is_full a.turn.mode) (takes_challenge a c) l
+goes_start a call.Ends l = refl
+goes_start a (call.Opening b) l = refl
+goes_start a call.WriteProof l = refl
 
 pub follow-start : (a : State) (c : Call) (o : Result) → (follow a c o).start ≡ a.start
 follow-start a c o = by (is_answered o.answer)
   where
     by : (b : Bool) → (cond b (goes_on a c o.lent) a).start ≡ a.start
-    by true = goes-start a c o.lent
+    by true = goes_start a c o.lent
     by false = refl
 
 -- EVERY LIST
@@ -274,9 +274,9 @@ module _ (p : ℕ) (large : max_weight < p) (through : Bool) (T : Trip) (whole :
     pub goes_on_lem : Going (onward p w m) (noted p m.call past (came p w m).answer)
     goes_on_lem =
         record {
-          faithful = faithful-on p large w g.faithful m;
+          faithful = faithful_on p large w g.faithful m;
           start = follow-start w.state m.call (came p w m) ∙ g.start;
-          agrees = agrees-step p large through T.items w.state w.run w.pass g.faithful g.agrees full m.call m.lent own-kept;
+          agrees = agrees_step p large through T.items w.state w.run w.pass g.faithful g.agrees full m.call m.lent own-kept;
         }
 
   pub all_right : (w : World) {past : Notes} → Going w past → (ms : List Made) → AllKept p through T w ms → AllRight p through T w ms

@@ -17,7 +17,7 @@ use Rattle.vector.specs.Opening.{evaluate, opening_of}
 use Rattle.verifier.specs.declared.Verifier.{Verifier}
 use Rattle.verifier.specs.Records.{yes}
 use Rattle.verifier.specs.Batch.{batch_finds}
-use Rattle.verifier.proofs.BatchChecks.{true-batch-holds}
+use Rattle.verifier.proofs.BatchChecks.{true_batch_holds}
 use Rattle.item.specs.declared.Start.{Start}
 use Rattle.calls.proofs.QueryStands.{Carries, carried_challenge}
 
@@ -37,6 +37,6 @@ module _ (p : ℕ) (prime : Prime p) (odd : p % 2 ≡ 1) (s : Start) (few : s.ro
   batch-holds z b ok f logs sums =
       let r : v.start.rounds ≡ s.rounds = ap (λ s. s.rounds) c.start in
       ap (λ n. batch_finds p v z b (opening_of p n (at cs) f b) logs) (sym r)
-      ∙ true-batch-holds prime odd z b (nonzero p b ok) v (at cs)
+      ∙ true_batch_holds prime odd z b (nonzero p b ok) v (at cs)
       (λ j h. carried_challenge c few listed j (omega (arith, r)))
       (subst (λ n. 0 < n) (sym r) some) f logs (sums ∙ ap (λ n. evaluate p (2 ^ n) f b) (sym r))

@@ -15,7 +15,7 @@ use Rattle.refusal.specs.Outcome.{answered}
 use Rattle.vector.specs.Vector.{Vector, at}
 use Rattle.vector.specs.Slice.{is_nonzero, all_reduced}
 use Rattle.vector.specs.Opening.{triple, evaluate, opening_of, opening}
-use Rattle.vector.proofs.Every.{reduced-all}
+use Rattle.vector.proofs.Every.{reduced_all}
 use Rattle.vector.proofs.Rounds.{rounds-at-most}
 use Rattle.item.specs.declared.Start.{Start}
 use Rattle.verifier.specs.declared.Verifier.{Verifier}
@@ -42,8 +42,8 @@ use Rattle.calls.proofs.BatchTrips.{batch-whole, batch-vector-f}
 use Rattle.calls.proofs.BatchHeard.{batch-holds}
 use Rattle.calls.proofs.QueryStands.{Carries, Stands}
 use Rattle.calls.proofs.QuerySteps.{answers, settled_heard, asks}
-use Rattle.calls.proofs.Hits.{hit-replies, hit-somewhere}
-use Rattle.pass.proofs.OpeningValues.{triples-length}
+use Rattle.calls.proofs.Hits.{hit_replies, hit_somewhere}
+use Rattle.pass.proofs.OpeningValues.{triples_length}
 use Rattle.calls.proofs.Links.{opening_of_lem}
 use Rattle.calls.proofs.OpeningChecks.{values-below, stands-still}
 use Rattle.calls.proofs.StartRows.{batch-free}
@@ -69,9 +69,9 @@ module _ (p : ℕ) (large : max_weight < p) (prime : Prime p) (odd : p % 2 ≡ 1
       (asks p b v st (query.CheckBatch m z x) l
       ∙ ap (λ t. settled_heard v t (answers p v (query.CheckBatch m z x) l))
       (check_free p b m z x l hm (ap (λ st. ltb 0 st.rounds) es ∙ lt-ltb 0 s.rounds some) hz hx
-      (ap length values ∙ triples-length (triple p s.rounds (at cs) f x) 0 s.rounds ∙ ap (λ st. 3 * st.rounds) (sym es)) own
-      (ap (λ xs. all_reduced p (length xs) xs) values ∙ sym (reduced-all p _ opened (λ k h. values-below p (omega arith) s.rounds (at cs) f x k)))
-      (sym (reduced-all p _ l.logs (λ k h. below k (omega (arith, own)))))))
+      (ap length values ∙ triples_length (triple p s.rounds (at cs) f x) 0 s.rounds ∙ ap (λ st. 3 * st.rounds) (sym es)) own
+      (ap (λ xs. all_reduced p (length xs) xs) values ∙ sym (reduced_all p _ opened (λ k h. values-below p (omega arith) s.rounds (at cs) f x k)))
+      (sym (reduced_all p _ l.logs (λ k h. below k (omega (arith, own)))))))
       ∙ ap (λ xs. answered (finds (batch_finds p v z x xs l.logs))) values
       ∙ ap (λ d. answered (finds d)) (batch-holds p prime odd s few some cs listed (length b.items) v c z x hx f l.logs sums)
 
@@ -90,8 +90,8 @@ module _ (p : ℕ) (large : max_weight < p) (prime : Prime p) (odd : p % 2 ≡ 1
         let whole : Whole T = batch-whole p z m logs o.start.least o.start.most in
         let w : World = openings_world T.start cs f g in
         let takes = batch-takes p large T.start cs o f g ms in
-        let hit = hit-somewhere p large through T whole.items cs _ _ w (opens-going p large through T whole.items cs o f g) ms kept takes gave in
-        let opened = opening_of_lem p large through T whole.items cs x values hit.0 (sym hit.1 ∙ hit-replies p large through T whole.items cs _ hit.0) in
+        let hit = hit_somewhere p large through T whole.items cs _ _ w (opens-going p large through T whole.items cs o f g) ms kept takes gave in
+        let opened = opening_of_lem p large through T whole.items cs x values hit.0 (sym hit.1 ∙ hit_replies p large through T whole.items cs _ hit.0) in
         let ok = both (is_nonzero p x) (ltb 0 n) (begun-pointed p large T.start (openings cs) o f g ms x _ gave) in
         let st = stands-still p s cs h qs in
         let few : n ≤ 15 = omega (arith, o.start.rounds, rounds-at-most (most_items logs m) o.start.most) in
@@ -107,5 +107,5 @@ module _ (p : ℕ) (large : max_weight < p) (prime : Prime p) (odd : p % 2 ≡ 1
             let fs : List ℕ = opening_of p n (at cs) (vector_f p T) x in
             sym (take-take (3 * n) (6 * n) xs (omega arith))
             ∙ ap (take (3 * n)) e
-            ∙ ap (λ k. take k (fs ++ opening_of p n (at cs) (vector_g p T) x)) (sym (triples-length (triple p n (at cs) (vector_f p T) x) 0 n))
+            ∙ ap (λ k. take k (fs ++ opening_of p n (at cs) (vector_g p T) x)) (sym (triples_length (triple p n (at cs) (vector_f p T) x) 0 n))
             ∙ take-append_seam fs _

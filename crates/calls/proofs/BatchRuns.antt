@@ -17,7 +17,7 @@ use Rattle.calls.specs.Proper.{Valid, Brings, Host, opening_calls}
 use Rattle.calls.specs.Begins.{openings_world, batch_run}
 use Rattle.calls.specs.Starts.{Opens}
 use Rattle.calls.specs.Demand3.{AllAnswered, AllProper}
-use Rattle.calls.proofs.LiveWorld.{Lives, lives-answered, lives-kept, Standing}
+use Rattle.calls.proofs.LiveWorld.{Lives, lives_answered, lives_kept, Standing}
 use Rattle.calls.proofs.LiveTakes.{last-quiet, all_take}
 use Rattle.calls.proofs.Live.{after-ends}
 use Rattle.calls.proofs.Begins.{opens_notes, opens-going}
@@ -44,11 +44,11 @@ module _ (p : ℕ) (large : max_weight < p) (T : Trip) (valid : Valid p T) (full
       }))
 
   answered : AllAnswered p begin.world (batch_run p T full cs bs idle f g)
-  answered = lives-answered p T idle true begin (opening_calls T full bs) (lives true)
+  answered = lives_answered p T idle true begin (opening_calls T full bs) (lives true)
 
   pub batch-proper : AllProper p cs T begin.world (batch_run p T full cs bs idle f g)
   batch-proper = (
     answered,
-    (λ through. lives-kept p T idle through begin (opening_calls T full bs) (lives through)),
+    (λ through. lives_kept p T idle through begin (opening_calls T full bs) (lives through)),
     all_take p T idle cs (opening_calls T full bs) begin answered (ap (λ ds. cs ++ ds) (last-quiet T full bs) ∙ append-nil cs),
   )

@@ -28,7 +28,7 @@ use Rattle.calls.specs.Blocks.{block_table, with_items, Wide, made, given, block
 use Rattle.calls.proofs.Records.{Notes, noted, run_of, pass_of}
 use Rattle.calls.proofs.Steps.{some_none, settled, refused_result, leaving-so}
 use Rattle.calls.proofs.Fits.{few, formed, kind-is, taken_is}
-use Rattle.calls.proofs.Refusals.{Faithful, faithful-on, refused_with_lem}
+use Rattle.calls.proofs.Refusals.{Faithful, faithful_on, refused_with_lem}
 use Rattle.calls.proofs.Begins.{begun-faithful}
 use Rattle.calls.proofs.BlockRows.{block-admits, block-free, block-decided}
 use Rattle.calls.proofs.BlockSingles.{all-run, all-answer, block, Singly, singly, admitted}
@@ -45,10 +45,10 @@ module _ {W M : Type 0} (next : W → M → W) where
   along-both P w (x ∷ xs) ys h k = (h.0, along-both P (next w x) xs ys h.1 k)
 
   -- a test that holds at every call, or fails at some
-  all-or-some : (t : W → M → Bool) (w : W) (xs : List M) → along next (λ w m. t w m ≡ true) w xs ⊎ somewhere next (λ w m. t w m ≡ false) w xs
+  all-or_some : (t : W → M → Bool) (w : W) (xs : List M) → along next (λ w m. t w m ≡ true) w xs ⊎ somewhere next (λ w m. t w m ≡ false) w xs
   unfolding along somewhere
-  all-or-some t w [] = inl tt
-  all-or-some t w (x ∷ xs) = by (t w x) refl (all-or-some t (next w x) xs)
+  all-or_some t w [] = inl tt
+  all-or_some t w (x ∷ xs) = by (t w x) refl (all-or_some t (next w x) xs)
     where
       by : (b : Bool) → t w x ≡ b → along next (λ w m. t w m ≡ true) (next w x) xs ⊎ somewhere next (λ w m. t w m ≡ false) (next w x) xs
           → ((t w x ≡ true) × along next (λ w m. t w m ≡ true) (next w x) xs) ⊎ ((t w x ≡ false) ⊎ somewhere next (λ w m. t w m ≡ false) (next w x) xs)
@@ -108,7 +108,7 @@ module _ (p : ℕ) (large : max_weight < p) where
         (λ (all : AllAnswered p w (own_singles p w b l)).
         let h = admitted p large w.state.start.version b (count w.state.start.version b) more w i l all in
         absurd (some_none (sym e ∙ block-free p w.state b l h.0 more whole h.1)))
-        (λ h. h) (all-or-some (onward p) (λ w m. is_answered (came p w m).answer) w (own_singles p w b l))
+        (λ h. h) (all-or_some (onward p) (λ w m. is_answered (came p w m).answer) w (own_singles p w b l))
 
     block-is : BlockDecided p w b l
     block-is =
@@ -125,10 +125,10 @@ module _ (p : ℕ) (large : max_weight < p) where
     pub decided : WideDecided p w x
     pub same : wide_on p w x ≡ after (onward p) w (standing p w x)
 
-  faithful-after : (w : World) {past : Notes} → Faithful p large w past → (ms : List Made) → (n : Notes) × Faithful p large (after (onward p) w ms) n
+  faithful_after : (w : World) {past : Notes} → Faithful p large w past → (ms : List Made) → (n : Notes) × Faithful p large (after (onward p) w ms) n
   unfolding after along
-  faithful-after w {past} i [] = (past, i)
-  faithful-after w i (m ∷ ms) = faithful-after (onward p w m) (faithful-on p large w i m) ms
+  faithful_after w {past} i [] = (past, i)
+  faithful_after w i (m ∷ ms) = faithful_after (onward p w m) (faithful_on p large w i m) ms
 
   block-moved : (w : World) {past : Notes} → Faithful p large w past → (b : Block) → (l : Lent) → Moved w (given b l)
   unfolding after along
@@ -144,7 +144,7 @@ module _ (p : ℕ) (large : max_weight < p) where
       by none e =
           let h = is.stands e in
           let so : standing p w (given b l) ≡ ms = ap (λ (o : Outcome Reply). cond (is_answered o) ms []) h.answer in
-          let f = faithful-after w i ms in
+          let f = faithful_after w i ms in
           record {
             notes = f.0;
             faithful = subst (λ v. Faithful p large v f.0) (sym h.same) f.1;
@@ -167,7 +167,7 @@ module _ (p : ℕ) (large : max_weight < p) where
 
   moved : (w : World) {past : Notes} → Faithful p large w past → (x : Wide) → Moved w x
   unfolding after along
-  moved w {past} i (made m) = record { notes = noted p m.call past (came p w m).answer; faithful = faithful-on p large w i m; decided = tt; same = refl }
+  moved w {past} i (made m) = record { notes = noted p m.call past (came p w m).answer; faithful = faithful_on p large w i m; decided = tt; same = refl }
   moved w i (given b l) = block-moved w i b l
 
   -- EVERY LIST

@@ -33,7 +33,7 @@ use Rattle.calls.specs.State.{State}
 use Rattle.calls.specs.Table.{Refusal, decided, row, row_at, given_rows, place_row}
 use Rattle.calls.specs.Blocks.{item_rows, whole_row, block_rows, block_table}
 use Rattle.calls.proofs.Records.{Notes, run_of}
-use Rattle.calls.proofs.Guards.{like_row, open-test, place-there}
+use Rattle.calls.proofs.Guards.{like_row, open_test, place-there}
 use Rattle.calls.proofs.Steps.{some_none, row-passed}
 use Rattle.calls.proofs.LiveTable.{row-free}
 
@@ -128,8 +128,8 @@ module _ (p : ℕ) (s : Start) where
       (block_row (is_of_kind s b) 10 (require (is_whole s.version b) (torn_number b) own) rest (whole_row s.version b rows) o torn)
 
   -- a block of the run's kind
-  of-kind : (b : Block) (v j : ℕ) → Passes p s (item_at v b j) → cond b.plain s.plain (not s.plain) ≡ true
-  of-kind b v j = by b.plain
+  of_kind_lem : (b : Block) (v j : ℕ) → Passes p s (item_at v b j) → cond b.plain s.plain (not s.plain) ≡ true
+  of_kind_lem b v j = by b.plain
     where
       by : (plain : Bool) → Passes p s (cond plain (item_at v (record { plain = true; bytes = b.bytes; first = b.first; second = b.second }) j) (item_at v (record { plain = false; bytes = b.bytes; first = b.first; second = b.second }) j))
           → cond plain s.plain (not s.plain) ≡ true
@@ -163,7 +163,7 @@ module _ (p : ℕ) (a : State) (b : Block) (l : Lent) where
       items-free p a.start first b (count a.start.version b) 0 (place_row a l) (λ j _ m. h.each j (omega arith)) ∙ place in
       row-free _ 10 _ h.opened
       (row-free _ 8 _ (le-leb _ _ h.wanted)
-      (row-free _ 10 _ (of-kind p a.start b a.start.version 0 (h.each 0 some))
+      (row-free _ 10 _ (of_kind_lem p a.start b a.start.version 0 (h.each 0 some))
       (sym (whole_row_lem b.plain _ _ _) ∙ row-free (is_whole a.start.version b) (torn_number b) _ whole rest)))
 
 module _ (p : ℕ) (a : State) (past : Notes) (few : a.start.rounds ≤ 15) (s : Pass) (wf : well_formed p (run_of a past) s ≡ true) (kind : s.kind ≡ a.pass.kind)
@@ -179,6 +179,6 @@ module _ (p : ℕ) (a : State) (past : Notes) (few : a.start.rounds ≤ 15) (s :
       let o : Outcome Out = answered (takes_all p R b (count a.start.version b) s l.f l.g) in
       let rest : ℕ → Outcome Out = λ m. require (places_there R s (length l.f) (length l.g)) 9 (answered (takes_all p R b m s l.f l.g)) in
       items-rows p R s b l.f l.g
-      ∙ like_row _ _ 10 _ _ _ (open-test p a past few s wf kind taken)
+      ∙ like_row _ _ 10 _ _ _ (open_test p a past few s wf kind taken)
       (ap (λ n. and_then (block_checks p a.start n true b) rest) taken
       ∙ checks-row p a.start b (length a.pass.items) rest (place_row a l) o (like_row _ _ 9 _ none o (place-there p a past few s wf kind taken l) refl))

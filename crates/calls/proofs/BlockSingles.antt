@@ -47,7 +47,7 @@ use Rattle.calls.specs.Demand3.{AllAnswered}
 use Rattle.calls.specs.Blocks.{onto, with_items, single, singles, left_by}
 use Rattle.calls.proofs.Records.{Notes, noted, run_of, pass_of}
 use Rattle.calls.proofs.Steps.{does, settled, row-passed}
-use Rattle.calls.proofs.Refusals.{Faithful, faithful-on, decide-step, step_is, refused_with_lem}
+use Rattle.calls.proofs.Refusals.{Faithful, faithful_on, decide_step, step_is, refused_with_lem}
 use Rattle.calls.proofs.LiveTable.{row-free}
 use Rattle.calls.proofs.BlockRows.{Passes, given-passes, Admits}
 
@@ -227,7 +227,7 @@ module _ (p : ℕ) (large : max_weight < p) where
         let k : Lent = left w i x l free in
         let lengths = takes-long p w.run w.pass (contributes p w.run.start x) l.f l.g in
         let later : Notes = noted p (single p v b m l).call past (came p w (single p v b m l)).answer in
-        let faithful : Faithful p large u later = subst (λ (q : World × Lent). Faithful p large q.0 later) e (faithful-on p large w i (single p v b m l)) in
+        let faithful : Faithful p large u later = subst (λ (q : World × Lent). Faithful p large q.0 later) e (faithful_on p large w i (single p v b m l)) in
         let still : v ≡ u.state.start.version =
         in_buffers (λ s t q. v ≡ s.version) (is_change w.state.pass.kind) (in_pass w.state w.state.pass.kind w.state.pass.point (x ∷ w.state.pass.items)) k own in
         let rest : Singly u m k =
@@ -254,7 +254,7 @@ module _ (p : ℕ) (large : max_weight < p) where
     -- AN ITEM THAT WAS ANSWERED
     was_free : (w : World) {past : Notes} → Faithful p large w past → (x : Given) → (l : Lent)
         → is_answered (came p w (record { call = call.Give x; lent = l })).answer ≡ true → table p w.state (call.Give x) l ≡ none
-    was_free w i x l e = by (table p w.state (call.Give x) l) (decide-step p large w.state w.run w.pass i (call.Give x) l)
+    was_free w i x l e = by (table p w.state (call.Give x) l) (decide_step p large w.state w.run w.pass i (call.Give x) l)
       where
         by : (t : Option Refusal) → Decides w.run w.pass l t (step p w.run w.pass (call.Give x) l) → t ≡ none
         by none d = refl
@@ -281,7 +281,7 @@ module _ (p : ℕ) (large : max_weight < p) where
         let a : State = w.state in
         let k : Lent = (came p w (single p v b m l)).lent in
         let here = item-rows a (item_at v b m) l (was_free w i (item_at v b m) l e.0) in
-        let there = let_through m (onward p w (single p v b m l)) (faithful-on p large w i (single p v b m l)) k e.1 in
+        let there = let_through m (onward p w (single p v b m l)) (faithful_on p large w i (single p v b m l)) k e.1 in
         let next = out-of_buffers (Let m) (is_change a.pass.kind) (in_pass a a.pass.kind a.pass.point (item_at v b m ∷ a.pass.items)) k
         (subst (λ c. Held (Let m) (cond c (takes_given a (item_at v b m) k) a)) e.0 there) in
         (omega (arith, next.0), λ j u. ⊎_elim (λ (q : j ≡ m). rw q here.1) (λ (q : j < m). next.1 j q) (eq-or-lt_of_le (at_most j m u)))

@@ -32,19 +32,19 @@ use Rattle.calls.specs.Carried.{items_of, claims_in, checks, carried_over, by_me
 use Rattle.calls.specs.Demand3.{AllKept, AllTake, AllProper, AllBringRun, AllAgreed}
 use Rattle.calls.proofs.Records.{Notes, no_notes}
 use Rattle.calls.proofs.Turns.{both}
-use Rattle.calls.proofs.KeptCalls.{by-kept}
+use Rattle.calls.proofs.KeptCalls.{by_kept}
 use Rattle.calls.proofs.Answers.{Going, goes_on_lem, fresh-going}
 use Rattle.calls.proofs.HeardFollows.{Follows}
 use Rattle.calls.proofs.HeardLists.{fresh-follows}
 use Rattle.calls.proofs.Longer.{along-more, somewhere-more, somewhere-last, always-last, always-more}
-use Rattle.calls.proofs.Hits.{Prefix, Hit, hit-replies, hit-here, going-after}
+use Rattle.calls.proofs.Hits.{Prefix, Hit, hit_replies, hit_here, going_after}
 use Rattle.calls.proofs.Links.{message-of, opening_of_lem, file-of}
 use Rattle.calls.proofs.Pointed.{pointed, follow-pointed, asked-pointed}
-use Rattle.calls.proofs.LiveTable.{write-free, free_answered}
+use Rattle.calls.proofs.LiveTable.{write_free, free_answered}
 use Rattle.calls.proofs.Live.{proper-answered, proper-kept, proper-ended}
 use Rattle.calls.proofs.LiveTakes.{proper-takes}
 use Rattle.calls.proofs.CarriedTurns.{turn, brought, AtTurn, goes_turn, follow-turn}
-use Rattle.calls.proofs.CarriedSteps.{VerifierAgrees, agrees-along, place, items-agreed, total-agreed, message-agreed, verdict-agreed, check-agreed, proof-agreed}
+use Rattle.calls.proofs.CarriedSteps.{VerifierAgrees, agrees_along, place, items-agreed, total-agreed, message-agreed, verdict-agreed, check_agreed, proof-agreed}
 
 module _ (p : ℕ) (large : max_weight < p) (prime : Prime p) (odd : p % 2 ≡ 1) (word : p ≤ 2 ^ 32) (through : Bool) (T : Trip) (valid : Valid p T) (cs : List ℕ)
     (listed : length cs ≡ T.start.rounds) (w₀ : World) (ms₀ : List Made) where
@@ -91,9 +91,9 @@ module _ (p : ℕ) (large : max_weight < p) (prime : Prime p) (odd : p % 2 ≡ 1
         (b : VerifierState) (v : Verifier) (f : F b v) (beside : Beside w.state b) (rest : List Posed) where
       one-call : ((b : VerifierState) (v : Verifier) → F b v → Beside (onward p w m).state b → Agrees b v rest)
           → (y : Bool) → is_answered (came p w m).answer ≡ y → Agrees b v (cond y (what (question w.state m.call) (reply_of (came p w m))) [] ++ rest)
-      unfolding hit-here
+      unfolding hit_here
       one-call on true y =
-          one (question w.state m.call) (hit-here p large through T valid.whole.items cs w g prefix m kept (question w.state m.call) (y, refl)) y (here y) b v f beside rest on
+          one (question w.state m.call) (hit_here p large through T valid.whole.items cs w g prefix m kept (question w.state m.call) (y, refl)) y (here y) b v f beside rest on
       one-call on false y = on b v f (subst (λ c. Beside c b) (sym (ap (λ y. cond y (goes_on w.state m.call (came p w m).lent) w.state) y)) beside)
 
     all-agreed : (w : World) {past : Notes} → G w past → (ms : List Made) → AllKept p through T w ms → AllTake p cs w ms → Within w ms
@@ -130,43 +130,43 @@ module _ (p : ℕ) (large : max_weight < p) (prime : Prime p) (odd : p % 2 ≡ 1
     beside-next : (b b' : VerifierState) → Beside h.world.state b → length b'.items ≡ L → place b' ≡ brought q (turn h.world.state) → Beside (next-state q h) b'
     beside-next b b' s whole e = record { pointed = pointed-next s.pointed; whole = whole; place = e ∙ sym goes.1 }
 
-    as-meant : (what : Answer → List Posed) (b : VerifierState) (v : Verifier) (qs : List Posed) → Agrees b v (what (meant p T h.world.state.turn.challenges q) ++ qs) → Agrees b v (what (reply_of (came_of q h)) ++ qs)
-    as-meant what b v qs = subst (λ x. Agrees b v (what x ++ qs)) (sym (hit-replies p large through T valid.whole.items cs q h))
+    as_meant : (what : Answer → List Posed) (b : VerifierState) (v : Verifier) (qs : List Posed) → Agrees b v (what (meant p T h.world.state.turn.challenges q) ++ qs) → Agrees b v (what (reply_of (came_of q h)) ++ qs)
+    as_meant what b v qs = subst (λ x. Agrees b v (what x ++ qs)) (sym (hit_replies p large through T valid.whole.items cs q h))
 
     given-meant : Given q h → Gave p w₀ ms₀ q (meant p T h.world.state.turn.challenges q)
-    given-meant = subst (Gave p w₀ ms₀ q) (hit-replies p large through T valid.whole.items cs q h)
+    given-meant = subst (Gave p w₀ ms₀ q) (hit_replies p large through T valid.whole.items cs q h)
 
   -- an opening, either way
   opened : (x : ℕ) (h : H (opening_at x)) → pointed p h.world.state ≡ true → (b : VerifierState) (v : Verifier) → F b v → (qs : List Posed)
       → ((v : Verifier) → F b v → Agrees b v qs) → Agrees b v (checks n (opening_at x) (meant p T h.world.state.turn.challenges (opening_at x)).values ++ qs)
   opened x h point b v f qs on =
       let ok = both (is_nonzero p x) (ltb 0 h.world.state.start.rounds) (asked-pointed p h.world.state h.made.call h.made.lent x h.free point h.asked) in
-      check-agreed p large prime odd word T valid cs listed w₀ ms₀ b v f x _ ok.0 (ap (λ s. ltb 0 s.rounds) (sym h.going.start) ∙ ok.1)
+      check_agreed p large prime odd word T valid cs listed w₀ ms₀ b v f x _ ok.0 (ap (λ s. ltb 0 s.rounds) (sym h.going.start) ∙ ok.1)
       (opening_of_lem p large through T valid.whole.items cs x _ h refl) qs on
 
   each-carried : (q : Question) (h : H q) → is_answered (came_of q h).answer ≡ true → Given q h → (b : VerifierState) (v : Verifier) → F b v → Beside h.world.state b → (qs : List Posed)
       → ((b : VerifierState) (v : Verifier) → F b v → Beside (next-state q h) b → Agrees b v qs) → Agrees b v (carried q (reply_of (came_of q h)) ++ qs)
   each-carried total h y gave b v f s qs on =
-      as-meant total h y (carried total) b v qs
+      as_meant total h y (carried total) b v qs
       (total-agreed p large prime odd word T valid cs listed w₀ ms₀ b v f T.start.plain refl (given-meant total h y gave) s.whole (s.place ∙ (goes total h y).0) qs
       (λ b' v f whole e. on b' v f (beside-next total h y b b' s whole (e ∙ ap suc (sym (goes total h y).0)))))
   each-carried (round_message i) h y gave b v f s qs on =
       let t = (goes (round_message i) h y).0 in
-      as-meant (round_message i) h y (carried (round_message i)) b v qs
+      as_meant (round_message i) h y (carried (round_message i)) b v qs
       (message-agreed p large prime odd word T valid cs listed w₀ ms₀ b v f i _ _ _ (message-of p large through T valid.whole.items cs i _ _ _ h refl) (given-meant (round_message i) h y gave) t.1 s.whole (s.place ∙ t.0) qs
       (λ b' v f whole e. on b' v f (beside-next (round_message i) h y b b' s whole (e ∙ ap suc (sym t.0)))))
   each-carried ends h y gave b v f s qs on =
       let t = (goes ends h y).0 in
-      as-meant ends h y (carried ends) b v qs
+      as_meant ends h y (carried ends) b v qs
       (verdict-agreed p large prime odd word T valid cs listed w₀ ms₀ b v f s.whole (s.place ∙ t) qs
       (λ b' v f whole e. on b' v f (beside-next ends h y b b' s whole (e ∙ sym t))))
   each-carried (opening_at x) h y gave b v f s qs on =
-      as-meant (opening_at x) h y (carried (opening_at x)) b v qs
+      as_meant (opening_at x) h y (carried (opening_at x)) b v qs
       (opened x h s.pointed b v f qs (λ v f. on b v f (beside-next (opening_at x) h y b b s s.whole s.place)))
   each-carried proof h y gave b v f s qs on =
-      as-meant proof h y (carried proof) b v qs (on b v f (beside-next proof h y b b s s.whole s.place))
+      as_meant proof h y (carried proof) b v qs (on b v f (beside-next proof h y b b s s.whole s.place))
   each-carried (done x) h y gave b v f s qs on =
-      as-meant (done x) h y (carried (done x)) b v qs
+      as_meant (done x) h y (carried (done x)) b v qs
       (subst (λ xs. Agrees b v ((xs ++ []) ++ qs)) (sym (goes (done x) h y).0) (on b v f (beside-next (done x) h y b b s s.whole s.place)))
 
   -- BY THE FILE only the openings are carried
@@ -182,7 +182,7 @@ module _ (p : ℕ) (large : max_weight < p) (prime : Prime p) (odd : p % 2 ≡ 1
   each-checked (round_message i) h y gave b v f s qs on = on b v f (pointed-next (round_message i) h y s)
   each-checked ends h y gave b v f s qs on = on b v f (pointed-next ends h y s)
   each-checked (opening_at x) h y gave b v f s qs on =
-      as-meant (opening_at x) h y (checked (opening_at x)) b v qs (opened x h s b v f qs (λ v f. on b v f (pointed-next (opening_at x) h y s)))
+      as_meant (opening_at x) h y (checked (opening_at x)) b v qs (opened x h s b v f qs (λ v f. on b v f (pointed-next (opening_at x) h y s)))
   each-checked proof h y gave b v f s qs on = on b v f (pointed-next proof h y s)
   each-checked (done x) h y gave b v f s qs on = on b v f (pointed-next (done x) h y s)
 
@@ -202,7 +202,7 @@ module _ (p : ℕ) (large : max_weight < p) (prime : Prime p) (odd : p % 2 ≡ 1
     items-first : (qs : List Posed) → ((b : VerifierState) (v : Verifier) → F b v → b.closed ≡ false → length b.items ≡ L → Agrees b v qs)
         → Told (items_of T.items ++ qs)
     items-first qs on =
-        agrees-along p T w₀ ms₀ (fresh_hearing T.start cs) (items_of T.items ++ qs)
+        agrees_along p T w₀ ms₀ (fresh_hearing T.start cs) (items_of T.items ++ qs)
         (items-agreed p large prime odd word T valid cs listed w₀ ms₀ T.items 0 (zero-add (length T.items) ∙ valid.whole.items) (λ j. ap (trip_item T) (sym (zero-add j)))
         (fresh_verifier_state T.start cs) (verifier_of T.start cs) (fresh-follows p large prime odd word T valid.whole cs listed) refl refl qs on)
 
@@ -221,23 +221,23 @@ module _ (p : ℕ) (large : max_weight < p) (prime : Prime p) (odd : p % 2 ≡ 1
       wrote = came p w (writes_proof l)
 
       last : (past : Notes) × G w past × Prefix w.state.turn.challenges cs
-      last = going-after p large through T valid.whole.items cs fresh going ms kept takes
+      last = going_after p large through T valid.whole.items cs fresh going ms kept takes
 
       pub start-kept : w.state.start ≡ T.start
       start-kept = last.1.start
 
-      pub write-answered : is_answered wrote.answer ≡ true
-      write-answered =
+      pub write_answered : is_answered wrote.answer ≡ true
+      write_answered =
           let g = last.1 in
           free_answered p large w.state w.run w.pass g.faithful call.WriteProof l
-          (write-free p w.state l (ap (λ s. s.plain) g.start ∙ plain) turn-so (omega (arith, room, ap (λ s. s.rounds) g.start)))
+          (write_free p w.state l (ap (λ s. s.plain) g.start ∙ plain) turn-so (omega (arith, room, ap (λ s. s.rounds) g.start)))
 
       pub written : take (proof_size n) wrote.lent.file ≡ proof_of_trip p T cs
-      unfolding hit-here
+      unfolding hit_here
       written =
           let g = last.1 in
-          let h = hit-here p large through T valid.whole.items cs w g last.2 (writes_proof l)
-          (λ y. by-kept p T through w.state call.WriteProof l tt) proof (write-answered, refl) in
+          let h = hit_here p large through T valid.whole.items cs w g last.2 (writes_proof l)
+          (λ y. by_kept p T through w.state call.WriteProof l tt) proof (write_answered, refl) in
           (file-of p large through T valid.whole.items cs (take (proof_size n) wrote.lent.file) h (ap (λ s. take (proof_size s.rounds) wrote.lent.file) g.start)).0
 
       pub file-agreed : Wrote p w₀ ms₀ (take (proof_size n) wrote.lent.file) → Told (by_file p T fresh ms (take (proof_size n) wrote.lent.file))
@@ -291,12 +291,12 @@ module _ (p : ℕ) (large : max_weight < p) (prime : Prime p) (odd : p % 2 ≡ 1
 
     filed-answered : is_answered filed.answer ≡ true
     filed-answered =
-        write-answered p large prime odd word true T valid cs brings.count begin longer f g ms (proper-run.1 true) proper-run.2 within plain ended m room
+        write_answered p large prime odd word true T valid cs brings.count begin longer f g ms (proper-run.1 true) proper-run.2 within plain ended m room
 
     pub proper-longer : AllProper p cs T begin longer
     proper-longer = (
       along-more (onward p) _ begin ms (writes_proof m) proper-run.0 filed-answered,
-      λ through. along-more (onward p) _ begin ms (writes_proof m) (proper-run.1 through) (λ y. by-kept p T through ending.state call.WriteProof m tt),
+      λ through. along-more (onward p) _ begin ms (writes_proof m) (proper-run.1 through) (λ y. by_kept p T through ending.state call.WriteProof m tt),
       always-more (onward p) _ begin ms (writes_proof m) proper-run.2
           (subst (λ ds. Prefix ds cs) (sym (ap (λ b. (cond b (goes_on ending.state call.WriteProof filed.lent) ending.state).turn.challenges) filed-answered))
           (always-last (onward p) _ begin ms proper-run.2)),

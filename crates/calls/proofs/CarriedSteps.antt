@@ -58,10 +58,10 @@ module _ (p : ℕ) (T : Trip) (w : World) (ms : List Made) where
   VerifierAgrees b v =
       along (hears_on p) (λ h q. ((heard p h q).told ≡ answered (agreed q.query)) × BringsRun p T w ms h.state q.query q.shown) (record { state = b; verifier = v })
 
-  pub agrees-along : (h : Hearing) (qs : List Posed) → VerifierAgrees h.state h.verifier qs → AllAgreed p h qs × AllBringRun p T w ms h qs
+  pub agrees_along : (h : Hearing) (qs : List Posed) → VerifierAgrees h.state h.verifier qs → AllAgreed p h qs × AllBringRun p T w ms h qs
   unfolding along
-  agrees-along h [] a = (tt, tt)
-  agrees-along h (q ∷ qs) a = let later = agrees-along (hears_on p h q) qs a.1 in ((a.0.0, later.0), ((λ y. a.0.1), later.1))
+  agrees_along h [] a = (tt, tt)
+  agrees_along h (q ∷ qs) a = let later = agrees_along (hears_on p h q) qs a.1 in ((a.0.0, later.0), ((λ y. a.0.1), later.1))
 
 -- 0 before the close, then one more than the messages that passed
 abbrev pub place : VerifierState → ℕ
@@ -213,9 +213,9 @@ module _ (p : ℕ) (large : max_weight < p) (prime : Prime p) (odd : p % 2 ≡ 1
         (λ v g. on _ v g whole (ap suc rounds-so))
 
     -- AN OPENING
-    pub check-agreed : (x : ℕ) (l : Shown) → is_nonzero p x ≡ true → ltb 0 n ≡ true → l.values ≡ opening p n (at cs) (vector_f p T) (vector_g p T) x → (qs : List Posed)
+    pub check_agreed : (x : ℕ) (l : Shown) → is_nonzero p x ≡ true → ltb 0 n ≡ true → l.values ≡ opening p n (at cs) (vector_f p T) (vector_g p T) x → (qs : List Posed)
         → ((v : Verifier) → F b v → Agrees b v qs) → Agrees b v (record { query = query.CheckOpening x; shown = l } ∷ qs)
-    check-agreed x l ok more so qs on =
+    check_agreed x l ok more so qs on =
         one-agreed b v f (query.CheckOpening x) l (opening-free p large T cs b f.start x ok more l so) tt tt
         (λ t h. h (so ∙ ap (λ ds. opening p n (at ds) (vector_f p T) (vector_g p T) x) (sym f.challenges))) qs on
 

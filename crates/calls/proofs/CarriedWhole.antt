@@ -25,7 +25,7 @@ use Rattle.calls.specs.WholeList.{brings_total, brings_message, messages_from, c
 use Rattle.calls.specs.Demand3.{AllAnswered, AllKept, AllTake}
 use Rattle.calls.proofs.Records.{Notes}
 use Rattle.calls.proofs.Answers.{Going, goes_on_lem, fresh-going}
-use Rattle.calls.proofs.Hits.{Hit, hit-replies, hit-here}
+use Rattle.calls.proofs.Hits.{Hit, hit_replies, hit_here}
 use Rattle.calls.proofs.Links.{message-of, opening_of_lem}
 use Rattle.calls.proofs.CarriedTurns.{AtTurn, goes_turn}
 use Rattle.calls.proofs.CarriedWalk.{asked, place_of, leads, asked_by, follow-leads, rounds_asked, openings_asked, whole-asked}
@@ -123,7 +123,7 @@ module _ (p : ℕ) (large : max_weight < p) (through : Bool) (T : Trip) (whole :
         → (let ms : List Made = made_from p T idle w calls in
         AllAnswered p w.world ms → AllKept p through T w.world ms → AllTake p cs w.world ms
         → carried_over p T w.world ms what ≡ carried_as form (asked_by T.start.rounds (place_of w.world.state) calls))
-    unfolding each along always collected carried_as asked_by hit-here
+    unfolding each along always collected carried_as asked_by hit_here
     gathered-so idle [] w g y kept takes = refl
     gathered-so idle (c ∷ calls) w g y kept takes =
         let a : State = w.world.state in
@@ -131,7 +131,7 @@ module _ (p : ℕ) (large : max_weight < p) (through : Bool) (T : Trip) (whole :
         let o : Result = came p w.world m in
         let v : Host = host_on p T idle w c in
         let n : ℕ = T.start.rounds in
-        let here = one (question a c) (hit-here p large through T whole cs w.world g takes.0 m kept.0 (question a c) (y.0, refl)) in
+        let here = one (question a c) (hit_here p large through T whole cs w.world g takes.0 m kept.0 (question a c) (y.0, refl)) in
         let later = gathered-so idle calls v (goes_on_lem p large through T whole w.world g m kept.0) y.1 kept.1 takes.1 in
         let led = follow-leads a c o y.0 in
         let rounds-so : a.start.rounds ≡ n = ap (λ s. s.rounds) g.start in
@@ -141,9 +141,9 @@ module _ (p : ℕ) (large : max_weight < p) (through : Bool) (T : Trip) (whole :
         ∙ ap₂ ◌++◌ (here ∙ ap (carried_as form) first) (later ∙ ap (λ w. carried_as form (asked_by n w calls)) then)
         ∙ sym (carried-append form (leads n (place_of a) c).0 (asked_by n (leads n (place_of a) c).1 calls))
 
-  check-so : (b : ℕ) (h : H (opening_at b)) → checks T.start.rounds (opening_at b) (reply_of (came_of (opening_at b) h)).values ≡ check_at p T cs b ∷ []
-  check-so b h =
-      ap (λ (x : Answer). checks T.start.rounds (opening_at b) x.values) (hit-replies p large through T whole cs (opening_at b) h)
+  check_so : (b : ℕ) (h : H (opening_at b)) → checks T.start.rounds (opening_at b) (reply_of (came_of (opening_at b) h)).values ≡ check_at p T cs b ∷ []
+  check_so b h =
+      ap (λ (x : Answer). checks T.start.rounds (opening_at b) x.values) (hit_replies p large through T whole cs (opening_at b) h)
       ∙ ap (λ values. (record { query = query.CheckOpening b; shown = record { file = []; values = values; logs = [] } }) ∷ []) (opening_of_lem p large through T whole cs b _ h refl)
 
   claim_so : (plain : Bool) (t : ℤ) (c : ℕ) → claims (cond plain (reply.total t) (reply.field_total c)) ++ [] ≡ plainly (cond plain (query.Close t) (query.CloseClaim c)) ∷ []
@@ -152,16 +152,16 @@ module _ (p : ℕ) (large : max_weight < p) (through : Bool) (T : Trip) (whole :
 
   each-message : (q : Question) (h : H q) → claims_in (reply_of (came_of q h)).answer ++ checks T.start.rounds q (reply_of (came_of q h)).values ≡ carried_as (by_message p T cs) (asked q)
   unfolding carried_as
-  each-message total h = ap (λ (x : Answer). claims_in x.answer ++ []) (hit-replies p large through T whole cs total h) ∙ claim_so T.start.plain _ _
+  each-message total h = ap (λ (x : Answer). claims_in x.answer ++ []) (hit_replies p large through T whole cs total h) ∙ claim_so T.start.plain _ _
   each-message (round_message i) h =
-      ap (λ (x : Answer). claims_in x.answer ++ []) (hit-replies p large through T whole cs (round_message i) h)
+      ap (λ (x : Answer). claims_in x.answer ++ []) (hit_replies p large through T whole cs (round_message i) h)
       ∙ ap (λ (m : Message). plainly (brings_message m) ∷ []) (message-of p large through T whole cs i _ _ _ h refl)
-  each-message ends h = ap (λ (x : Answer). claims_in x.answer ++ []) (hit-replies p large through T whole cs ends h)
-  each-message (opening_at b) h = ap₂ ◌++◌ (ap (λ (x : Answer). claims_in x.answer) (hit-replies p large through T whole cs (opening_at b) h)) (check-so b h)
-  each-message proof h = ap (λ (x : Answer). claims_in x.answer ++ []) (hit-replies p large through T whole cs proof h)
+  each-message ends h = ap (λ (x : Answer). claims_in x.answer ++ []) (hit_replies p large through T whole cs ends h)
+  each-message (opening_at b) h = ap₂ ◌++◌ (ap (λ (x : Answer). claims_in x.answer) (hit_replies p large through T whole cs (opening_at b) h)) (check_so b h)
+  each-message proof h = ap (λ (x : Answer). claims_in x.answer ++ []) (hit_replies p large through T whole cs proof h)
   each-message (done x) h =
       let t = (goes_turn p h.world.state h.made.call h.made.lent h.made.lent h.free h.going.faithful.fits.run.round).0 in
-      ap (λ (x : Answer). claims_in x.answer ++ []) (hit-replies p large through T whole cs (done x) h)
+      ap (λ (x : Answer). claims_in x.answer ++ []) (hit_replies p large through T whole cs (done x) h)
       ∙ ap (λ xs. xs ++ []) (subst (AtTurn h.world.state.start.rounds _) h.asked t)
 
   each-check : (q : Question) (h : H q) → checks T.start.rounds q (reply_of (came_of q h)).values ≡ carried_as (by_check p T cs) (asked q)
@@ -169,7 +169,7 @@ module _ (p : ℕ) (large : max_weight < p) (through : Bool) (T : Trip) (whole :
   each-check total h = refl
   each-check (round_message i) h = refl
   each-check ends h = refl
-  each-check (opening_at b) h = check-so b h
+  each-check (opening_at b) h = check_so b h
   each-check proof h = refl
   each-check (done x) h = refl
 

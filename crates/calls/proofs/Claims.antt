@@ -29,7 +29,7 @@ use Rattle.calls.specs.Table.{level_now}
 use Rattle.calls.specs.Claim.{after_outcome, claiming_on, ClaimHolds, AllClaimed, amid_rounds}
 use Rattle.calls.specs.QueryState.{VerifierState}
 use Rattle.calls.proofs.Records.{Notes, noted}
-use Rattle.calls.proofs.Refusals.{Faithful, faithful-on}
+use Rattle.calls.proofs.Refusals.{Faithful, faithful_on}
 use Rattle.calls.proofs.Begins.{begun-faithful}
 use Rattle.calls.proofs.Answers.{Going, holds-here}
 use Rattle.calls.proofs.Hits.{Prefix}
@@ -56,7 +56,7 @@ module _ (p : ℕ) (large : max_weight < p) where
   all-claimed w {past} i (m ∷ ms) = (
     claimed w i,
     subst (λ x. always (claiming_on p) (ClaimHolds p) (record { now = onward p w m; running = x }) ms)
-        (running-noted p m.call past (came p w m).answer) (all-claimed (onward p w m) (faithful-on p large w i m) ms),
+        (running-noted p m.call past (came p w m).answer) (all-claimed (onward p w m) (faithful_on p large w i m) ms),
   )
 
   pub begun-claimed : (s : Start) (b : Begin) → CanBegin s b → (f g : List ℕ) (ms : List Made) → AllClaimed p (begun s b f g) ms
@@ -64,12 +64,12 @@ module _ (p : ℕ) (large : max_weight < p) where
   begun-claimed s (openings cs) h f g ms = all-claimed _ (begun-faithful p large s (openings cs) h f g) ms
 
   -- amid the rounds the current fold is that of the challenges taken
-  amid-level : (n i : ℕ) (t : Next) → round_fits t i n ≡ true → amid_rounds t ≡ true → level_now n i 0 t ≡ i
-  amid-level n i next.Total fits e = absurd (true≢false (sym e))
-  amid-level n i next.Message fits e = refl
-  amid-level n i next.Challenge fits e = refl
-  amid-level n i next.Ends fits e = sym (eqb-true i n fits)
-  amid-level n i next.Openings fits e = absurd (true≢false (sym e))
+  amid_level : (n i : ℕ) (t : Next) → round_fits t i n ≡ true → amid_rounds t ≡ true → level_now n i 0 t ≡ i
+  amid_level n i next.Total fits e = absurd (true≢false (sym e))
+  amid_level n i next.Message fits e = refl
+  amid_level n i next.Challenge fits e = refl
+  amid_level n i next.Ends fits e = sym (eqb-true i n fits)
+  amid_level n i next.Openings fits e = absurd (true≢false (sym e))
 
   -- BESIDE A VERIFIER
   module _ (through : Bool) (T : Trip) (whole : length T.items ≡ T.start.items) (cs : List ℕ) where
@@ -87,7 +87,7 @@ module _ (p : ℕ) (large : max_weight < p) where
         let ds : List ℕ = x.state.turn.challenges in
         let n : ℕ = x.state.start.rounds in
         let t : Next = x.state.turn.next in
-        let level = amid-level n (length ds) t going.faithful.fits.run.round amid in
+        let level = amid_level n (length ds) t going.faithful.fits.run.round amid in
         let held : x.run.claim ≡ dot p (size n (level_now n (length ds) 0 t)) (fold p (at ds) (level_now n (length ds) 0 t) (vector_f p T)) (fold p (at ds) (level_now n (length ds) 0 t) (vector_g p T)) =
         (holds-here p large through T whole x going).claim amid in
         let run : x.run.claim ≡ claim_of p T ds (length ds) =

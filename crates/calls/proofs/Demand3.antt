@@ -33,7 +33,7 @@ use Rattle.calls.proofs.BatchRuns.{batch-proper}
 use Rattle.calls.proofs.BatchOpenings.{batch-checked}
 use Rattle.calls.proofs.Answers.{Going, all_right}
 use Rattle.calls.proofs.Alike.{last-replies}
-use Rattle.calls.proofs.Hits.{hit-replies, hit-somewhere, going-after}
+use Rattle.calls.proofs.Hits.{hit_replies, hit_somewhere, going_after}
 use Rattle.calls.proofs.Longer.{along-first, always-first}
 use Rattle.calls.proofs.Claims.{begun-claimed, claims-same}
 use Rattle.calls.proofs.Links.{total-of, claim-of, message-of, file-of}
@@ -46,7 +46,7 @@ use Rattle.calls.proofs.HeardFollows.{Follows}
 use Rattle.calls.proofs.HeardLists.{says-trip, follows_next, fresh-follows}
 use Rattle.calls.proofs.VerdictLists.{every-verdict}
 use Rattle.calls.proofs.StartRows.{all-starts}
-use Rattle.calls.proofs.Unbound.{unbound-kept, return-frees}
+use Rattle.calls.proofs.Unbound.{unbound-kept, return_frees}
 
 -- WHAT THE RUN GAVE IS THE TRIP'S
 module _ (p : ℕ) (large : max_weight < p) (through : Bool) (T : Trip) (whole : Whole T) (cs : List ℕ) (w : World) {past : Notes}
@@ -54,18 +54,18 @@ module _ (p : ℕ) (large : max_weight < p) (through : Bool) (T : Trip) (whole :
   brings : (b : VerifierState) → b.challenges ≡ cs → (q : Query) (l : Shown) → BringsRun p T w ms b q l → BringsTrip p T b q l
   brings b e (query.Give x) l h = h
   brings b e (query.Close t) l h =
-      let g = hit-somewhere p large through T whole.items cs _ _ w going ms kept takes h in
-      total-of p large through T whole.items cs t g.0 (sym g.1 ∙ hit-replies p large through T whole.items cs _ g.0)
+      let g = hit_somewhere p large through T whole.items cs _ _ w going ms kept takes h in
+      total-of p large through T whole.items cs t g.0 (sym g.1 ∙ hit_replies p large through T whole.items cs _ g.0)
   brings b e (query.CloseClaim c) l h =
-      let g = hit-somewhere p large through T whole.items cs _ _ w going ms kept takes h in
-      claim-of p large through T whole.items cs c g.0 (sym g.1 ∙ hit-replies p large through T whole.items cs _ g.0)
+      let g = hit_somewhere p large through T whole.items cs _ _ w going ms kept takes h in
+      claim-of p large through T whole.items cs c g.0 (sym g.1 ∙ hit_replies p large through T whole.items cs _ g.0)
   brings b e (query.Message even cross odd) l h =
-      let g = hit-somewhere p large through T whole.items cs _ _ w going ms kept takes h in
-      message-of p large through T whole.items cs b.round even cross odd g.0 (sym g.1 ∙ hit-replies p large through T whole.items cs _ g.0)
+      let g = hit_somewhere p large through T whole.items cs _ _ w going ms kept takes h in
+      message-of p large through T whole.items cs b.round even cross odd g.0 (sym g.1 ∙ hit_replies p large through T whole.items cs _ g.0)
       ∙ ap (λ ds. message_at p T ds b.round) (sym e)
   brings b e query.Verdict l h = tt
   brings b e query.Proof l h =
-      let g = hit-somewhere p large through T whole.items cs _ _ w going ms kept takes h in
+      let g = hit_somewhere p large through T whole.items cs _ _ w going ms kept takes h in
       let f = file-of p large through T whole.items cs l.file g.0 g.1 in
       (f.0 ∙ ap (proof_of_trip p T) (sym e), f.1)
   brings b e (query.CheckOpening x) l h = tt
@@ -86,12 +86,12 @@ module _ (p : ℕ) (large : max_weight < p) (through : Bool) (T : Trip) (whole :
         )
 
     -- and the verifier after it
-    follows-after : (h : Hearing) → Follows p T cs h.state h.verifier → (qs : List Posed) → AllBringRun p T w ms h qs
+    follows_after : (h : Hearing) → Follows p T cs h.state h.verifier → (qs : List Posed) → AllBringRun p T w ms h qs
         → (let k : Hearing = after (hears_on p) h qs in Follows p T cs k.state k.verifier)
     unfolding along after
-    follows-after h f [] b = f
-    follows-after h f (q ∷ qs) b =
-        follows-after (hears_on p h q)
+    follows_after h f [] b = f
+    follows_after h f (q ∷ qs) b =
+        follows_after (hears_on p h q)
         (follows_next p large prime odd word T whole cs listed h f q (λ y. brings h.state f.challenges q.query q.shown (b.0 y))) qs b.1
 
 module _ (p : ℕ) (large : max_weight < p) (prime : Prime p) (odd : p % 2 ≡ 1) (word : p ≤ 2 ^ 32) where
@@ -114,7 +114,7 @@ module _ (p : ℕ) (large : max_weight < p) (prime : Prime p) (odd : p % 2 ≡ 1
         claims = begun-claimed p large;
         answers = λ through T whole b h f g ms kept.
             all_right p large through T whole.items (begun T.start b f g) (begun-going p large through T whole.items b h f g) ms kept;
-        freed = return-frees p;
+        freed = return_frees p;
         unbound = unbound-kept p;
         proper = proper-run p large prime odd word;
         proper_batch = batch-proper p large;
@@ -127,9 +127,9 @@ module _ (p : ℕ) (large : max_weight < p) (prime : Prime p) (odd : p % 2 ≡ 1
         claims_alike = λ through T whole b h f g ms ns kept cs listed takes qs brought.
             let w : World = begun T.start b f g in
             let going = begun-going p large through T whole.items b h f g in
-            let here = going-after p large through T whole.items cs w going ms (along-first (onward p) _ w ms ns kept) (always-first (onward p) _ w ms ns takes) in
+            let here = going_after p large through T whole.items cs w going ms (along-first (onward p) _ w ms ns kept) (always-first (onward p) _ w ms ns takes) in
             claims-same p large through T whole.items cs (after (onward p) w ms) here.1 here.2 _ _
-            (follows-after p large through T whole cs w going (ms ++ ns) kept takes prime odd word listed (fresh_hearing T.start cs)
+            (follows_after p large through T whole cs w going (ms ++ ns) kept takes prime odd word listed (fresh_hearing T.start cs)
             (fresh-follows p large prime odd word T whole cs listed) qs brought);
         openings_checked = λ through T whole b h f g ms kept cs listed takes.
             openings-checked p large prime odd word T whole cs listed through b h f g ms kept takes;

@@ -24,7 +24,7 @@ use Rattle.calls.specs.World.{Made, World, came, onward}
 use Rattle.calls.specs.Table.{long}
 use Rattle.calls.specs.Meaning.{binds_item, AsLeft}
 use Rattle.calls.specs.Demand3.{AllKept}
-use Rattle.calls.proofs.KeptCalls.{ItemKept, KeptBy, by-kept}
+use Rattle.calls.proofs.KeptCalls.{ItemKept, KeptBy, by_kept}
 
 abbrev pub same_integer : ℤ → ℤ → Bool
 same_integer (pos m) (pos n) = eqb m n
@@ -131,4 +131,4 @@ module _ (p : ℕ) (through : Bool) (T : Trip) where
   pub all-kept : (w : World) (ms : List Made) → all_true (each (onward p) (kept_at p through T) w ms) ≡ true → AllKept p through T w ms
   all-kept w ms e =
       tested (onward p) _ (kept_at p through T)
-      (λ w m h y. by-kept p T through w.state m.call m.lent (kept w.state m.call m.lent (implied (is_answered (came p w m).answer) (kept_test p through T w.state m.call m.lent) h y))) w ms e
+      (λ w m h y. by_kept p T through w.state m.call m.lent (kept w.state m.call m.lent (implied (is_answered (came p w m).answer) (kept_test p through T w.state m.call m.lent) h y))) w ms e

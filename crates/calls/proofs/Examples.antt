@@ -48,9 +48,9 @@ use Rattle.calls.specs.ExampleReturn.{returning}
 use Rattle.calls.proofs.ExampleKept.{all_true, all-kept}
 
 module _ (f g : List ℕ) where
-  pub small-run : TripList small_calls (claims_go 11 9 7 17) (fresh_world trip_start f g)
+  pub small_run : TripList small_calls (claims_go 11 9 7 17) (fresh_world trip_start f g)
   unfolding each all_true last_of calls_of answers_of refusals_of table sum_of step message_call give_call item_checks open_call open_at_call close_call challenge_call to_full_call write_call well_formed turn_formed pass_formed rounds_of in_limits size_in32 parts_of takes takes_in enters_in summed_item entered_in plus image residue neg_mod add_mod mul_mod values_of triple_values bytes bits all_below numbers proof_header write_proof written_in horner_at arrived top_at climb_from evaluated_from climbed evaluated meets_at summed settled sums_after stacks_fit entered streamed padding_from padding_below left placed placed_all placed_in in_range is_mark
-  small-run =
+  small_run =
       record {
         kept = all-kept P true trip (fresh_world trip_start f g) (calls_of small_calls) refl;
         replies = refl;
@@ -59,9 +59,9 @@ module _ (f g : List ℕ) where
         file = refl;
       }
 
-  pub full-run : TripList full_calls (claims_go 4 18 3 8) (fresh_world trip_start f g)
+  pub full_run : TripList full_calls (claims_go 4 18 3 8) (fresh_world trip_start f g)
   unfolding each all_true last_of calls_of answers_of refusals_of every table sum_of step message_given message_call ends_call give_call item_checks open_call close_call challenged_full challenge_call cleared to_full_call opening_given opening_call write_call well_formed turn_formed pass_formed rounds_of in_limits size_in32 parts_of takes takes_in enters_in summed_item entered_in plus image residue neg_mod add_mod mul_mod sum fold_with overwrite fold_slice message_slice triple_values bytes bits all_below numbers proof_header write_proof written_in horner_at arrived top_at climb_from evaluated_from climbed evaluated meets_at summed settled sums_after stacks_fit entered streamed padding_from padding_below left placed placed_all placed_in in_range is_mark
-  full-run =
+  full_run =
       record {
         kept = all-kept P true trip (fresh_world trip_start f g) (calls_of full_calls) refl;
         replies = refl;

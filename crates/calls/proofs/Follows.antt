@@ -24,7 +24,7 @@ use Rattle.vector.specs.Message.{Message, next_claim}
 use Rattle.claim.specs.Claim.{message_of3}
 use Rattle.vector.specs.Slice.{all_reduced, message_slice}
 use Rattle.vector.proofs.Rounds.{rounds-enough, size-last}
-use Rattle.vector.proofs.Every.{all-reduced-iff}
+use Rattle.vector.proofs.Every.{all-reduced_iff}
 use Rattle.phase.proofs.Facts.{waits-for}
 use Rattle.phase.specs.declared.Mode.{Mode}
 use Rattle.phase.specs.declared.Mode.TheVariants.{Small, Full}
@@ -71,7 +71,7 @@ use Rattle.calls.proofs.Turns.{both, pass_kind, openings_kind, change_kind, full
 use Rattle.item.specs.Mark.{counts_as}
 use Rattle.calls.proofs.ItemRows.{Limits, item-admitted}
 use Rattle.calls.proofs.Fits.{Fine, given_at, given_round, RunFits, PassFits, Fits, lt_or_le, few, run-formed, kind-is}
-use Rattle.calls.proofs.Numbers.{own-message, own-ends, slice-below}
+use Rattle.calls.proofs.Numbers.{own-message, own-ends, slice_below}
 use Rattle.calls.proofs.HeardTrip as heard
 
 -- what holds of a result o, and of the state that follows
@@ -90,10 +90,10 @@ module _ (p : ℕ) (large : max_weight < p) where
   no_items s m t k h = record { kind = h; idle = λ e. refl; count = omega arith; within = tt; own = λ q l. absurd (omega arith) }
 
   -- A PASS IS OPENED
-  pub open-follows : (a : State) {past : Notes} → Fits p a past → (l : Lent) → table p a call.OpenPass l ≡ none
+  pub open_follows : (a : State) {past : Notes} → Fits p a past → (l : Lent) → table p a call.OpenPass l ≡ none
       → (let o : Result = does p (run_of a past) (pass_of p a past) call.OpenPass l in Follows p (in_pass a Asked 0 []) past o)
   unfolding table pass_after
-  open-follows a {past} h l e =
+  open_follows a {past} h l e =
       let q = pass_kind a.turn.mode a.turn.next (row-passed _ 10 none e).0 in
       record {
         run = refl;
@@ -101,10 +101,10 @@ module _ (p : ℕ) (large : max_weight < p) where
         fits = record { run = h.run; pass = no_items a.start a.turn.mode a.turn.next Asked q.0 };
       }
 
-  pub open-at-follows : (a : State) {past : Notes} → Fits p a past → (b : ℕ) (l : Lent) → table p a (call.OpenAt b) l ≡ none
+  pub open_at_follows : (a : State) {past : Notes} → Fits p a past → (b : ℕ) (l : Lent) → table p a (call.OpenAt b) l ≡ none
       → (let o : Result = does p (run_of a past) (pass_of p a past) (call.OpenAt b) l in Follows p (in_pass a Asked b []) past o)
   unfolding table pass_after
-  open-at-follows a {past} h b l e =
+  open_at_follows a {past} h b l e =
       let q = openings_kind a.turn.mode a.turn.next a.start.rounds (row-passed _ 10 _ e).0 in
       record {
         run = refl;
@@ -112,10 +112,10 @@ module _ (p : ℕ) (large : max_weight < p) where
         fits = record { run = h.run; pass = no_items a.start a.turn.mode a.turn.next Asked q.0 };
       }
 
-  pub to-full-follows : (a : State) {past : Notes} → Fits p a past → (l : Lent) → table p a call.ToFull l ≡ none
+  pub to_full_follows : (a : State) {past : Notes} → Fits p a past → (l : Lent) → table p a call.ToFull l ≡ none
       → (let o : Result = does p (run_of a past) (pass_of p a past) call.ToFull l in Follows p (with_buffers (in_pass a Change 0 []) o.lent) past o)
   unfolding table pass_after
-  to-full-follows a {past} h l e =
+  to_full_follows a {past} h l e =
       let q = change_kind a.turn.mode a.turn.next a.start.rounds (row-passed _ 10 _ e).0 in
       record {
         run = refl;
@@ -135,15 +135,15 @@ module _ (p : ℕ) (large : max_weight < p) where
       owns (suc q) l = h.own q (omega arith)
 
   -- with the buffers or without
-  with-or-without : (b : Bool) (a : State) {past : Notes} (l : Lent) (o : Result) → Follows p a past o → Follows p (buffers_in b a l) past o
-  with-or-without true a l o h = record { run = h.run; pass = h.pass; fits = record { run = h.fits.run; pass = h.fits.pass } }
-  with-or-without false a l o h = h
+  with_or_without : (b : Bool) (a : State) {past : Notes} (l : Lent) (o : Result) → Follows p a past o → Follows p (buffers_in b a l) past o
+  with_or_without true a l o h = record { run = h.run; pass = h.pass; fits = record { run = h.fits.run; pass = h.fits.pass } }
+  with_or_without false a l o h = h
 
-  take-follows : (a : State) {past : Notes} → Fits p a past → (x : Given) (l m : Lent) → is_open a.pass.kind ≡ true → length a.pass.items < a.start.items → Within a.start x → heard.Fine p a.start.plain x
+  take_follows : (a : State) {past : Notes} → Fits p a past → (x : Given) (l m : Lent) → is_open a.pass.kind ≡ true → length a.pass.items < a.start.items → Within a.start x → heard.Fine p a.start.plain x
       → (o : Result) → o.run ≡ run_of a past → o.pass ≡ (takes p (run_of a past) (pass_of p a past) (contributes p a.start x) l.f l.g).pass
       → Follows p (buffers_in (is_change a.pass.kind) (in_pass a a.pass.kind a.pass.point (x ∷ a.pass.items)) m) past o
-  take-follows a {past} h x l m op less w own o er ep =
-      with-or-without (is_change a.pass.kind) (in_pass a a.pass.kind a.pass.point (x ∷ a.pass.items)) m o
+  take_follows a {past} h x l m op less w own o er ep =
+      with_or_without (is_change a.pass.kind) (in_pass a a.pass.kind a.pass.point (x ∷ a.pass.items)) m o
       (record {
         run = er;
         pass = ep ∙ after-item p (run_of a past) a.pass.kind a.pass.point a.pass.items x l.f l.g;
@@ -175,7 +175,7 @@ module _ (p : ℕ) (large : max_weight < p) where
       → (let o : Result = does p (run_of a past) (pass_of p a past) (call.Give x) l in Follows p (goes_on a (call.Give x) o.lent) past o)
   item-follows a {past} h x l e =
       let q = item-admitted p a l x e in
-      take-follows a h x l (does p (run_of a past) (pass_of p a past) (call.Give x) l).lent q.opened q.more (within a.start x q.limits) q.own
+      take_follows a h x l (does p (run_of a past) (pass_of p a past) (call.Give x) l).lent q.opened q.more (within a.start x q.limits) q.own
       (does p (run_of a past) (pass_of p a past) (call.Give x) l) (takes_run p (run_of a past) (pass_of p a past) (contributes p a.start x) l.f l.g) refl
 
   -- WHAT IS NEXT after the total and after a challenge
@@ -186,8 +186,8 @@ module _ (p : ℕ) (large : max_weight < p) where
       by true e = e
       by false e = eq-eqb i n (omega (arith, ltb-false i n e))
 
-  pub shut-items : (s : Start) (m : Mode) (t : Next) → PassFits p s m t Shut []
-  shut-items s m t = no_items s m t Shut refl
+  pub shut_items : (s : Start) (m : Mode) (t : Next) → PassFits p s m t Shut []
+  shut_items s m t = no_items s m t Shut refl
 
   -- THE TOTAL IS GIVEN
   total-fits : (a : State) {past : Notes} → Fits p a past → a.turn.next ≡ next.Total → (z : ℤ) → in_limits p z ≡ true → (claim : ℕ) → claim < p
@@ -338,9 +338,9 @@ module _ (p : ℕ) (large : max_weight < p) where
         Follows p (goes_to a (round_or_ends 0 a.start.rounds)) (noted p call.Close past (answer_in st.answer)) (keeping_step l st))
     unfolding pass_after
     total-closed true e et fits =
-        record { run = refl; pass = refl; fits = record { run = total-fits a h et (S Asked).total (fits refl) _ (image-below (S Asked).total); pass = shut-items a.start a.turn.mode _ } }
+        record { run = refl; pass = refl; fits = record { run = total-fits a h et (S Asked).total (fits refl) _ (image-below (S Asked).total); pass = shut_items a.start a.turn.mode _ } }
     total-closed false e et fits =
-        record { run = refl; pass = refl; fits = record { run = total-fits a h et past.total h.run.total _ (subst (λ x. x < p) (sym (own-dot p R Asked a.pass.point a.pass.items (run-formed p a h) (ap (waits next.Total) et) e all)) (residue-below p positive _)); pass = shut-items a.start a.turn.mode _ } }
+        record { run = refl; pass = refl; fits = record { run = total-fits a h et past.total h.run.total _ (subst (λ x. x < p) (sym (own-dot p R Asked a.pass.point a.pass.items (run-formed p a h) (ap (waits next.Total) et) e all)) (residue-below p positive _)); pass = shut_items a.start a.turn.mode _ } }
 
     close-core : (t : Next) (k : Kind) → a.turn.next ≡ t → is_open k ≡ true → kind_fits k a.turn.mode t ≡ true → (a.start.plain ≡ true → t ≡ next.Total → in_limits p (S Asked).total ≡ true)
         → (let st : Step = close_step p R (S k) t k in Follows p (closed a t k) (noted p call.Close past (answer_in st.answer)) (keeping_step l st))
@@ -354,7 +354,7 @@ module _ (p : ℕ) (large : max_weight < p) where
         record {
           run = message-run a h et (S Asked).even (S Asked).cross (S Asked).odd;
           pass = refl;
-          fits = record { run = message-fits a h et _ _ _ b.0 b.1 b.2; pass = shut-items a.start a.turn.mode _ };
+          fits = record { run = message-fits a h et _ _ _ b.0 b.1 b.2; pass = shut_items a.start a.turn.mode _ };
         }
     close-core next.Challenge Asked et op fit fits = absurd (no-pass a.turn.mode fit)
       where
@@ -363,15 +363,15 @@ module _ (p : ℕ) (large : max_weight < p) where
         no-pass Full e = true≢false (sym e)
     close-core next.Ends Asked et op fit fits =
         let b = own-ends p positive R a.pass.items (all-fine _ _ _ _ _ h.pass) a.pass.point (run-formed p a h) all (ap (waits next.Total) et) enough et in
-        record { run = refl; pass = refl; fits = record { run = ends-fits a h et _ _ b.0 b.1; pass = shut-items a.start a.turn.mode _ } }
+        record { run = refl; pass = refl; fits = record { run = ends-fits a h et _ _ b.0 b.1; pass = shut_items a.start a.turn.mode _ } }
     close-core next.Openings Asked et op fit fits =
         record {
           run = ap (λ t. run_with R t R.messages R.total R.claim R.fend R.gend) et;
           pass = refl;
-          fits = record { run = subst (λ t. RunFits p a.start t a.turn.challenges past.total past.messages past.running past.fend past.gend) et h.run; pass = shut-items a.start a.turn.mode _ };
+          fits = record { run = subst (λ t. RunFits p a.start t a.turn.challenges past.total past.messages past.running past.fend past.gend) et h.run; pass = shut_items a.start a.turn.mode _ };
         }
     close-core t Change et op fit fits =
-        record { run = refl; pass = refl; fits = record { run = h.run; pass = shut-items a.start Full a.turn.next } }
+        record { run = refl; pass = refl; fits = record { run = h.run; pass = shut_items a.start Full a.turn.next } }
 
   limit-of : (first plain inside : Bool) → (not (first && plain) || inside) ≡ true → first ≡ true → plain ≡ true → inside ≡ true
   limit-of true true inside e f g = e
@@ -394,12 +394,12 @@ module _ (p : ℕ) (large : max_weight < p) where
       ∙ limit-of (waits next.Total a.turn.next) a.start.plain _ v.0 (ap (waits next.Total) first) plain))
 
   -- the closed pass is the same of any run
-  shut-same : (r r' : Run) (k : Kind) (b : ℕ) (xs : List Given) → k ≡ Shut → xs ≡ [] → pass_after p r k b xs ≡ pass_after p r' Shut 0 []
+  shut_same : (r r' : Run) (k : Kind) (b : ℕ) (xs : List Given) → k ≡ Shut → xs ≡ [] → pass_after p r k b xs ≡ pass_after p r' Shut 0 []
   unfolding pass_after
-  shut-same r r' k b xs ek ex = rw (ek, ex)
+  shut_same r r' k b xs ek ex = rw (ek, ex)
 
-  shut-pass : (a : State) {past : Notes} → Fits p a past → a.pass.kind ≡ Shut → (r : Run) → pass_of p a past ≡ pass_after p r Shut 0 []
-  shut-pass a {past} h e r = shut-same (run_of a past) r a.pass.kind a.pass.point a.pass.items e (h.pass.idle e)
+  shut_pass_lem : (a : State) {past : Notes} → Fits p a past → a.pass.kind ≡ Shut → (r : Run) → pass_of p a past ≡ pass_after p r Shut 0 []
+  shut_pass_lem a {past} h e r = shut_same (run_of a past) r a.pass.kind a.pass.point a.pass.items e (h.pass.idle e)
 
   pub message-follows : (a : State) {past : Notes} → Fits p a past → (l : Lent) → table p a call.Message l ≡ none
       → (let o : Result = does p (run_of a past) (pass_of p a past) call.Message l in Follows p (goes_on a call.Message o.lent) (noted p call.Message past o.answer) o)
@@ -408,26 +408,26 @@ module _ (p : ℕ) (large : max_weight < p) where
       let q = both (is_full a.turn.mode) (waits next.Message a.turn.next) (row-passed _ 10 _ e).0 in
       let et = waits-for next.Message a.turn.next q.1 in
       let m : Message = message_slice p (fold_size (run_of a past) / 2) l.f l.g in
-      let b = slice-below p positive (fold_size (run_of a past) / 2) l.f l.g in
+      let b = slice_below p positive (fold_size (run_of a past) / 2) l.f l.g in
       record {
         run = message-run a h et m.even m.cross m.odd;
-        pass = shut-pass a h (full_shut a.pass.kind a.turn.mode a.turn.next q.0 h.pass.kind) _;
-        fits = record { run = message-fits a h et m.even m.cross m.odd b.0 b.1 b.2; pass = shut-items a.start a.turn.mode next.Challenge };
+        pass = shut_pass_lem a h (full_shut a.pass.kind a.turn.mode a.turn.next q.0 h.pass.kind) _;
+        fits = record { run = message-fits a h et m.even m.cross m.odd b.0 b.1 b.2; pass = shut_items a.start a.turn.mode next.Challenge };
       }
 
   -- the first place of a fold is a field number where all of its places are
   first-place : (a : State) (f : List ℕ) → 0 < long a → all_reduced p (long a) f ≡ true → at f 0 < p
-  first-place a f there e = (all-reduced-iff p (long a) f).0 e 0 there
+  first-place a f there e = (all-reduced_iff p (long a) f).0 e 0 there
 
-  pub to-small-follows : (a : State) {past : Notes} → Fits p a past → (l : Lent) → table p a call.ToSmall l ≡ none
+  pub to_small_follows : (a : State) {past : Notes} → Fits p a past → (l : Lent) → table p a call.ToSmall l ≡ none
       → (let o : Result = does p (run_of a past) (pass_of p a past) call.ToSmall l in Follows p (in_mode a Small) past o)
   unfolding table
-  to-small-follows a h l e =
+  to_small_follows a h l e =
       let full = (both (is_full a.turn.mode) (changes_next a.turn.next a.start.rounds) (row-passed _ 10 none e).0).0 in
       record {
         run = refl;
-        pass = shut-pass a h (full_shut a.pass.kind a.turn.mode a.turn.next full h.pass.kind) _;
-        fits = record { run = h.run; pass = shut-items a.start Small a.turn.next };
+        pass = shut_pass_lem a h (full_shut a.pass.kind a.turn.mode a.turn.next full h.pass.kind) _;
+        fits = record { run = h.run; pass = shut_items a.start Small a.turn.next };
       }
 
   pub ends-follows : (a : State) {past : Notes} → Fits p a past → (l : Lent) → table p a call.Ends l ≡ none
@@ -441,10 +441,10 @@ module _ (p : ℕ) (large : max_weight < p) where
       let u = both (all_reduced p (long a) l.f) (all_reduced p (long a) l.g) (row-passed _ 16 none (row-passed (both_long a l) 9 _ r.1).1).0 in
       record {
         run = refl;
-        pass = shut-pass a h (full_shut a.pass.kind a.turn.mode a.turn.next q.0 h.pass.kind) _;
+        pass = shut_pass_lem a h (full_shut a.pass.kind a.turn.mode a.turn.next q.0 h.pass.kind) _;
         fits = record {
           run = ends-fits a h et (at l.f 0) (at l.g 0) (first-place a l.f (omega arith) u.0) (first-place a l.g (omega arith) u.1);
-          pass = shut-items a.start a.turn.mode next.Openings;
+          pass = shut_items a.start a.turn.mode next.Openings;
         };
       }
 
@@ -489,8 +489,8 @@ module _ (p : ℕ) (large : max_weight < p) where
   challenge-follows a {past} h c l e =
       let et = waits-for next.Challenge a.turn.next (row-passed (waits next.Challenge a.turn.next) 10 _ e).0 in
       let shut : a.pass.kind ≡ Shut = challenge_shut a.pass.kind a.turn.mode (subst (λ t. kind_fits a.pass.kind a.turn.mode t ≡ true) et h.pass.kind) in
-      by a.turn.mode (challenge-run a h et c) (shut-pass a h shut (run_of (takes_challenge a c) (challenge_noted c past)))
-      (record { run = challenge-fits a h et c; pass = shut-items a.start a.turn.mode (takes_challenge a c).turn.next })
+      by a.turn.mode (challenge-run a h et c) (shut_pass_lem a h shut (run_of (takes_challenge a c) (challenge_noted c past)))
+      (record { run = challenge-fits a h et c; pass = shut_items a.start a.turn.mode (takes_challenge a c).turn.next })
     where
       by : (m : Mode) → kept_challenge p (run_of a past) c ≡ run_of (takes_challenge a c) (challenge_noted c past)
           → pass_of p a past ≡ pass_after p (run_of (takes_challenge a c) (challenge_noted c past)) Shut 0 [] → Fits p (takes_challenge a c) (challenge_noted c past)

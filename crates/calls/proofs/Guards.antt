@@ -117,42 +117,42 @@ module _ (p : ℕ) (a : State) (past : Notes) (few : a.start.rounds ≤ 15) wher
       ap (λ n. cond (leb n (length l.f)) (leb n (length l.g)) false) fold-long
       ∙ both_and (leb (long a) (length l.f)) (leb (long a) (length l.g))
 
-  reduced-test : (l : Lent) → both_reduced p R l.f l.g ≡ (all_reduced p (long a) l.f && all_reduced p (long a) l.g)
-  reduced-test l =
+  reduced_test : (l : Lent) → both_reduced p R l.f l.g ≡ (all_reduced p (long a) l.f && all_reduced p (long a) l.g)
+  reduced_test l =
       ap (λ n. cond (all_reduced p n l.f) (all_reduced p n l.g) false) fold-long
       ∙ both_and (all_reduced p (long a) l.f) (all_reduced p (long a) l.g)
 
   -- 9 and 16 of a full-mode call
   reads : (l : Lent) (o : Out) → lent_folds p R l.f l.g (answered o) ≡ decided (read_rows p a l) (answered o)
-  reads l o = lent-by_rows p R l.f l.g (answered o) ∙ like_row _ _ 9 _ _ _ (long-test l) (like_row _ _ 16 _ none _ (reduced-test l) refl)
+  reads l o = lent-by_rows p R l.f l.g (answered o) ∙ like_row _ _ 9 _ _ _ (long-test l) (like_row _ _ 16 _ none _ (reduced_test l) refl)
 
   module _ (s : Pass) (wf : well_formed p R s ≡ true) where
-    formed-and : (x y : Bool) → x ≡ y → cond (well_formed p R s) x false ≡ y
-    formed-and x y e = ap (λ b. cond b x false) wf ∙ e
+    formed_and : (x y : Bool) → x ≡ y → cond (well_formed p R s) x false ≡ y
+    formed_and x y e = ap (λ b. cond b x false) wf ∙ e
 
     turn-and : (m x y : Bool) → cond m x false ≡ y → cond (cond (well_formed p R s) m false) x false ≡ y
-    turn-and m x y e = ap (λ b. cond b x false) (formed-and m m refl) ∙ e
+    turn-and m x y e = ap (λ b. cond b x false) (formed_and m m refl) ∙ e
 
-    pub open-decided : (l : Lent) → open_call p R s ≡ decided (table p a call.OpenPass l) (answered (opened R no_points (open_kernel R)))
+    pub open_decided : (l : Lent) → open_call p R s ≡ decided (table p a call.OpenPass l) (answered (opened R no_points (open_kernel R)))
     unfolding open_call table
-    open-decided l = like_row _ _ 10 _ none _ (turn-and _ _ _ (pass_next_lem a.turn.mode a.turn.next)) refl
+    open_decided l = like_row _ _ 10 _ none _ (turn-and _ _ _ (pass_next_lem a.turn.mode a.turn.next)) refl
 
-    pub open-at-decided : (b : ℕ) (l : Lent) → open_at_call p R s b ≡ decided (table p a (call.OpenAt b) l) (answered (opened R (points_of p b) (padded_kernel R)))
+    pub open_at_decided : (b : ℕ) (l : Lent) → open_at_call p R s b ≡ decided (table p a (call.OpenAt b) l) (answered (opened R (points_of p b) (padded_kernel R)))
     unfolding open_at_call table
-    open-at-decided b l =
+    open_at_decided b l =
         like_row _ _ 10 _ _ _
         (turn-and _ _ _ (openings_next_lem (is_small a.turn.mode) a.turn.next a.start.rounds))
         (same_row (is_nonzero p b) 6 _ none _ refl)
 
-    pub to-full-decided : (l : Lent) → to_full_call p R s l.f l.g ≡ decided (table p a call.ToFull l) (answered (changes R l.f l.g))
+    pub to_full_decided : (l : Lent) → to_full_call p R s l.f l.g ≡ decided (table p a call.ToFull l) (answered (changes R l.f l.g))
     unfolding to_full_call table
-    to-full-decided l =
+    to_full_decided l =
         like_row _ _ 10 _ _ _ (turn-and _ _ _ (changes-next (is_small a.turn.mode) a.turn.next a.start.rounds))
         (like_row _ _ 9 _ none _ (long-test l) refl)
 
-    pub to-small-decided : (l : Lent) → to_small_call p R s ≡ decided (table p a call.ToSmall l) (answered (returns R s))
+    pub to_small_decided : (l : Lent) → to_small_call p R s ≡ decided (table p a call.ToSmall l) (answered (returns R s))
     unfolding to_small_call table
-    to-small-decided l = like_row _ _ 10 _ none _ (turn-and _ _ _ (changes-next (is_full a.turn.mode) a.turn.next a.start.rounds)) refl
+    to_small_decided l = like_row _ _ 10 _ none _ (turn-and _ _ _ (changes-next (is_full a.turn.mode) a.turn.next a.start.rounds)) refl
 
     pub message-decided : (l : Lent) → message_call p R s l.f l.g ≡ decided (table p a call.Message l) (answered (message_given p R s l.f l.g))
     unfolding message_call table
@@ -179,16 +179,16 @@ module _ (p : ℕ) (a : State) (past : Notes) (few : a.start.rounds ≤ 15) wher
         → challenge_call p R s c l.f l.g ≡ decided (table p a (call.Challenge c) l) (answered (challenge_does p R s c l a.turn.mode))
     unfolding challenge_call table
     challenge-decided c l =
-        like_row _ _ 10 _ _ _ (formed-and _ _ refl)
+        like_row _ _ 10 _ _ _ (formed_and _ _ refl)
         (same_row (is_nonzero p c) 6 _ _ _ (challenge-mode c l a.turn.mode))
 
     -- the open pass is the state's
     module _ (kind : s.kind ≡ a.pass.kind) (count : s.taken ≡ length a.pass.items) where
-      pub open-test : cond (well_formed p R s) (is_open s.kind) false ≡ is_open a.pass.kind
-      open-test = formed-and _ _ (ap is_open kind)
+      pub open_test : cond (well_formed p R s) (is_open s.kind) false ≡ is_open a.pass.kind
+      open_test = formed_and _ _ (ap is_open kind)
 
-      wanted-test : ltb s.taken a.start.items ≡ ltb (length a.pass.items) a.start.items
-      wanted-test = ap (λ n. ltb n a.start.items) count
+      wanted_test : ltb s.taken a.start.items ≡ ltb (length a.pass.items) a.start.items
+      wanted_test = ap (λ n. ltb n a.start.items) count
 
       pub place-there : (l : Lent) → places_there R s (length l.f) (length l.g) ≡ (not (is_change a.pass.kind) || both_long a l)
       place-there l =
@@ -226,7 +226,7 @@ module _ (p : ℕ) (a : State) (past : Notes) (few : a.start.rounds ≤ 15) wher
       pub item-decided : (x : Given) (l : Lent)
           → give_call p R s x l.f l.g ≡ decided (table p a (call.Give x) l) (answered (takes p R s (contributes p a.start x) l.f l.g))
       unfolding table
-      item-decided x l = give-rows p R s x l.f l.g ∙ like_row _ _ 10 _ _ _ open-test (like_row _ _ 8 _ _ _ wanted-test (own-rows x l))
+      item-decided x l = give-rows p R s x l.f l.g ∙ like_row _ _ 10 _ _ _ open_test (like_row _ _ 8 _ _ _ wanted_test (own-rows x l))
 
       total-test : (waits next.Total a.turn.next ≡ true → s.total ≡ sum_of a.start a.pass.items) → close.total_fits p R s ≡ total_fits p a
       total-test sums = by (waits next.Total a.turn.next) refl refl
@@ -243,5 +243,5 @@ module _ (p : ℕ) (a : State) (past : Notes) (few : a.start.rounds ≤ 15) wher
           → close_call p R s ≡ decided (table p a call.Close l) (closing p R s s.kind)
       unfolding close_call table
       close-decided sums l =
-          like_row _ _ 10 _ _ _ open-test
+          like_row _ _ 10 _ _ _ open_test
           (like_row _ _ 8 _ _ _ (ap (λ n. eqb n a.start.items) count) (like_row _ _ 7 _ none _ (total-test sums) refl))

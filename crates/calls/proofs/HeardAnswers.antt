@@ -25,7 +25,7 @@ use Rattle.verifier.specs.Claims.{message_of3, closed_with, passed_with, failed_
 use Rattle.verifier.specs.Openings.{opening_finds}
 use Rattle.verifier.specs.Batch.{batch_finds}
 use Rattle.verifier.specs.ProofFile.{file_message, hears_next, hears_first, ends_agree, compares, after_file}
-use Rattle.verifier.proofs.TrueOpenings.{true-opening-holds}
+use Rattle.verifier.proofs.TrueOpenings.{true_opening_holds}
 use Rattle.item.specs.declared.Start.{Start}
 use Rattle.runs.specs.Trip.{Trip, trip_item, vector_f, vector_g}
 use Rattle.calls.specs.declared.query.Query.{Query}
@@ -66,7 +66,7 @@ module _ (p : ℕ) (large : max_weight < p) (prime : Prime p) (odd : p % 2 ≡ 1
       → opening_finds p v b (opening p n (at cs) (vector_f p T) (vector_g p T) b) ≡ holds
   opening-holds k v c b ok =
       ap (λ k. opening_finds p v b (opening p k (at cs) (vector_f p T) (vector_g p T) b)) (sym (ap (λ s. s.rounds) c.start))
-      ∙ true-opening-holds prime odd b (nonzero p b ok) v (at cs)
+      ∙ true_opening_holds prime odd b (nonzero p b ok) v (at cs)
       (λ k h. carried_challenge c few listed k (omega (arith, ap (λ s. s.rounds) c.start)))
       (vector_f p T) (vector_g p T)
 

@@ -32,7 +32,7 @@ use Rattle.calls.specs.Starts.{Startable}
 use Rattle.calls.proofs.Guards.{like_row}
 use Rattle.calls.proofs.Steps.{row-passed}
 use Rattle.calls.proofs.QueryStands.{Stands, fresh-stands}
-use Rattle.calls.proofs.QueryGuards.{open-test}
+use Rattle.calls.proofs.QueryGuards.{open_test}
 use Rattle.calls.proofs.QuerySteps.{answers, settled_heard, step_so, asks}
 use Rattle.calls.proofs.QueryKeeps.{stands_after}
 use Rattle.calls.proofs.QueryLists.{stands-next}
@@ -60,7 +60,7 @@ module _ (p : ℕ) (a : VerifierState) (v : Verifier) (s : Stands p a v) (b : Bl
   pub block-decided : items p v b ≡ decided (verifier_block_table p a b) (answered (all_taken p v b own_count))
   unfolding items verifier_block_table
   block-decided =
-      like_row _ _ 10 _ _ _ (open-test p a v s)
+      like_row _ _ 10 _ _ _ (open_test p a v s)
       (ap (λ o. with_block o (λ n. takes_all p b n v)) (checks-rows p v.start v.taken false b)
       ∙ with_block_lem (rows_for v.start v.taken) (count v.start.version b) (λ n. takes_all p b n v)
       ∙ ap₂ (λ t k. decided (rows_for t k) (answered (all_taken p v b (count t.version b)))) s.carries.start s.carries.taken)
@@ -223,8 +223,8 @@ module _ (p : ℕ) (b : Block) (h : Hearing) where
       let y = row-passed (ltb (taken + j) h.state.start.items) 8 _ x.1 in
       record { unclosed = x.0; more = ltb-true _ _ y.0; fine = y.1 }
 
-  not-against : (j : ℕ) → Wanted j → table_at j ≡ none
-  not-against j w =
+  not_against : (j : ℕ) → Wanted j → table_at j ≡ none
+  not_against j w =
       single-table j ∙ rw (w.unclosed, lt-ltb (taken + j) h.state.start.items w.more) w.fine
 
   -- A BLOCK'S TABLE IS ITS SINGLE ITEMS' TABLES
@@ -234,7 +234,7 @@ module _ (p : ℕ) (b : Block) (h : Hearing) where
       let x = row-passed (not h.state.closed) 10 _ e in
       let y = row-passed (leb (taken + count version b) h.state.start.items) 8 _ x.1 in
       let most = leb-true (taken + count version b) h.state.start.items y.0 in
-      not-against j (record { unclosed = x.0; more = omega arith; fine = (rows-passed p h.state.start taken b none y.1).each j below })
+      not_against j (record { unclosed = x.0; more = omega arith; fine = (rows-passed p h.state.start taken b none y.1).each j below })
 
   singles-table : is_whole version b ≡ true → 0 < count version b → ((j : ℕ) → j < count version b → table_at j ≡ none) → verifier_block_table p h.state b ≡ none
   unfolding verifier_block_table
@@ -301,25 +301,25 @@ module _ (p : ℕ) (h : Hearing) (s : Stands p h.state h.verifier) (b : Block) w
 
 -- WHATEVER THE LIST
 module _ (p : ℕ) where
-  wide-decided : (h : Hearing) → Stands p h.state h.verifier → (x : WidePosed) → WideDecidedHeard p h x
-  wide-decided h s (posed q) = tt
-  wide-decided h s (handed b) = block-heard p h s b
+  wide_decided : (h : Hearing) → Stands p h.state h.verifier → (x : WidePosed) → WideDecidedHeard p h x
+  wide_decided h s (posed q) = tt
+  wide_decided h s (handed b) = block-heard p h s b
 
-  wide-leads : (h : Hearing) → Stands p h.state h.verifier → (x : WidePosed)
+  wide_leads : (h : Hearing) → Stands p h.state h.verifier → (x : WidePosed)
       → (wide_hears p h x ≡ after (hears_on p) h (standing_heard p h x)) × Stands p (wide_hears p h x).state (wide_hears p h x).verifier
   unfolding after
-  wide-leads h s (posed q) = (refl, stands-next p h.state h.verifier s q.query q.shown)
-  wide-leads h s (handed b) = block-leads p h s b
+  wide_leads h s (posed q) = (refl, stands-next p h.state h.verifier s q.query q.shown)
+  wide_leads h s (handed b) = block-leads p h s b
 
   pub all-heard-blocks : (h : Hearing) → Stands p h.state h.verifier → (xs : List WidePosed)
       → along (wide_hears p) (WideDecidedHeard p) h xs × (after (wide_hears p) h xs ≡ after (hears_on p) h (expanded_heard p h xs))
   unfolding after along expanded_heard
   all-heard-blocks h s [] = (tt, refl)
   all-heard-blocks h s (x ∷ xs) =
-      let l = wide-leads h s x in
+      let l = wide_leads h s x in
       let r = all-heard-blocks (wide_hears p h x) l.1 xs in
       let rest = expanded_heard p (wide_hears p h x) xs in (
-        (wide-decided h s x, r.0),
+        (wide_decided h s x, r.0),
         r.1 ∙ ap (λ w. after (hears_on p) w rest) l.0 ∙ sym (after-joined (hears_on p) h (standing_heard p h x) rest),
       )
 

@@ -12,7 +12,7 @@ use Rattle.refusal.specs.Limit.{max_weight}
 use Rattle.field.specs.Total.{in_limits}
 use Rattle.wire.specs.Proof.{proof_total, proof_number, proof_file}
 use Rattle.wire.proofs.ProofSays.{GoodProof}
-use Rattle.wire.proofs.RoundTrip.{thirds, Writable, ReadsAs, reads-back, good, messages-same, ends_same}
+use Rattle.wire.proofs.RoundTrip.{thirds, Writable, ReadsAs, reads_back, good, messages-same, ends_same}
 use Rattle.vector.specs.Vector.{at}
 use Rattle.vector.specs.Fold.{end_value}
 use Rattle.vector.specs.Message.{Message}
@@ -48,10 +48,10 @@ same_message : {a b c : ℕ} {m : Message} → a ≡ m.even → b ≡ m.cross �
 same_message {m = m} x y z = rw (x, y, z)
 
 module _ (p : ℕ) (T : Trip) (cs : List ℕ) where
-  lists-messages : (k : ℕ) → Lists k (message_at p T cs) (messages_to p T cs k)
+  lists_messages : (k : ℕ) → Lists k (message_at p T cs) (messages_to p T cs k)
   unfolding messages_of
-  lists-messages zero r h = absurd (omega arith)
-  lists-messages (suc k) r h =
+  lists_messages zero r h = absurd (omega arith)
+  lists_messages (suc k) r h =
       let xs = messages_to p T cs k in
       let m = message_at p T cs k in
       let long = length_messages p T cs k in
@@ -62,9 +62,9 @@ module _ (p : ℕ) (T : Trip) (cs : List ℕ) where
       × (get_or (messages_to p T cs (suc k)) (3 * r + 2) 0 ≡ (message_at p T cs r).odd))
       k
       (λ r l. (
-        earlier xs k long m.even m.cross m.odd (3 * r) (omega arith) ∙ (lists-messages k r l).0,
-        earlier xs k long m.even m.cross m.odd (3 * r + 1) (omega arith) ∙ (lists-messages k r l).1,
-        earlier xs k long m.even m.cross m.odd (3 * r + 2) (omega arith) ∙ (lists-messages k r l).2,
+        earlier xs k long m.even m.cross m.odd (3 * r) (omega arith) ∙ (lists_messages k r l).0,
+        earlier xs k long m.even m.cross m.odd (3 * r + 1) (omega arith) ∙ (lists_messages k r l).1,
+        earlier xs k long m.even m.cross m.odd (3 * r + 2) (omega arith) ∙ (lists_messages k r l).2,
       )) (
         first-added xs k long m.even m.cross m.odd,
         added xs k long m.even m.cross m.odd 1,
@@ -93,7 +93,7 @@ module _ (p : ℕ) (T : Trip) (cs : List ℕ) where
     numbers-below : (k : ℕ) → k < 3 * n → get_or ms k 0 < p
     numbers-below =
         thirds (λ k. get_or ms k 0 < p) n λ r h.
-        let x = lists-messages n r h in
+        let x = lists_messages n r h in
         (rw x.0 (below _), rw x.1 (below _), rw x.2 (below _))
 
     writable : Writable p n (total_of T) ms end_f end_g
@@ -112,7 +112,7 @@ module _ (p : ℕ) (T : Trip) (cs : List ℕ) where
     reads : ReadsAs p (proof_of_trip p T cs) n (total_of T) ms end_f end_g
     reads =
         subst (λ xs. ReadsAs p (proof_file n (total_of T) (xs ++ end_f ∷ end_g ∷ [])) n (total_of T) ms end_f end_g)
-        (take_all (3 * n) ms (omega (arith, length_messages p T cs n))) (reads-back p n (total_of T) ms end_f end_g writable)
+        (take_all (3 * n) ms (omega (arith, length_messages p T cs n))) (reads_back p n (total_of T) ms end_f end_g writable)
 
     pub file-good : GoodProof p (proof_of_trip p T cs) (record { rounds = n; total = total_of T })
     file-good = good p (proof_of_trip p T cs) n (total_of T) ms end_f end_g reads
@@ -125,7 +125,7 @@ module _ (p : ℕ) (T : Trip) (cs : List ℕ) where
           total = file-good.total;
           messages = λ i h.
               let e = messages-same p file n (total_of T) ms end_f end_g reads i h in
-              let x = lists-messages n i h in
+              let x = lists_messages n i h in
               same_message (e.0 ∙ x.0) (e.1 ∙ x.1) (e.2 ∙ x.2);
           end_f_lem = ends.0;
           end_g_lem = ends.1;

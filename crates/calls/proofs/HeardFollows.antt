@@ -130,9 +130,9 @@ module _ (p : ℕ) (T : Trip) (cs : List ℕ) where
         }
 
     -- after a close, a message or a verdict
-    follows-at : (w : Verifier) (i : ℕ) → Stands p (at_round a i false) w → w.fsum ≡ v.fsum → w.gsum ≡ v.gsum → w.claim ≡ claim_of p T cs i
+    follows_at : (w : Verifier) (i : ℕ) → Stands p (at_round a i false) w → w.fsum ≡ v.fsum → w.gsum ≡ v.gsum → w.claim ≡ claim_of p T cs i
         → Follows p T cs (at_round a i false) w
-    follows-at w i stands sf sg claim =
+    follows_at w i stands sf sg claim =
         record {
           stands = stands;
           start = f.start;
@@ -158,7 +158,7 @@ module _ (p : ℕ) (T : Trip) (cs : List ℕ) where
         let s = f.stands in
         let c = s.carries in
         let formed = closed-formed v claim c.formed (s.closed ∙ unclosed) (ap₂ eqb c.taken (ap (λ s. s.items) c.start) ∙ whole) in
-        follows-at (closed_with v claim) 0
+        follows_at (closed_with v claim) 0
         (subst (λ b. Stands p (at_round a 0 b) (closed_with v claim)) f.going
         (subst (λ i. Stands p (at_round a i a.refuted) (closed_with v claim)) (no-message unclosed)
         (close-stands p a v f.stands claim unclosed formed)))
@@ -183,7 +183,7 @@ module _ (p : ℕ) (T : Trip) (cs : List ℕ) where
           let stands : Stands p (hearing a (replies (hears p v m).reply)) (hears p v m).verifier =
           message-stands p a v s m closed f.going (subst (λ (x : Replied). well_formed x.verifier ≡ true) (sym heard) formed) in (
             heard,
-            follows-at (passed_with p v m) (suc a.round)
+            follows_at (passed_with p v m) (suc a.round)
                 (subst (λ (x : Replied). Stands p (hearing a (replies x.reply)) x.verifier) heard stands) refl refl
                 (ap₂ (next_claim p) e (ap₂ at c.challenges same ∙ fifteen-at n cs few (omega arith) a.round less)
                 ∙ message-next p n (at cs) (vector_f p T) (vector_g p T) a.round),
@@ -217,5 +217,5 @@ module _ (p : ℕ) (T : Trip) (cs : List ℕ) where
             let yes-said = verdict-yes closed last in
             let stands = verdict-stands p a v f.stands.carries turn in
             subst (λ d. Follows p T cs (hearing a (said.finds d)) v) (sym yes-said)
-            (follows-at v a.start.rounds (subst (λ d. Stands p (hearing a (said.finds d)) v) yes-said stands) refl refl
+            (follows_at v a.start.rounds (subst (λ d. Stands p (hearing a (said.finds d)) v) yes-said stands) refl refl
             (f.claim closed ∙ ap (claim_of p T cs) (last ∙ ap (λ s. s.rounds) (sym f.start))))

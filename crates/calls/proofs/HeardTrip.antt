@@ -23,7 +23,7 @@ use Rattle.vector.proofs.Sums.{sum_same, sum_first, running-product}
 use Rattle.vector.proofs.Folds.{fold-challenges}
 use Rattle.vector.proofs.Messages.{dot-padded}
 use Rattle.vector.proofs.Overwrite.{fifteen-at}
-use Rattle.vector.proofs.EndValues.{weighted, end-padded}
+use Rattle.vector.proofs.EndValues.{weighted, end_padded}
 use Rattle.item.specs.declared.Start.{Start}
 use Rattle.item.specs.declared.Given.{Given}
 use Rattle.item.specs.declared.Given.TheVariants.{Reading, Numbers}
@@ -120,11 +120,11 @@ module _ (p : ℕ) (large : max_weight < p) (T : Trip) (enough : T.start.items �
 
     pub end_f_lem : weighted p (at (fifteen n cs)) n (enters_f p T) L ≡ end_value p (at cs) n (vector_f p T)
     end_f_lem =
-        sym (end-padded p (at (fifteen n cs)) n L (enters_f p T) enough
+        sym (end_padded p (at (fifteen n cs)) n L (enters_f p T) enough
         (λ i l. fine-f p large T.start T.start.plain (weight p (at T.start.twists) n i) (trip_item T i) (fine i l)))
         ∙ fold-challenges (combine p) (at (fifteen n cs)) (at cs) (vector_f p T) n agree 0
 
     pub end_g_lem : weighted p (at (fifteen n cs)) n (enters_g p T) L ≡ end_value p (at cs) n (vector_g p T)
     end_g_lem =
-        sym (end-padded p (at (fifteen n cs)) n L (enters_g p T) enough (λ i l. fine-g p large T.start T.start.plain (trip_item T i) (fine i l)))
+        sym (end_padded p (at (fifteen n cs)) n L (enters_g p T) enough (λ i l. fine-g p large T.start T.start.plain (trip_item T i) (fine i l)))
         ∙ fold-challenges (combine p) (at (fifteen n cs)) (at cs) (vector_g p T) n agree 0

@@ -33,7 +33,7 @@ use Rattle.calls.proofs.Records.{Notes}
 use Rattle.calls.proofs.Steps.{row-passed}
 use Rattle.calls.proofs.Fits.{Fits}
 use Rattle.calls.proofs.Turns.{both}
-use Rattle.calls.proofs.Refusals.{decide-step}
+use Rattle.calls.proofs.Refusals.{decide_step}
 use Rattle.calls.proofs.Answers.{Going, right-here, goes_on_lem}
 use Rattle.calls.proofs.Alike.{answered_none}
 
@@ -54,32 +54,32 @@ module _ (p : ℕ) (large : max_weight < p) (through : Bool) (T : Trip) (whole :
     pub right : Right p T world.state made.call made.lent (came p world made)
 
   -- what it replied
-  pub hit-replies : (q : Question) (h : Hit q) → reply_of (came p h.world h.made) ≡ meant p T h.world.state.turn.challenges q
-  hit-replies q h = ap₂ (λ x y. record { answer = x; values = y }) h.right.answer h.right.values ∙ ap (meant p T h.world.state.turn.challenges) h.asked
+  pub hit_replies : (q : Question) (h : Hit q) → reply_of (came p h.world h.made) ≡ meant p T h.world.state.turn.challenges q
+  hit_replies q h = ap₂ (λ x y. record { answer = x; values = y }) h.right.answer h.right.values ∙ ap (meant p T h.world.state.turn.challenges) h.asked
 
-  unfoldable pub hit-here : (w : World) {past : Notes} → Going p large through T whole w past → Prefix w.state.turn.challenges cs → (m : Made)
+  unfoldable pub hit_here : (w : World) {past : Notes} → Going p large through T whole w past → Prefix w.state.turn.challenges cs → (m : Made)
       → (is_answered (came p w m).answer ≡ true → Kept p T through w.state m.call m.lent) → (q : Question) → Answered p q w m → Hit q
-  hit-here w {past} g prefix m kept q e =
-      let d = decide-step p large w.state w.run w.pass g.faithful m.call m.lent in
+  hit_here w {past} g prefix m kept q e =
+      let d = decide_step p large w.state w.run w.pass g.faithful m.call m.lent in
       let free = answered_none w.run w.pass m.lent (table p w.state m.call m.lent) (came p w m) d e.0 in
       record { world = w; past = past; made = m; going = g; prefix = prefix; asked = e.1; free = free; right = right-here p large through T whole w g m kept free }
 
   -- WHAT HOLDS SOMEWHERE IN THE LIST of an answered call that was asked q
-  pub hit-somewhere : (q : Question) (P : World → Made → Type 0) (w : World) {past : Notes} → Going p large through T whole w past → (ms : List Made) → AllKept p through T w ms
+  pub hit_somewhere : (q : Question) (P : World → Made → Type 0) (w : World) {past : Notes} → Going p large through T whole w past → (ms : List Made) → AllKept p through T w ms
       → AllTake p cs w ms → somewhere (onward p) (λ w m. Answered p q w m × P w m) w ms → (h : Hit q) × P h.world h.made
-  unfolding along always somewhere hit-here
-  hit-somewhere q P w g [] kept takes e = absurd e
-  hit-somewhere q P w g (m ∷ ms) kept takes e =
+  unfolding along always somewhere hit_here
+  hit_somewhere q P w g [] kept takes e = absurd e
+  hit_somewhere q P w g (m ∷ ms) kept takes e =
       ⊎_elim {C = (h : Hit q) × P h.world h.made}
-      (λ here. (hit-here w g takes.0 m kept.0 q here.0, here.1))
-      (λ later. hit-somewhere q P (onward p w m) (goes_on_lem p large through T whole w g m kept.0) ms kept.1 takes.1 later) e
+      (λ here. (hit_here w g takes.0 m kept.0 q here.0, here.1))
+      (λ later. hit_somewhere q P (onward p w m) (goes_on_lem p large through T whole w g m kept.0) ms kept.1 takes.1 later) e
 
   -- THE WORLD AFTER THE LIST
-  pub going-after : (w : World) {past : Notes} → Going p large through T whole w past → (ms : List Made) → AllKept p through T w ms → AllTake p cs w ms
+  pub going_after : (w : World) {past : Notes} → Going p large through T whole w past → (ms : List Made) → AllKept p through T w ms → AllTake p cs w ms
       → (let x : World = after (onward p) w ms in (past : Notes) × Going p large through T whole x past × Prefix x.state.turn.challenges cs)
   unfolding along always after
-  going-after w {past} g [] kept takes = (past, g, takes)
-  going-after w g (m ∷ ms) kept takes = going-after (onward p w m) (goes_on_lem p large through T whole w g m kept.0) ms kept.1 takes.1
+  going_after w {past} g [] kept takes = (past, g, takes)
+  going_after w g (m ∷ ms) kept takes = going_after (onward p w m) (goes_on_lem p large through T whole w g m kept.0) ms kept.1 takes.1
 
 -- THE ROUND OF A QUESTION
 abbrev round_in : ℕ → Question → ℕ

@@ -116,9 +116,9 @@ module _ (p : ℕ) (large : max_weight < p) (through : Bool) (its : List Given) 
         claim = g.claim;
       }
 
-  pub to-full-agrees : table p a call.ToFull l ≡ none → (let o : Result = does p (run_of a past) (pass_of p a past) call.ToFull l in Agrees p through its (with_buffers (in_pass a Change 0 []) o.lent) past)
+  pub to_full_agrees : table p a call.ToFull l ≡ none → (let o : Result = does p (run_of a past) (pass_of p a past) call.ToFull l in Agrees p through its (with_buffers (in_pass a Change 0 []) o.lent) past)
   unfolding table
-  to-full-agrees e =
+  to_full_agrees e =
       let o : Result = does p (run_of a past) (pass_of p a past) call.ToFull l in
       let b : State = with_buffers (in_pass a Change 0 []) o.lent in
       let s = (both (is_small a.turn.mode) _ (row-passed (change_waits a.turn.mode a.turn.next a.start.rounds) 10 _ e).0).0 in
@@ -139,9 +139,9 @@ module _ (p : ℕ) (large : max_weight < p) (through : Bool) (its : List Given) 
 
   -- AN ITEM IS TAKEN
   -- places written now, and those kept since they were left
-  kept-or-new : (v : Vector) (from to : ℕ) (old lent new : List ℕ) → Written v from to lent new → ((j : ℕ) → j < long a → at lent j ≡ at old j)
+  kept-or_new : (v : Vector) (from to : ℕ) (old lent new : List ℕ) → Written v from to lent new → ((j : ℕ) → j < long a → at lent j ≡ at old j)
       → ((j : ℕ) → to ≤ j → j < long a → at old j ≡ v j) → (j : ℕ) → from ≤ j → j < long a → at new j ≡ v j
-  kept-or-new v from to old lent new w left known j lo hi = by (ltb j to) refl
+  kept-or_new v from to old lent new w left known j lo hi = by (ltb j to) refl
     where
       by : (b : Bool) → ltb j to ≡ b → at new j ≡ v j
       by true e = w.wrote j lo (ltb-true j to e)
@@ -179,10 +179,10 @@ module _ (p : ℕ) (large : max_weight < p) (through : Bool) (its : List Given) 
       record {
         gives = one-given T x a.pass.items more e g.gives;
         places_f = λ j lo hi. from-where {P = λ j. at b.buffers.f j ≡ fold_f p T b j} test (long a) (long a - taken b / 2 ^ level a)
-            (λ t j lo hi. kept-or-new (fold_f p T a) _ _ a.buffers.f l.f o.f wf (λ j hi. (kept t j hi).0)
+            (λ t j lo hi. kept-or_new (fold_f p T a) _ _ a.buffers.f l.f o.f wf (λ j hi. (kept t j hi).0)
             (λ j lo hi. g.places_f j (omega (arith, was ∙ ap (λ b. cond b (long a - taken a / 2 ^ level a) (long a)) t)) hi) j (omega (arith, low)) hi) j (omega (arith, k)) hi;
         places_g = λ j lo hi. from-where {P = λ j. at b.buffers.g j ≡ fold_g p T b j} test (long a) (long a - taken b / 2 ^ level a)
-            (λ t j lo hi. kept-or-new (fold_g p T a) _ _ a.buffers.g l.g o.g wg (λ j hi. (kept t j hi).1)
+            (λ t j lo hi. kept-or_new (fold_g p T a) _ _ a.buffers.g l.g o.g wg (λ j hi. (kept t j hi).1)
             (λ j lo hi. g.places_g j (omega (arith, was ∙ ap (λ b. cond b (long a - taken a / 2 ^ level a) (long a)) t)) hi) j (omega (arith, low)) hi) j (omega (arith, k)) hi;
         total = g.total;
         messages = g.messages;
@@ -274,9 +274,9 @@ module _ (p : ℕ) (large : max_weight < p) (through : Bool) (its : List Given) 
   message-claim et =
       g.claim (ap amid_rounds et) ∙ ap (λ t. claim_of p T a.turn.challenges (level_now a.start.rounds (length a.turn.challenges) 0 t)) et
 
-  small-message : a.turn.next ≡ next.Message → is_small a.turn.mode ≡ true → (even cross odd : ℕ) → answered (reply.message even cross odd) ≡ (meant p T a.turn.challenges (round_message (length a.turn.challenges))).answer
+  small_message : a.turn.next ≡ next.Message → is_small a.turn.mode ≡ true → (even cross odd : ℕ) → answered (reply.message even cross odd) ≡ (meant p T a.turn.challenges (round_message (length a.turn.challenges))).answer
       → Agrees p through its (goes_to a next.Challenge) (noted p call.Close past (answered (reply.message even cross odd)))
-  small-message et s even cross odd e =
+  small_message et s even cross odd e =
       let b : State = goes_to a next.Challenge in
       let none = still-none b refl refl s in
       record {
@@ -295,9 +295,9 @@ module _ (p : ℕ) (large : max_weight < p) (through : Bool) (its : List Given) 
       → (x ≡ end_value p (at a.turn.challenges) a.start.rounds (vector_f p T)) × (y ≡ end_value p (at a.turn.challenges) a.start.rounds (vector_g p T))
   ends-kept x y e = (ap (λ z. at (numbers_in z) 0) e, ap (λ z. at (numbers_in z) 1) e)
 
-  small-ends : a.turn.next ≡ next.Ends → is_small a.turn.mode ≡ true → (x y : ℕ) → answered (reply.ends x y) ≡ (meant p T a.turn.challenges ends).answer
+  small_ends : a.turn.next ≡ next.Ends → is_small a.turn.mode ≡ true → (x y : ℕ) → answered (reply.ends x y) ≡ (meant p T a.turn.challenges ends).answer
       → Agrees p through its (goes_to a next.Openings) (noted p call.Close past (answered (reply.ends x y)))
-  small-ends et s x y e =
+  small_ends et s x y e =
       let b : State = goes_to a next.Openings in
       let none = still-none b refl refl s in
       record {
@@ -311,8 +311,8 @@ module _ (p : ℕ) (large : max_weight < p) (through : Bool) (its : List Given) 
         claim = λ w. absurd (true≢false (sym w));
       }
 
-  small-openings : a.turn.next ≡ next.Openings → is_small a.turn.mode ≡ true → Agrees p through its (goes_to a next.Openings) past
-  small-openings et s =
+  small_openings : a.turn.next ≡ next.Openings → is_small a.turn.mode ≡ true → Agrees p through its (goes_to a next.Openings) past
+  small_openings et s =
       let b : State = goes_to a next.Openings in
       let none = still-none b refl refl s in
       record {
@@ -383,32 +383,32 @@ module _ (p : ℕ) (large : max_weight < p) (through : Bool) (its : List Given) 
       subst (λ x. Agrees p through its (goes_to a (round_or_ends 0 a.start.rounds)) (noted p call.Close past x)) (sym same)
       (total-agrees a.start.plain refl et (small_asked a.turn.mode next.Total fit) s.total s.dot (total-answer a.start.plain s.total s.dot _ (sym same ∙ e))
       (claim-answer a.start.plain s.total s.dot (total-product-so all) (sym same ∙ e)))
-  close-agrees next.Message Asked et ek op fit all e = small-message et (small_asked a.turn.mode next.Message fit) _ _ _ e
+  close-agrees next.Message Asked et ek op fit all e = small_message et (small_asked a.turn.mode next.Message fit) _ _ _ e
   close-agrees next.Challenge Asked et ek op fit all e = absurd (no-pass a.turn.mode fit)
     where
       no-pass : (m : Mode) → kind_fits Asked m next.Challenge ≡ true → ⊥
       no-pass Small e = true≢false (sym e)
       no-pass Full e = true≢false (sym e)
-  close-agrees next.Ends Asked et ek op fit all e = small-ends et (small_asked a.turn.mode next.Ends fit) _ _ e
-  close-agrees next.Openings Asked et ek op fit all e = small-openings et (small_asked a.turn.mode next.Openings fit)
+  close-agrees next.Ends Asked et ek op fit all e = small_ends et (small_asked a.turn.mode next.Ends fit) _ _ e
+  close-agrees next.Openings Asked et ek op fit all e = small_openings et (small_asked a.turn.mode next.Openings fit)
   close-agrees t Change et ek op fit all e = changed ek (subst (λ t. kind_fits Change a.turn.mode t ≡ true) (sym et) fit) all
 
   -- IN FULL MODE
-  full-places : (b : State) → b.turn.mode ≡ a.turn.mode → is_full a.turn.mode ≡ true → waits next.Openings b.turn.next ≡ false → known through b ≡ 0
-  full-places b em f w =
+  full_places : (b : State) → b.turn.mode ≡ a.turn.mode → is_full a.turn.mode ≡ true → waits next.Openings b.turn.next ≡ false → known through b ≡ 0
+  full_places b em f w =
       ap (λ m. known_in (long b) (taken b / 2 ^ level b) m b.pass.kind (waits next.Openings b.turn.next) through) (em ∙ full_is a.turn.mode f)
       ∙ full_some (long b) (taken b / 2 ^ level b) b.pass.kind (waits next.Openings b.turn.next) through
       ∙ ap (λ o. cond o (long b) 0) w
 
-  full-none : (b : State) → b.turn.mode ≡ a.turn.mode → is_full a.turn.mode ≡ true → waits next.Openings b.turn.next ≡ true → known through b ≡ long b
-  full-none b em f w =
+  full_none : (b : State) → b.turn.mode ≡ a.turn.mode → is_full a.turn.mode ≡ true → waits next.Openings b.turn.next ≡ true → known through b ≡ long b
+  full_none b em f w =
       ap (λ m. known_in (long b) (taken b / 2 ^ level b) m b.pass.kind (waits next.Openings b.turn.next) through) (em ∙ full_is a.turn.mode f)
       ∙ full_some (long b) (taken b / 2 ^ level b) b.pass.kind (waits next.Openings b.turn.next) through
       ∙ ap (λ o. cond o (long b) 0) w
 
   -- back in small mode no place is known
-  pub returned-agrees : Agrees p through its (in_mode a Small) past
-  returned-agrees =
+  pub returned_agrees : Agrees p through its (in_mode a Small) past
+  returned_agrees =
       let b : State = in_mode a Small in
       let none = small_none (long b) (taken b / 2 ^ level b) Small Shut (waits next.Openings b.turn.next) through refl refl in
       record {
@@ -422,11 +422,11 @@ module _ (p : ℕ) (large : max_weight < p) (through : Bool) (its : List Given) 
         claim = g.claim;
       }
 
-  pub full-message : a.turn.next ≡ next.Message → is_full a.turn.mode ≡ true → AsLeft a l → (even cross odd : ℕ)
+  pub full_message : a.turn.next ≡ next.Message → is_full a.turn.mode ≡ true → AsLeft a l → (even cross odd : ℕ)
       → answered (reply.message even cross odd) ≡ (meant p T a.turn.challenges (round_message (length a.turn.challenges))).answer
       → Agrees p through its (with_buffers (goes_to a next.Challenge) l) (noted p call.Message past (answered (reply.message even cross odd)))
-  full-message et f kept even cross odd e =
-      let k = full-places a refl f (ap (waits next.Openings) et) in
+  full_message et f kept even cross odd e =
+      let k = full_places a refl f (ap (waits next.Openings) et) in
       let lv : level_now a.start.rounds (length a.turn.challenges) 0 a.turn.next ≡ length a.turn.challenges = ap (level_now a.start.rounds (length a.turn.challenges) 0) et in
       record {
         gives = no_items-given T;
@@ -439,11 +439,11 @@ module _ (p : ℕ) (large : max_weight < p) (through : Bool) (its : List Given) 
         claim = λ _. message-claim et;
       }
 
-  pub full-ends : a.turn.next ≡ next.Ends → is_full a.turn.mode ≡ true → (x y : ℕ) → answered (reply.ends x y) ≡ (meant p T a.turn.challenges ends).answer
+  pub full_ends : a.turn.next ≡ next.Ends → is_full a.turn.mode ≡ true → (x y : ℕ) → answered (reply.ends x y) ≡ (meant p T a.turn.challenges ends).answer
       → Agrees p through its (with_buffers (goes_to a next.Openings) l) (noted p call.Ends past (answered (reply.ends x y)))
-  full-ends et f x y e =
+  full_ends et f x y e =
       let b : State = with_buffers (goes_to a next.Openings) l in
-      let none = full-none b refl f refl in
+      let none = full_none b refl f refl in
       record {
         gives = no_items-given T;
         places_f = λ j lo hi. absurd (no_place (long b) _ j none lo hi);

@@ -30,8 +30,8 @@ module _ (p : ℕ) (T : Trip) (through : Bool) (a : State) where
   KeptBy (call.Opening b) l = (j : ℕ) → j < 2 ^ T.start.rounds → (at l.f j ≡ vector_f p T j) × (at l.g j ≡ vector_g p T j)
   KeptBy call.WriteProof l = Unit {0}
 
-  pub by-kept : (c : Call) (l : Lent) → KeptBy c l → Kept p T through a c l
-  by-kept c l h =
+  pub by_kept : (c : Call) (l : Lent) → KeptBy c l → Kept p T through a c l
+  by_kept c l h =
       record {
         item = λ x e. (subst (λ c. KeptBy c l) e h).0;
         change = λ x e. (subst (λ c. KeptBy c l) e h).1;

@@ -27,7 +27,7 @@ use Rattle.phase.specs.declared.Kind.TheVariants.{Shut, Asked, Change}
 use Rattle.phase.specs.Cases.{waits}
 use Rattle.prover.specs.Reply as reply
 use Rattle.pass.specs.Values.{in_ninety}
-use Rattle.pass.proofs.OpeningValues.{triples-length, triples_same}
+use Rattle.pass.proofs.OpeningValues.{triples_length, triples_same}
 use Rattle.runs.specs.Trip.{Trip, vector_f, vector_g, sum_of, total_of}
 use Rattle.calls.specs.declared.Call.{Call}
 use Rattle.calls.specs.declared.Call.TheVariants as call
@@ -120,7 +120,7 @@ length_proof p T cs =
 pub opening-length : (p n : ℕ) (c : ℕ → ℕ) (f g : Vector) (b : ℕ) → length (opening p n c f g b) ≡ 6 * n
 opening-length p n c f g b =
     length-append (triple_values (triple p n c f b) 0 n) (triple_values (triple p n c g b) 0 n)
-    ∙ omega (arith, triples-length (triple p n c f b) 0 n, triples-length (triple p n c g b) 0 n)
+    ∙ omega (arith, triples_length (triple p n c f b) 0 n, triples_length (triple p n c g b) 0 n)
 
 module _ (p : ℕ) (large : max_weight < p) (through : Bool) (T : Trip) (whole : length T.items ≡ T.start.items) (cs : List ℕ) where
   abbrev H : Question → Type 0
@@ -140,8 +140,8 @@ module _ (p : ℕ) (large : max_weight < p) (through : Bool) (T : Trip) (whole :
       ∙ message-before p T h.world.state.turn.challenges cs i (λ j less. h.prefix j (omega arith))
 
   -- after the ends every challenge was taken
-  late-prefix : (q : Question) (h : H q) → is_late (question h.world.state h.made.call) ≡ true → (j : ℕ) → j < T.start.rounds → at h.world.state.turn.challenges j ≡ at cs j
-  late-prefix q h e j less =
+  late_prefix : (q : Question) (h : H q) → is_late (question h.world.state h.made.call) ≡ true → (j : ℕ) → j < T.start.rounds → at h.world.state.turn.challenges j ≡ at cs j
+  late_prefix q h e j less =
       let w = late p h.world.state h.made.call h.made.lent h.free e in
       let all = all_challenges p h.world.state h.going.faithful.fits w in
       let n : h.world.state.start.rounds ≡ T.start.rounds = ap (λ s. s.rounds) h.going.start in
@@ -156,7 +156,7 @@ module _ (p : ℕ) (large : max_weight < p) (through : Bool) (T : Trip) (whole :
       ap (λ r. take (6 * n) r.values) e
       ∙ ap (λ k. take k (in_ninety n v)) (sym (opening-length p n (at ds) (vector_f p T) (vector_g p T) b))
       ∙ take-append_seam v _
-      ∙ opening-same p T cs ds (late-prefix (opening_at b) h (ap is_late h.asked)) b
+      ∙ opening-same p T cs ds (late_prefix (opening_at b) h (ap is_late h.asked)) b
 
   pub file-of : (file : List ℕ) (h : H proof) → take (proof_size h.world.state.start.rounds) (came p h.world h.made).lent.file ≡ file
       → (file ≡ proof_of_trip p T cs) × (in_limits p (total_of T) ≡ true)
@@ -174,7 +174,7 @@ module _ (p : ℕ) (large : max_weight < p) (through : Bool) (T : Trip) (whole :
             ∙ ap₂ (λ k f. take (proof_size k) f) rounds left
             ∙ ap (λ k. take k (proof_of_trip p T ds ++ drop (proof_size T.start.rounds) h.made.lent.file)) (sym (length_proof p T ds))
             ∙ take-append_seam (proof_of_trip p T ds) _
-            ∙ file-same p T cs ds (late-prefix proof h (ap is_late h.asked)),
+            ∙ file-same p T cs ds (late_prefix proof h (ap is_late h.asked)),
         ap (in_limits p) (sym same_total) ∙ h.going.faithful.fits.run.total,
       )
     where

@@ -27,9 +27,9 @@ use Rattle.calls.specs.Proper.{Valid, AllNonzero, whole_pass, answer_by, change_
 use Rattle.calls.specs.Demand3.{AllAnswered, AllKept, AllRight}
 use Rattle.calls.proofs.Records.{no_notes}
 use Rattle.calls.proofs.Answers.{all_right, fresh-going}
-use Rattle.calls.proofs.LiveWorld.{Lives, lives-answered, lives-kept, lives-ended, Standing}
+use Rattle.calls.proofs.LiveWorld.{Lives, lives_answered, lives_kept, lives_ended, Standing}
 use Rattle.calls.proofs.LivePass.{total-lives, message-lives, ends-lives, opening-lives, change-lives}
-use Rattle.calls.proofs.LiveFull.{challenge-lives, full-message-lives, full-ends-lives, full-opening-lives, return-lives}
+use Rattle.calls.proofs.LiveFull.{challenge-lives, full_message_lives, full_ends_lives, full_opening_lives, return_lives}
 
 abbrev mode_if : Bool → Mode
 mode_if full = cond full Full Small
@@ -53,31 +53,31 @@ module _ (p : ℕ) (large : max_weight < p) (through : Bool) (T : Trip) (idle : 
     change-live : (was full : Bool) → (full ≡ true → Roomy) → (t : Next) → changes_next t n ≡ true → (i : ℕ) (w : Host) → Before was t i w → Then full t i
         → Lives p T idle through w (change_to T was full ++ ys)
     change-live false true room t turn i w st on = change-lives p large through T idle valid i w ys t turn (room refl) st on
-    change-live true false room t turn i w st on = return-lives p large through T idle valid i w ys t turn st on
+    change-live true false room t turn i w st on = return_lives p large through T idle valid i w ys t turn st on
     change-live false false room t turn i w st on = on w st
     change-live true true room t turn i w st on = on w st
 
     -- THE ANSWERS, in either mode
     message-live : (full : Bool) (i : ℕ) (w : Host) → Before full next.Message i w → Then full next.Challenge i
         → Lives p T idle through w (answer_by T full call.OpenPass call.Message ++ ys)
-    message-live true i w st on = full-message-lives p large through T idle valid i w ys st on
+    message-live true i w st on = full_message_lives p large through T idle valid i w ys st on
     message-live false i w st on = message-lives p large through T idle valid i w ys st on
 
     ends-live : (full : Bool) (i : ℕ) (w : Host) → Before full next.Ends i w → Then full next.Openings i
         → Lives p T idle through w (answer_by T full call.OpenPass call.Ends ++ ys)
-    ends-live true i w st on = full-ends-lives p large through T idle valid i w ys st on
+    ends-live true i w st on = full_ends_lives p large through T idle valid i w ys st on
     ends-live false i w st on = ends-lives p large through T idle valid i w ys st on
 
     opening-live : (full : Bool) (b : ℕ) → is_nonzero p b ≡ true → ltb 0 n ≡ true → (i : ℕ) (w : Host) → Before full next.Openings i w → Then full next.Openings i
         → Lives p T idle through w (answer_by T full (call.OpenAt b) (call.Opening b) ++ ys)
-    opening-live true b ok some i w st on = full-opening-lives p large through T idle valid i w ys b ok some st on
+    opening-live true b ok some i w st on = full_opening_lives p large through T idle valid i w ys b ok some st on
     opening-live false b ok some i w st on = opening-lives p large through T idle valid i w ys b ok some st on
 
   regroup : (w : Host) (xs ys zs : List Call) → Lives p T idle through w (xs ++ (ys ++ zs)) → Lives p T idle through w ((xs ++ ys) ++ zs)
   regroup w xs ys zs = subst (Lives p T idle through w) (sym (append_assoc xs ys zs))
 
-  regroup-all : (w : Host) (us xs ys zs : List Call) → Lives p T idle through w (us ++ (xs ++ (ys ++ zs))) → Lives p T idle through w (((us ++ xs) ++ ys) ++ zs)
-  regroup-all w us xs ys zs h = regroup w (us ++ xs) ys zs (regroup w us xs (ys ++ zs) h)
+  regroup_all : (w : Host) (us xs ys zs : List Call) → Lives p T idle through w (us ++ (xs ++ (ys ++ zs))) → Lives p T idle through w (((us ++ xs) ++ ys) ++ zs)
+  regroup_all w us xs ys zs h = regroup w (us ++ xs) ys zs (regroup w us xs (ys ++ zs) h)
 
   -- WHICHEVER STEPS ARE MADE IN FULL MODE, up to the last that may come
   module _ (full : ℕ → Bool) (last : ℕ) (room : (i : ℕ) → i ≤ last → full i ≡ true → Roomy) where
@@ -92,7 +92,7 @@ module _ (p : ℕ) (large : max_weight < p) (through : Bool) (T : Trip) (idle : 
         let more : round_or_ends i n ≡ next.Message = ap (λ b. cond b next.Message next.Ends) (lt-ltb i n (omega arith)) in
         let rest : List Call = rounds_from T full (suc i) cs in
         let asks : List Call = answer_by T (full i) call.OpenPass call.Message in
-        regroup-all w (change_before T full i) asks (call.Challenge c ∷ rest) ys
+        regroup_all w (change_before T full i) asks (call.Challenge c ∷ rest) ys
         (change-live (asks ++ (call.Challenge c ∷ rest ++ ys)) (before T full i) (full i) (room i (omega arith)) next.Message refl i w (subst (λ t. Before (before T full i) t i w) more st)
         (λ w st. message-live (call.Challenge c ∷ rest ++ ys) (full i) i w st
         (λ w st. challenge-lives p large through T idle valid (mode_if (full i)) i w st c (ok 0 (omega arith)) (rest ++ ys)
@@ -125,7 +125,7 @@ module _ (p : ℕ) (large : max_weight < p) (through : Bool) (T : Trip) (idle : 
     run-lives cs bs count okc okb most w st =
         let asks : List Call = answer_by T (full n) call.OpenPass call.Ends in
         let last : List Call = opening_calls T full bs in
-        regroup-all w (whole_pass T call.OpenPass) (rounds_from T full 0 cs) (end_calls T full) last
+        regroup_all w (whole_pass T call.OpenPass) (rounds_from T full 0 cs) (end_calls T full) last
         (total-lives p large through T idle valid 0 w (rounds_from T full 0 cs ++ (end_calls T full ++ last)) st
         (λ w st. rounds-live cs okc 0 (omega arith) (omega arith) (end_calls T full ++ last) w st
         (λ w st. regroup w (change_before T full n) asks last
@@ -157,15 +157,15 @@ module _ (p : ℕ) (large : max_weight < p) (T : Trip) (valid : Valid p T) (full
       })
 
   pub proper-answered : AllAnswered p fresh (proper_run p T full cs bs idle f g)
-  proper-answered = lives-answered p T idle true begin (whole_run T full cs bs) (lives true)
+  proper-answered = lives_answered p T idle true begin (whole_run T full cs bs) (lives true)
 
   -- it is a list of which the two layers speak
   pub proper-kept : (through : Bool) → AllKept p through T fresh (proper_run p T full cs bs idle f g)
-  proper-kept through = lives-kept p T idle through begin (whole_run T full cs bs) (lives through)
+  proper-kept through = lives_kept p T idle through begin (whole_run T full cs bs) (lives through)
 
   -- and it ends after the ends
   pub proper-ended : waits next.Openings (after (onward p) fresh (proper_run p T full cs bs idle f g)).state.turn.next ≡ true
-  proper-ended = lives-ended p T idle true begin (whole_run T full cs bs) (lives true)
+  proper-ended = lives_ended p T idle true begin (whole_run T full cs bs) (lives true)
 
   -- so each of its answers is the meaning
   pub proper-right : (through : Bool) → AllRight p through T fresh (proper_run p T full cs bs idle f g)

@@ -29,7 +29,7 @@ use Rattle.calls.specs.Table.{openings_next, return_waits, level_now, long}
 use Rattle.calls.specs.Meaning.{AsLeft}
 use Rattle.calls.specs.Proper.{Valid, Host, fold_zero, lends}
 use Rattle.calls.proofs.LiveVectors.{f-below, g-below}
-use Rattle.calls.proofs.LiveTable.{reads-free, to-small-free, message-free, challenge-free, ends-free, opening-free}
+use Rattle.calls.proofs.LiveTable.{reads_free, to_small_free, message-free, challenge-free, ends-free, opening-free}
 use Rattle.calls.proofs.LiveWorld.{made, Lives, buffers_left, buffers_so, Standing, lends-used, room-used, call-lives, stands, stands-idle, fits_read}
 
 module _ (p : ℕ) (large : max_weight < p) (through : Bool) (T : Trip) (idle : Call → ℕ → Lent) (valid : Valid p T) where
@@ -85,8 +85,8 @@ module _ (p : ℕ) (large : max_weight < p) (through : Bool) (T : Trip) (idle : 
 
   module _ (i : ℕ) (w : Host) (cs : List Call) where
     -- A MESSAGE AND THE ENDS read the current fold
-    pub full-message-lives : Stands Full next.Message i Shut 0 w → LivesOn Full next.Challenge i Shut 0 cs → Lives p T idle through w (call.Message ∷ cs)
-    full-message-lives st on =
+    pub full_message_lives : Stands Full next.Message i Shut 0 w → LivesOn Full next.Challenge i Shut 0 cs → Lives p T idle through w (call.Message ∷ cs)
+    full_message_lives st on =
         let reads = fits_read p large through T idle valid Full next.Message i Shut 0 w st refl refl in
         let free = message-free p w.world.state w.lent (ap is_full st.mode) (ap (waits next.Message) st.next) reads in
         let kept : AsLeft w.world.state w.lent = λ j h. st.left refl refl j in
@@ -95,8 +95,8 @@ module _ (p : ℕ) (large : max_weight < p) (through : Bool) (T : Trip) (idle : 
         (λ v r. on _ (stands p large through T idle valid Full next.Message i Shut 0 w st call.Message v Full next.Challenge i Shut 0
         st.mode refl st.round refl refl (λ held-so. room-used p large through T idle valid Full next.Message i Shut 0 w st refl call.Message) (λ held-so y j. (refl, refl))))
 
-    pub full-ends-lives : Stands Full next.Ends i Shut 0 w → LivesOn Full next.Openings i Shut 0 cs → Lives p T idle through w (call.Ends ∷ cs)
-    full-ends-lives st on =
+    pub full_ends_lives : Stands Full next.Ends i Shut 0 w → LivesOn Full next.Openings i Shut 0 cs → Lives p T idle through w (call.Ends ∷ cs)
+    full_ends_lives st on =
         let reads = fits_read p large through T idle valid Full next.Ends i Shut 0 w st refl refl in
         let free = ends-free p w.world.state w.lent (ap is_full st.mode) (ap (waits next.Ends) st.next) reads in
         let kept : AsLeft w.world.state w.lent = λ j h. st.left refl refl j in
@@ -106,25 +106,25 @@ module _ (p : ℕ) (large : max_weight < p) (through : Bool) (T : Trip) (idle : 
         st.mode refl st.round refl refl (λ held-so. room-used p large through T idle valid Full next.Ends i Shut 0 w st refl call.Ends) (λ held-so y j. (refl, refl))))
 
     -- A RETURN, whatever it is lent
-    pub return-lives : (t : Next) → return_waits Full t n ≡ true → Stands Full t i Shut 0 w → LivesOn Small t i Shut 0 cs → Lives p T idle through w (call.ToSmall ∷ cs)
-    return-lives t turn st on =
+    pub return_lives : (t : Next) → return_waits Full t n ≡ true → Stands Full t i Shut 0 w → LivesOn Small t i Shut 0 cs → Lives p T idle through w (call.ToSmall ∷ cs)
+    return_lives t turn st on =
         let a : State = w.world.state in
         let now : return_waits a.turn.mode a.turn.next a.start.rounds ≡ true
         = ap₂ (λ m t. return_waits m t a.start.rounds) st.mode st.next ∙ ap (λ s. return_waits Full t s.rounds) st.going.start ∙ turn in
-        call-lives p large through T idle valid Full t i Shut 0 w st call.ToSmall _ refl (to-small-free p a (lends p T idle w call.ToSmall) now) tt cs
+        call-lives p large through T idle valid Full t i Shut 0 w st call.ToSmall _ refl (to_small_free p a (lends p T idle w call.ToSmall) now) tt cs
         (λ v r. on _ (stands-idle p large through T idle valid Full t i Shut 0 w st call.ToSmall v Small t i Shut 0 refl st.next st.round refl refl refl))
 
     -- AN OPENING is lent fold 0
-    pub full-opening-lives : (b : ℕ) → is_nonzero p b ≡ true → ltb 0 n ≡ true → Stands Full next.Openings i Shut 0 w → LivesOn Full next.Openings i Shut 0 cs
+    pub full_opening_lives : (b : ℕ) → is_nonzero p b ≡ true → ltb 0 n ≡ true → Stands Full next.Openings i Shut 0 w → LivesOn Full next.Openings i Shut 0 cs
         → Lives p T idle through w (call.Opening b ∷ cs)
-    full-opening-lives b ok some st on =
+    full_opening_lives b ok some st on =
         let a : State = w.world.state in
         let l : Lent = fold_zero p T w.lent in
         let r = st.room refl in
         let long-so : long a ≡ 2 ^ n = ap₂ (λ s t. size s.rounds (level_now s.rounds (length a.turn.challenges) 0 t)) st.going.start st.next ∙ size-all n in
         let fz : (j : ℕ) → j < 2 ^ n → at l.f j ≡ vector_f p T j = λ j h. overwrite-written (vector_f p T) w.lent.f (2 ^ n) j r.0 h in
         let gz : (j : ℕ) → j < 2 ^ n → at l.g j ≡ vector_g p T j = λ j h. overwrite-written (vector_g p T) w.lent.g (2 ^ n) j r.1 h in
-        let reads = reads-free p a l
+        let reads = reads_free p a l
         (omega (arith, long-so, r.0, overwrite-length (vector_f p T) w.lent.f (2 ^ n)))
         (omega (arith, long-so, r.1, overwrite-length (vector_g p T) w.lent.g (2 ^ n)))
         (λ j h. (

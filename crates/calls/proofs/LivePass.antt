@@ -28,7 +28,7 @@ use Rattle.calls.specs.Table.{pass_waits, openings_next, change_waits, total_fit
 use Rattle.calls.specs.Proper.{ItemFits, Valid, Room, items_below, whole_pass, Host, lends, host_on}
 use Rattle.calls.proofs.Turns.{both}
 use Rattle.calls.proofs.Agrees.{trip_at}
-use Rattle.calls.proofs.LiveTable.{open_free, open-at-free, to-full-free, item-free, close-free}
+use Rattle.calls.proofs.LiveTable.{open_free, open_at_free, to_full_free, item-free, close-free}
 use Rattle.calls.proofs.LiveWorld.{still, made, Lives, held, buffers_left, buffers_so, Standing, MovedBy, lends-used, lends-idle, room-used, call-lives, stands, stands-idle, fits-long}
 
 module _ (p : ℕ) (large : max_weight < p) (through : Bool) (T : Trip) (idle : Call → ℕ → Lent) (valid : Valid p T) where
@@ -52,24 +52,24 @@ module _ (p : ℕ) (large : max_weight < p) (through : Bool) (T : Trip) (idle : 
     rounds-so : at_open.start.rounds ≡ n
     rounds-so = ap (λ s. s.rounds) st.going.start
 
-    open-lives : pass_waits Small t ≡ true → LivesOn Small t i Asked 0 cs → Lives p T idle through w (call.OpenPass ∷ cs)
-    open-lives turn on =
+    open_lives : pass_waits Small t ≡ true → LivesOn Small t i Asked 0 cs → Lives p T idle through w (call.OpenPass ∷ cs)
+    open_lives turn on =
         let free = open_free p at_open (lends p T idle w call.OpenPass) (ap₂ pass_waits st.mode st.next ∙ turn) in
         call-lives p large through T idle valid Small t i Shut 0 w st call.OpenPass _ refl free tt cs
         (λ v r. on _ (stands-idle p large through T idle valid Small t i Shut 0 w st call.OpenPass v Small t i Asked 0 st.mode st.next st.round refl refl refl))
 
-    open-at-lives : (b : ℕ) → openings_next t n ≡ true → is_nonzero p b ≡ true → LivesOn Small t i Asked 0 cs → Lives p T idle through w (call.OpenAt b ∷ cs)
-    open-at-lives b turn ok on =
-        let free = open-at-free p at_open (lends p T idle w (call.OpenAt b)) b (ap is_small st.mode) (ap₂ openings_next st.next rounds-so ∙ turn) ok in
+    open_at_lives : (b : ℕ) → openings_next t n ≡ true → is_nonzero p b ≡ true → LivesOn Small t i Asked 0 cs → Lives p T idle through w (call.OpenAt b ∷ cs)
+    open_at_lives b turn ok on =
+        let free = open_at_free p at_open (lends p T idle w (call.OpenAt b)) b (ap is_small st.mode) (ap₂ openings_next st.next rounds-so ∙ turn) ok in
         call-lives p large through T idle valid Small t i Shut 0 w st (call.OpenAt b) _ refl free tt cs
         (λ v r. on _ (stands-idle p large through T idle valid Small t i Shut 0 w st (call.OpenAt b) v Small t i Asked 0 st.mode st.next st.round refl refl refl))
 
-    to-full-lives : change_waits Small t n ≡ true → ((j : ℕ) → Room T (idle call.ToFull j)) → LivesOn Small t i Change 0 cs → Lives p T idle through w (call.ToFull ∷ cs)
-    to-full-lives turn room on =
+    to_full_lives : change_waits Small t n ≡ true → ((j : ℕ) → Room T (idle call.ToFull j)) → LivesOn Small t i Change 0 cs → Lives p T idle through w (call.ToFull ∷ cs)
+    to_full_lives turn room on =
         let now : change_waits at_open.turn.mode at_open.turn.next at_open.start.rounds ≡ true
         = ap₂ (λ m t. change_waits m t at_open.start.rounds) st.mode st.next ∙ ap (change_waits Small t) rounds-so ∙ turn in
         let here = lends-idle p large through T idle valid Small t i Shut 0 w st refl call.ToFull in
-        let free = to-full-free p at_open (idle call.ToFull w.count) now (fits-long p large through T idle valid Small t i Shut 0 w st (idle call.ToFull w.count) (room w.count)) in
+        let free = to_full_free p at_open (idle call.ToFull w.count) now (fits-long p large through T idle valid Small t i Shut 0 w st (idle call.ToFull w.count) (room w.count)) in
         call-lives p large through T idle valid Small t i Shut 0 w st call.ToFull _ here free tt cs
         (λ v r. on _ (stands p large through T idle valid Small t i Shut 0 w st call.ToFull v Small t i Change 0 st.mode st.next st.round refl refl
         (λ held-so. subst (Room T) (sym here) (room w.count)) (λ held-so y j. (refl, refl))))
@@ -202,33 +202,33 @@ module _ (p : ℕ) (large : max_weight < p) (through : Bool) (T : Trip) (idle : 
   module _ (i : ℕ) (w : Host) (cs : List Call) where
     pub total-lives : Stands Small next.Total i Shut 0 w → LivesOn Small (round_or_ends 0 n) i Shut 0 cs → Lives p T idle through w (whole_pass T call.OpenPass ++ cs)
     total-lives st on =
-        open-lives next.Total i w st _ refl
+        open_lives next.Total i w st _ refl
         (λ w st. rest-lives next.Total i Asked refl Small (round_or_ends 0 n) refl
         (λ a es em et. record { mode = em; next = ap (λ s. round_or_ends 0 s.rounds) es; challenges = refl; kind = refl; items = refl; f = refl; g = refl }) w st cs on)
 
     pub message-lives : Stands Small next.Message i Shut 0 w → LivesOn Small next.Challenge i Shut 0 cs → Lives p T idle through w (whole_pass T call.OpenPass ++ cs)
     message-lives st on =
-        open-lives next.Message i w st _ refl
+        open_lives next.Message i w st _ refl
         (λ w st. rest-lives next.Message i Asked refl Small next.Challenge refl
         (λ a es em et. record { mode = em; next = refl; challenges = refl; kind = refl; items = refl; f = refl; g = refl }) w st cs on)
 
     pub ends-lives : Stands Small next.Ends i Shut 0 w → LivesOn Small next.Openings i Shut 0 cs → Lives p T idle through w (whole_pass T call.OpenPass ++ cs)
     ends-lives st on =
-        open-lives next.Ends i w st _ refl
+        open_lives next.Ends i w st _ refl
         (λ w st. rest-lives next.Ends i Asked refl Small next.Openings refl
         (λ a es em et. record { mode = em; next = refl; challenges = refl; kind = refl; items = refl; f = refl; g = refl }) w st cs on)
 
     pub opening-lives : (b : ℕ) → is_nonzero p b ≡ true → ltb 0 n ≡ true → Stands Small next.Openings i Shut 0 w → LivesOn Small next.Openings i Shut 0 cs
         → Lives p T idle through w (whole_pass T (call.OpenAt b) ++ cs)
     opening-lives b ok some st on =
-        open-at-lives next.Openings i w st _ b some ok
+        open_at_lives next.Openings i w st _ b some ok
         (λ w st. rest-lives next.Openings i Asked refl Small next.Openings refl
         (λ a es em et. record { mode = em; next = refl; challenges = refl; kind = refl; items = refl; f = refl; g = refl }) w st cs on)
 
     pub change-lives : (t : Next) → change_waits Small t n ≡ true → ((j : ℕ) → Room T (idle call.ToFull j)) → Stands Small t i Shut 0 w → LivesOn Full t i Shut 0 cs
         → Lives p T idle through w (whole_pass T call.ToFull ++ cs)
     change-lives t turn room st on =
-        to-full-lives t i w st _ turn room
+        to_full_lives t i w st _ turn room
         (λ w st. rest-lives t i Change refl Full t refl (λ a es em et. by a t et) w st cs on)
       where
         by : (a : State) (t : Next) → a.turn.next ≡ t → Closes a (closed a t Change) Full t

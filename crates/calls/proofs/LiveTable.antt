@@ -9,7 +9,7 @@ use Rattle.refusal.specs.Limit.{max_weight}
 use Rattle.wire.specs.Proof.{proof_size}
 use Rattle.vector.specs.Vector.{at}
 use Rattle.vector.specs.Slice.{is_nonzero}
-use Rattle.vector.proofs.Every.{reduced-all}
+use Rattle.vector.proofs.Every.{reduced_all}
 use Rattle.phase.specs.declared.Next.TheVariants as next
 use Rattle.phase.specs.Cases.{is_change, is_full, is_open, is_small, waits}
 use Rattle.prover.specs.declared.Run.{Run}
@@ -24,7 +24,7 @@ use Rattle.calls.specs.Proper.{ItemFits}
 use Rattle.calls.specs.Table.{Refusal, row, row_at, pass_waits, openings_next, change_waits, return_waits, long, both_long, read_rows, given_rows, place_row, total_fits, table}
 use Rattle.calls.specs.Statement.{Decides}
 use Rattle.calls.proofs.Records.{Notes}
-use Rattle.calls.proofs.Refusals.{Inv, decide-step}
+use Rattle.calls.proofs.Refusals.{Inv, decide_step}
 
 pub row-free : (b : Bool) (k : ℕ) (t : Option Refusal) → b ≡ true → t ≡ none → row b k t ≡ none
 row-free b k t e f = rw e f
@@ -38,26 +38,26 @@ module _ (p : ℕ) (a : State) (l : Lent) where
   long-enough f g = ap₂ ◌&&◌ (le-leb _ _ f) (le-leb _ _ g)
 
   -- and field numbers in the places read
-  pub reads-free : long a ≤ length l.f → long a ≤ length l.g → ((j : ℕ) → j < long a → (at l.f j < p) × (at l.g j < p)) → read_rows p a l ≡ none
-  reads-free f g below =
+  pub reads_free : long a ≤ length l.f → long a ≤ length l.g → ((j : ℕ) → j < long a → (at l.f j < p) × (at l.g j < p)) → read_rows p a l ≡ none
+  reads_free f g below =
       row-free _ 9 _ (long-enough f g)
-      (row-free _ 16 none (ap₂ ◌&&◌ (sym (reduced-all p (long a) l.f (λ j h. (below j h).0))) (sym (reduced-all p (long a) l.g (λ j h. (below j h).1)))) refl)
+      (row-free _ 16 none (ap₂ ◌&&◌ (sym (reduced_all p (long a) l.f (λ j h. (below j h).0))) (sym (reduced_all p (long a) l.g (λ j h. (below j h).1)))) refl)
 
   pub open_free : pass_waits a.turn.mode a.turn.next ≡ true → table p a call.OpenPass l ≡ none
   unfolding table
   open_free turn = row-free _ 10 none turn refl
 
-  pub open-at-free : (b : ℕ) → is_small a.turn.mode ≡ true → openings_next a.turn.next a.start.rounds ≡ true → is_nonzero p b ≡ true → table p a (call.OpenAt b) l ≡ none
+  pub open_at_free : (b : ℕ) → is_small a.turn.mode ≡ true → openings_next a.turn.next a.start.rounds ≡ true → is_nonzero p b ≡ true → table p a (call.OpenAt b) l ≡ none
   unfolding table
-  open-at-free b small turn ok = row-free _ 10 _ (ap₂ ◌&&◌ small turn) (row-free _ 6 none ok refl)
+  open_at_free b small turn ok = row-free _ 10 _ (ap₂ ◌&&◌ small turn) (row-free _ 6 none ok refl)
 
-  pub to-full-free : change_waits a.turn.mode a.turn.next a.start.rounds ≡ true → both_long a l ≡ true → table p a call.ToFull l ≡ none
+  pub to_full_free : change_waits a.turn.mode a.turn.next a.start.rounds ≡ true → both_long a l ≡ true → table p a call.ToFull l ≡ none
   unfolding table
-  to-full-free turn long = row-free _ 10 _ turn (row-free _ 9 none long refl)
+  to_full_free turn long = row-free _ 10 _ turn (row-free _ 9 none long refl)
 
-  pub to-small-free : return_waits a.turn.mode a.turn.next a.start.rounds ≡ true → table p a call.ToSmall l ≡ none
+  pub to_small_free : return_waits a.turn.mode a.turn.next a.start.rounds ≡ true → table p a call.ToSmall l ≡ none
   unfolding table
-  to-small-free turn = row-free _ 10 none turn refl
+  to_small_free turn = row-free _ 10 none turn refl
 
   place-free : (is_change a.pass.kind ≡ true → both_long a l ≡ true) → place_row a l ≡ none
   place-free long = row-free _ 9 none (by (is_change a.pass.kind) long) refl
@@ -102,11 +102,11 @@ module _ (p : ℕ) (a : State) (l : Lent) where
   unfolding table
   opening-free b full turn ok reads = row-free _ 10 _ (ap₂ ◌&&◌ full turn) (row-free _ 6 _ ok reads)
 
-  pub write-free : a.start.plain ≡ true → waits next.Openings a.turn.next ≡ true → proof_size a.start.rounds ≤ length l.file → table p a call.WriteProof l ≡ none
+  pub write_free : a.start.plain ≡ true → waits next.Openings a.turn.next ≡ true → proof_size a.start.rounds ≤ length l.file → table p a call.WriteProof l ≡ none
   unfolding table
-  write-free plain turn long = row-free _ 10 _ (ap₂ ◌&&◌ plain turn) (row-free _ 9 none (le-leb _ _ long) refl)
+  write_free plain turn long = row-free _ 10 _ (ap₂ ◌&&◌ plain turn) (row-free _ 9 none (le-leb _ _ long) refl)
 
 -- such a call is answered
 pub free_answered : (p : ℕ) (large : max_weight < p) (a : State) {past : Notes} (r : Run) (s : Pass) → Inv p large a past r s → (c : Call) → (l : Lent) → table p a c l ≡ none
     → is_answered (step p r s c l).answer ≡ true
-free_answered p large a r s i c l free = subst (λ t. Decides r s l t (step p r s c l)) free (decide-step p large a r s i c l)
+free_answered p large a r s i c l free = subst (λ t. Decides r s l t (step p r s c l)) free (decide_step p large a r s i c l)

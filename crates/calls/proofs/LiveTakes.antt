@@ -71,16 +71,16 @@ module _ (T : Trip) where
   answer-quiet true opening asking e f = ap (λ xs. xs ++ []) f
   answer-quiet false opening asking e f = pass-quiet opening e
 
-  change-to-quiet : (was full : Bool) → challenges_in (change_to T was full) ≡ []
+  change-to_quiet : (was full : Bool) → challenges_in (change_to T was full) ≡ []
   unfolding challenges_in
-  change-to-quiet false true = pass-quiet call.ToFull refl
-  change-to-quiet true false = refl
-  change-to-quiet false false = refl
-  change-to-quiet true true = refl
+  change-to_quiet false true = pass-quiet call.ToFull refl
+  change-to_quiet true false = refl
+  change-to_quiet false false = refl
+  change-to_quiet true true = refl
 
   module _ (full : ℕ → Bool) where
     change-quiet : (i : ℕ) → challenges_in (change_before T full i) ≡ []
-    change-quiet i = change-to-quiet (before T full i) (full i)
+    change-quiet i = change-to_quiet (before T full i) (full i)
 
     rounds-in : (i : ℕ) (cs : List ℕ) → challenges_in (rounds_from T full i cs) ≡ cs
     unfolding rounds_from challenges_in

@@ -33,11 +33,11 @@ use Rattle.calls.specs.Demand3.{AllAnswered, AllKept}
 use Rattle.calls.proofs.Follows.{positive}
 use Rattle.calls.proofs.Records.{Notes, noted}
 use Rattle.calls.proofs.Agrees.{trip_at, known_in}
-use Rattle.calls.proofs.KeptCalls.{KeptBy, by-kept}
+use Rattle.calls.proofs.KeptCalls.{KeptBy, by_kept}
 use Rattle.calls.proofs.Answers.{Going, same-trip}
 use Rattle.calls.proofs.LiveStep.{Moved, moved}
 use Rattle.calls.proofs.LiveVectors.{f-below, g-below}
-use Rattle.calls.proofs.LiveTable.{long-enough, reads-free}
+use Rattle.calls.proofs.LiveTable.{long-enough, reads_free}
 
 module _ (p : ℕ) (T : Trip) (idle : Call → ℕ → Lent) where
   abbrev pub made : Host → Call → Result
@@ -62,17 +62,17 @@ module _ (p : ℕ) (T : Trip) (idle : Call → ℕ → Lent) where
   all_made through P so w [] h = tt
   all_made through P so w (c ∷ cs) h = (so w c h.0, all_made through P so (host_on p T idle w c) cs h.1)
 
-  pub lives-ended : (through : Bool) (w : Host) (cs : List Call) → Lives through w cs → waits next.Openings (after (onward p) w.world (made_from w cs)).state.turn.next ≡ true
+  pub lives_ended : (through : Bool) (w : Host) (cs : List Call) → Lives through w cs → waits next.Openings (after (onward p) w.world (made_from w cs)).state.turn.next ≡ true
   unfolding after each Lives
-  lives-ended through w [] h = h
-  lives-ended through w (c ∷ cs) h = lives-ended through (host_on p T idle w c) cs h.1
+  lives_ended through w [] h = h
+  lives_ended through w (c ∷ cs) h = lives_ended through (host_on p T idle w c) cs h.1
 
   module _ (through : Bool) (w : Host) (cs : List Call) (h : Lives through w cs) where
-    pub lives-answered : AllAnswered p w.world (made_from w cs)
-    lives-answered = all_made through _ (λ w c q. q.0) w cs h
+    pub lives_answered : AllAnswered p w.world (made_from w cs)
+    lives_answered = all_made through _ (λ w c q. q.0) w cs h
 
-    pub lives-kept : AllKept p through T w.world (made_from w cs)
-    lives-kept = all_made through _ (λ w c q y. by-kept p T through w.world.state c (lends p T idle w c) q.1) w cs h
+    pub lives_kept : AllKept p through T w.world (made_from w cs)
+    lives_kept = all_made through _ (λ w c q y. by_kept p T through w.world.state c (lends p T idle w c) q.1) w cs h
 
 -- all of the current fold is known in full mode, up to the ends
 full_known : (h q : ℕ) (k : Kind) (t : Next) (through : Bool) → waits next.Openings t ≡ false → known_in h q Full k (waits next.Openings t) through ≡ 0
@@ -170,7 +170,7 @@ module _ (p : ℕ) (large : max_weight < p) (through : Bool) (T : Trip) (idle : 
         let a : State = w.world.state in
         let here = subst (λ l. (table p a c l ≡ none) × KeptBy p T through a c l) (sym e) (free, kept) in
         let v : MovedBy c =
-        moved p large through T valid.whole.items w.world st.going (makes p T idle w c) here.0 (by-kept p T through a c (lends p T idle w c) here.1) in
+        moved p large through T valid.whole.items w.world st.going (makes p T idle w c) here.0 (by_kept p T through a c (lends p T idle w c) here.1) in
         ((v.answered, here.1), on v (subst (λ l. Right p T a c l (made p T idle w c)) e v.right))
 
     pub stands : (c : Call) → MovedBy c → (m' : Mode) (t' : Next) (i' : ℕ) (k' : Kind) (q' : ℕ)
@@ -223,7 +223,7 @@ module _ (p : ℕ) (large : max_weight < p) (through : Bool) (T : Trip) (idle : 
         let now : waits next.Openings a.turn.next ≡ false = ap (waits next.Openings) st.next ∙ et in
         let all : known through a ≡ 0 = full_all through a (st.mode ∙ em) now in
         let anew : lent_anew m t ≡ false = ap₂ (λ m o. is_full m && o) em et in
-        reads-free p a w.lent (omega (arith, long-most, r.0)) (omega (arith, long-most, r.1))
+        reads_free p a w.lent (omega (arith, long-most, r.0)) (omega (arith, long-most, r.1))
         (λ j h. (
           subst (λ x. x < p) (sym ((st.left held-so anew j).0 ∙ st.going.agrees.places_f j (omega (arith, all)) h)) (fold_small j).0,
           subst (λ x. x < p) (sym ((st.left held-so anew j).1 ∙ st.going.agrees.places_g j (omega (arith, all)) h)) (fold_small j).1,

@@ -21,7 +21,7 @@ use Rattle.item.specs.declared.Given.TheVariants.{Reading, Numbers}
 use Rattle.item.specs.declared.Start.{Start}
 use Rattle.item.specs.Mark.{is_mark}
 use Rattle.item.specs.Item.{contributes}
-use Rattle.item.proofs.Marks.{mark-fits, marked-contributes}
+use Rattle.item.proofs.Marks.{mark_fits, marked-contributes}
 use Rattle.runs.specs.Trip.{Trip, trip_item, vector_f, sum_of, total_of}
 use Rattle.batch.proofs.Laws.{log-good}
 use Rattle.calls.specs.declared.Call.{Call}
@@ -98,7 +98,7 @@ module _ (T : Trip) (all : AllMarked T) where
       }
     where
       fits : (x : Given) → Marked T.start.version x → ItemFits p T.start x
-      fits (Reading r w) m = (all.plain, mark-fits T.start.version r m.0, m.1)
+      fits (Reading r w) m = (all.plain, mark_fits T.start.version r m.0, m.1)
       fits (Numbers a b) m = absurd m
 
   -- AND IT IS PROVABLE: its proper run is answered whichever of its steps are made in full mode, and its verifier says yes throughout, by

@@ -8,7 +8,7 @@ use lib.Dec.{ltb}
 use lib.ListN.{length, get_or, replicate}
 use Rattle.algebra.specs.Mod.{mul_mod}
 use Rattle.algebra.proofs.Congruence.{base-of}
-use Rattle.algebra.proofs.Laws.{mul-lt}
+use Rattle.algebra.proofs.Laws.{mul_lt}
 use Rattle.vector.specs.Vector.{Vector, at, weight}
 use Rattle.vector.specs.Message.{Message, message_of, message}
 use Rattle.vector.specs.Slice.{message_slice, both_have}
@@ -47,7 +47,7 @@ module _ (p : ℕ) (some : 0 < p) where
     where
       by : (b : Bool) → cond b x (mul_mod p x (weight p (at s.twists) s.rounds i)) < p
       by true = l
-      by false = omega (arith, mul-lt p x (weight p (at s.twists) s.rounds i), base-of p some)
+      by false = omega (arith, mul_lt p x (weight p (at s.twists) s.rounds i), base-of p some)
 
   padded-below : (m : ℕ) (v : Vector) → ((j : ℕ) → v j < p) → (j : ℕ) → cond (ltb j m) (v j) 0 < p
   padded-below m v h j = by (ltb j m)
@@ -97,9 +97,9 @@ module _ (p : ℕ) (some : 0 < p) where
           (rw q.0 (end_below p some c r.start.rounds (vector_f p T) f-below), rw q.1 (end_below p some c r.start.rounds (vector_g p T) g-below))
 
   -- in full mode
-  pub slice-below : (h : ℕ) (fs gs : List ℕ) → (let m : Message = message_slice p h fs gs in (m.even < p) × (m.cross < p) × (m.odd < p))
+  pub slice_below : (h : ℕ) (fs gs : List ℕ) → (let m : Message = message_slice p h fs gs in (m.even < p) × (m.cross < p) × (m.odd < p))
   unfolding message_slice
-  slice-below h fs gs = by (both_have (2 * h) fs gs)
+  slice_below h fs gs = by (both_have (2 * h) fs gs)
     where
       by : (b : Bool) → (let m : Message = cond b (message_of p h (at fs) (at gs)) (record { even = 0; cross = 0; odd = 0 }) in (m.even < p) × (m.cross < p) × (m.odd < p))
       by true = (residue-below p some _, residue-below p some _, residue-below p some _)

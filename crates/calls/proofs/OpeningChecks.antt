@@ -13,7 +13,7 @@ use Rattle.refusal.specs.Limit.{max_weight}
 use Rattle.vector.specs.Vector.{at}
 use Rattle.vector.specs.Slice.{is_nonzero, all_reduced}
 use Rattle.vector.specs.Opening.{Triple, triple, triple_values, opening_of, opening}
-use Rattle.vector.proofs.Every.{reduced-all}
+use Rattle.vector.proofs.Every.{reduced_all}
 use Rattle.refusal.specs.Outcome.{answered}
 use Rattle.verifier.specs.declared.Verifier.{Verifier}
 use Rattle.verifier.specs.Records.{holds}
@@ -37,30 +37,30 @@ use Rattle.calls.proofs.QuerySteps.{answers, settled_heard, asks}
 use Rattle.calls.proofs.QueryLists.{stands-next}
 use Rattle.calls.proofs.QueryKept.{follow-kept}
 use Rattle.calls.proofs.HeardAnswers.{opening-holds}
-use Rattle.calls.proofs.Hits.{hit-replies, hit-somewhere}
+use Rattle.calls.proofs.Hits.{hit_replies, hit_somewhere}
 use Rattle.calls.proofs.Links.{opening-length, opening_of_lem}
 use Rattle.calls.proofs.BatchTakes.{begun-pointed}
 
 -- every value of an opening is a field number
 module _ (p : ℕ) (some : 0 < p) where
-  triples-below : (t : ℕ → Triple) → ((k : ℕ) → ((t k).at_point < p) × ((t k).at_minus < p) × ((t k).at_square < p)) → (k m j : ℕ) → at (triple_values t k m) j < p
+  triples_below : (t : ℕ → Triple) → ((k : ℕ) → ((t k).at_point < p) × ((t k).at_minus < p) × ((t k).at_square < p)) → (k m j : ℕ) → at (triple_values t k m) j < p
   unfolding triple_values
-  triples-below t h k zero j = some
-  triples-below t h k (suc m) zero = (h k).0
-  triples-below t h k (suc m) (suc zero) = (h k).1
-  triples-below t h k (suc m) (suc (suc zero)) = (h k).2
-  triples-below t h k (suc m) (suc (suc (suc j))) = triples-below t h (suc k) m j
+  triples_below t h k zero j = some
+  triples_below t h k (suc m) zero = (h k).0
+  triples_below t h k (suc m) (suc zero) = (h k).1
+  triples_below t h k (suc m) (suc (suc zero)) = (h k).2
+  triples_below t h k (suc m) (suc (suc (suc j))) = triples_below t h (suc k) m j
 
-  append-below : (xs ys : List ℕ) → ((j : ℕ) → at xs j < p) → ((j : ℕ) → at ys j < p) → (j : ℕ) → at (xs ++ ys) j < p
-  append-below [] ys f g j = g j
-  append-below (x ∷ xs) ys f g zero = f 0
-  append-below (x ∷ xs) ys f g (suc j) = append-below xs ys (λ i. f (suc i)) g j
+  append_below : (xs ys : List ℕ) → ((j : ℕ) → at xs j < p) → ((j : ℕ) → at ys j < p) → (j : ℕ) → at (xs ++ ys) j < p
+  append_below [] ys f g j = g j
+  append_below (x ∷ xs) ys f g zero = f 0
+  append_below (x ∷ xs) ys f g (suc j) = append_below xs ys (λ i. f (suc i)) g j
 
   pub values-below : (n : ℕ) (c v : ℕ → ℕ) (b j : ℕ) → at (opening_of p n c v b) j < p
-  values-below n c v b = triples-below (triple p n c v b) (λ k. (residue-below p some _, residue-below p some _, residue-below p some _)) 0 n
+  values-below n c v b = triples_below (triple p n c v b) (λ k. (residue-below p some _, residue-below p some _, residue-below p some _)) 0 n
 
   opening-below : (n : ℕ) (c f g : ℕ → ℕ) (b j : ℕ) → at (opening p n c f g b) j < p
-  opening-below n c f g b = append-below (opening_of p n c f b) (opening_of p n c g b) (values-below n c f b) (values-below n c g b)
+  opening-below n c f g b = append_below (opening_of p n c f b) (opening_of p n c g b) (values-below n c f b) (values-below n c g b)
 
 -- the table has nothing against it
 check_free : (p : ℕ) (b : VerifierState) (x : ℕ) (l : Shown) → is_nonzero p x ≡ true → ltb 0 b.start.rounds ≡ true → length l.values ≡ 6 * b.start.rounds
@@ -78,7 +78,7 @@ module _ (p : ℕ) (large : max_weight < p) (T : Trip) (cs : List ℕ) where
       check_free p b x l ok (ap (λ st. ltb 0 st.rounds) es ∙ more)
       (ap length so ∙ opening-length p n (at cs) (vector_f p T) (vector_g p T) x ∙ ap (λ st. 6 * st.rounds) (sym es))
       (ap (λ xs. all_reduced p (length xs) xs) so
-      ∙ sym (reduced-all p _ (opening p n (at cs) (vector_f p T) (vector_g p T) x) (λ k h. opening-below p (omega arith) n (at cs) (vector_f p T) (vector_g p T) x k)))
+      ∙ sym (reduced_all p _ (opening p n (at cs) (vector_f p T) (vector_g p T) x) (λ k h. opening-below p (omega arith) n (at cs) (vector_f p T) (vector_g p T) x k)))
 
 -- whatever a verifier was asked, it keeps its start and its challenges
 module _ (p : ℕ) (s : Start) (cs : List ℕ) where
@@ -115,8 +115,8 @@ module _ (p : ℕ) (large : max_weight < p) (prime : Prime p) (odd : p % 2 ≡ 1
       → OpeningsChecked p T v ms (after (hears_on p) (fresh_hearing T.start cs) qs))
   openings-checked through begin can f g ms kept takes qs x values gave file logs =
       let going = begun-going p large through T w.items begin can f g in
-      let hit = hit-somewhere p large through T w.items cs _ _ (begun T.start begin f g) going ms kept takes gave in
+      let hit = hit_somewhere p large through T w.items cs _ _ (begun T.start begin f g) going ms kept takes gave in
       let ok = both (is_nonzero p x) (ltb 0 rounds) (begun-pointed p large T.start begin can f g ms x _ gave) in
       let h = stands-still p T.start cs w.start qs in
       opening-yes _ _ h.0 h.1 h.2 x ok.0 ok.1 (record { file = file; values = take (6 * rounds) values; logs = logs })
-      (opening_of_lem p large through T w.items cs x values hit.0 (sym hit.1 ∙ hit-replies p large through T w.items cs _ hit.0))
+      (opening_of_lem p large through T w.items cs x values hit.0 (sym hit.1 ∙ hit_replies p large through T w.items cs _ hit.0))

@@ -27,7 +27,7 @@ use Rattle.calls.specs.Given.{Gave}
 use Rattle.calls.proofs.Records.{Notes}
 use Rattle.calls.proofs.Steps.{row-passed}
 use Rattle.calls.proofs.Turns.{both}
-use Rattle.calls.proofs.Refusals.{Faithful, decide-step, faithful-on}
+use Rattle.calls.proofs.Refusals.{Faithful, decide_step, faithful_on}
 use Rattle.calls.proofs.Answers.{follow-start}
 use Rattle.calls.proofs.Alike.{answered_none}
 use Rattle.calls.proofs.LiveWorld.{buffers_same}
@@ -71,13 +71,13 @@ module _ (p : ℕ) where
   close-pointed a next.Openings Asked h = refl
   close-pointed a t Change h = refl
 
-  open-pointed : (n : ℕ) (m : Mode) (t : Next) → pass_waits m t ≡ true → point_fits p n 0 t Asked ≡ true
-  open-pointed n Full t e = absurd (true≢false (sym e))
-  open-pointed n Small next.Total e = refl
-  open-pointed n Small next.Message e = refl
-  open-pointed n Small next.Challenge e = refl
-  open-pointed n Small next.Ends e = refl
-  open-pointed n Small next.Openings e = absurd (true≢false (sym e))
+  open_pointed : (n : ℕ) (m : Mode) (t : Next) → pass_waits m t ≡ true → point_fits p n 0 t Asked ≡ true
+  open_pointed n Full t e = absurd (true≢false (sym e))
+  open_pointed n Small next.Total e = refl
+  open_pointed n Small next.Message e = refl
+  open_pointed n Small next.Challenge e = refl
+  open_pointed n Small next.Ends e = refl
+  open_pointed n Small next.Openings e = absurd (true≢false (sym e))
 
   at-pointed : (n b : ℕ) (t : Next) → is_nonzero p b ≡ true → openings_next t n ≡ true → point_fits p n b t Asked ≡ true
   at-pointed n b next.Total h e = refl
@@ -86,27 +86,27 @@ module _ (p : ℕ) where
   at-pointed n b next.Ends h e = refl
   at-pointed n b next.Openings h e = ap₂ ◌&&◌ h e
 
-  goes-pointed : (a : State) (c : Call) (l m : Lent) → table p a c l ≡ none → pointed p a ≡ true → pointed p (goes_on a c m) ≡ true
+  goes_pointed : (a : State) (c : Call) (l m : Lent) → table p a c l ≡ none → pointed p a ≡ true → pointed p (goes_on a c m) ≡ true
   unfolding table
-  goes-pointed a call.OpenPass l m e h = open-pointed a.start.rounds a.turn.mode a.turn.next (row-passed (pass_waits a.turn.mode a.turn.next) 10 none e).0
-  goes-pointed a (call.OpenAt b) l m e h =
+  goes_pointed a call.OpenPass l m e h = open_pointed a.start.rounds a.turn.mode a.turn.next (row-passed (pass_waits a.turn.mode a.turn.next) 10 none e).0
+  goes_pointed a (call.OpenAt b) l m e h =
       let r = row-passed (is_small a.turn.mode && openings_next a.turn.next a.start.rounds) 10 (row (is_nonzero p b) 6 none) e in
       at-pointed a.start.rounds b a.turn.next (row-passed (is_nonzero p b) 6 none r.1).0 (both (is_small a.turn.mode) (openings_next a.turn.next a.start.rounds) r.0).1
-  goes-pointed a call.ToFull l m e h = refl
-  goes-pointed a call.ToSmall l m e h = refl
-  goes-pointed a (call.Give x) l m e h = buffers_same (pointed p) (λ a l. refl) (is_change a.pass.kind) _ m ∙ h
-  goes-pointed a call.Close l m e h = close-pointed a a.turn.next a.pass.kind h
-  goes-pointed a call.Message l m e h = refl
-  goes-pointed a (call.Challenge c) l m e h = buffers_same (pointed p) (λ a l. refl) (is_full a.turn.mode) (takes_challenge a c) m
-  goes-pointed a call.Ends l m e h = refl
-  goes-pointed a (call.Opening b) l m e h = h
-  goes-pointed a call.WriteProof l m e h = h
+  goes_pointed a call.ToFull l m e h = refl
+  goes_pointed a call.ToSmall l m e h = refl
+  goes_pointed a (call.Give x) l m e h = buffers_same (pointed p) (λ a l. refl) (is_change a.pass.kind) _ m ∙ h
+  goes_pointed a call.Close l m e h = close-pointed a a.turn.next a.pass.kind h
+  goes_pointed a call.Message l m e h = refl
+  goes_pointed a (call.Challenge c) l m e h = buffers_same (pointed p) (λ a l. refl) (is_full a.turn.mode) (takes_challenge a c) m
+  goes_pointed a call.Ends l m e h = refl
+  goes_pointed a (call.Opening b) l m e h = h
+  goes_pointed a call.WriteProof l m e h = h
 
   pub follow-pointed : (a : State) (c : Call) (l : Lent) (o : Result) → (is_answered o.answer ≡ true → table p a c l ≡ none) → pointed p a ≡ true → pointed p (follow a c o) ≡ true
   follow-pointed a c l o t h = by (is_answered o.answer) refl
     where
       by : (b : Bool) → is_answered o.answer ≡ b → pointed p (cond b (goes_on a c o.lent) a) ≡ true
-      by true e = goes-pointed a c l o.lent (t e) h
+      by true e = goes_pointed a c l o.lent (t e) h
       by false e = h
 
   close-asked : (a : State) (t : Next) (k : Kind) (x : ℕ) → point_fits p a.start.rounds a.pass.point t k ≡ true → close_asks a t k ≡ opening_at x → (is_nonzero p x && ltb 0 a.start.rounds) ≡ true
@@ -144,9 +144,9 @@ module _ (p : ℕ) where
         let a : State = w.state in
         let o : Result = came p w m in
         let free : is_answered o.answer ≡ true → table p a m.call m.lent ≡ none =
-        λ y. answered_none w.run w.pass m.lent (table p a m.call m.lent) o (decide-step p large a w.run w.pass i m.call m.lent) y in
+        λ y. answered_none w.run w.pass m.lent (table p a m.call m.lent) o (decide_step p large a w.run w.pass i m.call m.lent) y in
         ⊎_elim {C = (is_nonzero p x && ltb 0 a.start.rounds) ≡ true}
         (λ here. asked-pointed a m.call m.lent x (free here.0.0) h here.0.1)
         (λ later.
         subst (λ st. (is_nonzero p x && ltb 0 st.rounds) ≡ true) (follow-start a m.call o)
-        (gave-pointed (onward p w m) (faithful-on p large w i m) (follow-pointed a m.call m.lent o free h) ms x y later)) e
+        (gave-pointed (onward p w m) (faithful_on p large w i m) (follow-pointed a m.call m.lent o free h) ms x y later)) e

@@ -54,9 +54,9 @@ module _ (p n : ℕ) (few : n ≤ 15) (file : List ℕ) where
       require (eqb (length file) (proof_size r)) 4
       (require (in_limits p (proof_total file)) 7 (require (all_below p (proof_number file) (3 * r + 2)) 11 (answered (head r))))
 
-  pub read-rows : read_proof_of p n file ≡ decided (file_rows p n file) (answered (head n))
+  pub read_rows_lem : read_proof_of p n file ≡ decided (file_rows p n file) (answered (head n))
   unfolding read_proof_of read_proof
-  read-rows =
+  read_rows_lem =
       row-if (marked 80 10 file) 1 _ _ _
       (λ m.
       row-if (eqb (version_of file) 1) 2 _ _ _
@@ -82,16 +82,16 @@ three-and true false z = refl
 three-and true true z = refl
 
 module _ (p : ℕ) (a : VerifierState) (v : Verifier) (s : Stands p a v) where
-  formed-and : (x y : Bool) → x ≡ y → cond (well_formed v) x false ≡ y
-  formed-and x y e = ap (λ b. cond b x false) s.carries.formed ∙ e
+  formed_and : (x y : Bool) → x ≡ y → cond (well_formed v) x false ≡ y
+  formed_and x y e = ap (λ b. cond b x false) s.carries.formed ∙ e
 
   -- a record that a call returned passes the test for one
-  formed-row : {A : Type 0} (rest o : Outcome A) → rest ≡ o → require (well_formed v) 10 rest ≡ o
-  formed-row rest o e = ap (λ b. require b 10 rest) s.carries.formed ∙ e
+  formed_row : {A : Type 0} (rest o : Outcome A) → rest ≡ o → require (well_formed v) 10 rest ≡ o
+  formed_row rest o e = ap (λ b. require b 10 rest) s.carries.formed ∙ e
 
-  pub open-test : pass_open v ≡ not a.closed
+  pub open_test : pass_open v ≡ not a.closed
   unfolding pass_open
-  open-test = formed-and _ _ (ap not s.closed)
+  open_test = formed_and _ _ (ap not s.closed)
 
   whole-test : eqb v.taken v.start.items ≡ has_all a
   whole-test = rw (s.carries.taken, s.carries.start)
@@ -99,10 +99,10 @@ module _ (p : ℕ) (a : VerifierState) (v : Verifier) (s : Stands p a v) where
   turn : {A : Type 0} (kind same : Bool) (rest : Outcome A) (t : Option Refusal) (o : Outcome A) → kind ≡ same
       → rest ≡ decided t o → require (pass_open v) 10 (require (eqb v.taken v.start.items) 8 (require kind 10 rest)) ≡ decided (close_rows a same t) o
   turn kind same rest t o k r =
-      like_row _ _ 10 _ _ _ open-test (like_row _ _ 8 _ _ _ whole-test (like_row kind same 10 rest t o k r))
+      like_row _ _ 10 _ _ _ open_test (like_row _ _ 8 _ _ _ whole-test (like_row kind same 10 rest t o k r))
 
-  wanted-test : ltb v.taken v.start.items ≡ is_wanted a
-  wanted-test = rw (s.carries.taken, s.carries.start)
+  wanted_test : ltb v.taken v.start.items ≡ is_wanted a
+  wanted_test = rw (s.carries.taken, s.carries.start)
 
   plain-test : v.start.plain ≡ a.start.plain
   plain-test = ap (λ s. s.plain) s.carries.start
@@ -139,7 +139,7 @@ module _ (p : ℕ) (a : VerifierState) (v : Verifier) (s : Stands p a v) where
 
   pub item-decided : (x : Given) (l : Shown) → give p v x ≡ decided (verifier_table p a (query.Give x) l) (answered (takes p v (contributes p v.start x)))
   unfolding give verifier_table
-  item-decided x l = like_row _ _ 10 _ _ _ open-test (like_row _ _ 8 _ _ _ wanted-test (own-rows x))
+  item-decided x l = like_row _ _ 10 _ _ _ open_test (like_row _ _ 8 _ _ _ wanted_test (own-rows x))
 
   pub close-decided : (t : ℤ) (l : Shown) → close p v t ≡ decided (verifier_table p a (query.Close t) l) (answered (closes v (image p t)))
   unfolding close verifier_table
@@ -153,20 +153,20 @@ module _ (p : ℕ) (a : VerifierState) (v : Verifier) (s : Stands p a v) where
       → message p v even cross odd ≡ decided (verifier_table p a (query.Message even cross odd) l) (answered (hears p v (message_of3 even cross odd)))
   unfolding message all_reduced3 verifier_table
   message-decided even cross odd l =
-      formed-row _ _
+      formed_row _ _
       (like_row _ _ 12 _ _ _ (message-turn p a v s)
       (like_row _ _ 11 _ none _ (three-and (ltb even p) (ltb cross p) (ltb odd p)) refl))
 
   pub verdict-decided : (l : Shown) → verdict p v ≡ decided (verifier_table p a query.Verdict l) (answered (finds p v))
   unfolding verdict verifier_table
-  verdict-decided l = formed-row _ _ (like_row _ _ 12 _ none _ (verdict-turn p a v s) refl)
+  verdict-decided l = formed_row _ _ (like_row _ _ 12 _ none _ (verdict-turn p a v s) refl)
 
   file-rows : (file : List ℕ)
       → read_total (read_proof_of p v.start.rounds file) (λ total. judges p v total file)
       ≡ decided (file_rows p a.start.rounds file) (answered (judges p v (proof_total file) file))
   file-rows file =
       let few = (formed_says v s.carries.formed).few in
-      ap (λ o. read_total o (λ total. judges p v total file)) (read-rows p v.start.rounds few file)
+      ap (λ o. read_total o (λ total. judges p v total file)) (read_rows_lem p v.start.rounds few file)
       ∙ with_total_lem (file_rows p v.start.rounds file) (record { rounds = v.start.rounds; total = proof_total file }) (λ total. judges p v total file)
       ∙ ap (λ n. decided (file_rows p n file) (answered (judges p v (proof_total file) file))) (ap (λ s. s.rounds) s.carries.start)
 
@@ -176,7 +176,7 @@ module _ (p : ℕ) (a : VerifierState) (v : Verifier) (s : Stands p a v) where
 
   rounds-test : has_rounds v ≡ ltb 0 a.start.rounds
   unfolding has_rounds
-  rounds-test = formed-and _ _ (ap (ltb 0) (ap (λ s. s.rounds) s.carries.start))
+  rounds-test = formed_and _ _ (ap (ltb 0) (ap (λ s. s.rounds) s.carries.start))
 
   pub opening-decided : (b : ℕ) (l : Shown)
       → check_opening p v b l.values ≡ decided (verifier_table p a (query.CheckOpening b) l) (answered (opening_finds p v b l.values))

@@ -78,9 +78,9 @@ module _ (p : ℕ) where
   first-base v m zero = refl
   first-base v m (suc k) = next-base (hears_first p v m k) (m k) ∙ first-base v m k
 
-  compared-base : (v : Verifier) (file : List ℕ) → base_of (compares v file) ≡ base_of v
+  compared_base : (v : Verifier) (file : List ℕ) → base_of (compares v file) ≡ base_of v
   unfolding compares failed_now
-  compared-base v file = by (ends_agree v file)
+  compared_base v file = by (ends_agree v file)
     where
       by : (b : Bool) → base_of (cond b v (failed_now v)) ≡ base_of v
       by true = refl
@@ -89,7 +89,7 @@ module _ (p : ℕ) where
   file-base : (v : Verifier) (file : List ℕ) → base_of (after_file p v (proof_total file) file) ≡ base_of v
   unfolding after_file closed_with
   file-base v file =
-      compared-base (hears_first p (closed_with v (image p (proof_total file))) (file_message file) v.start.rounds) file
+      compared_base (hears_first p (closed_with v (image p (proof_total file))) (file_message file) v.start.rounds) file
       ∙ first-base (closed_with v (image p (proof_total file))) (file_message file) v.start.rounds
 
   -- a verdict of yes
@@ -122,25 +122,25 @@ module _ (p : ℕ) where
           record { carries = c; closed = verdict-closed w t; going = λ r. absurd (true≢false r); over = λ r. (t, e) }
 
 module _ (p : ℕ) (a : VerifierState) (v : Verifier) (s : Stands p a v) where
-  formed-asked : (c : Query) (l : Shown) → well_formed (ask p v c l).verifier ≡ true
+  formed_asked : (c : Query) (l : Shown) → well_formed (ask p v c l).verifier ≡ true
   unfolding ask
-  formed-asked (query.Give x) l = give_kept p v s.carries.formed x
-  formed-asked (query.Close t) l = close-kept p v s.carries.formed t
-  formed-asked (query.CloseClaim c) l = close-claim-kept p v s.carries.formed c
-  formed-asked (query.Message even cross odd) l = message-kept p v s.carries.formed even cross odd
-  formed-asked query.Verdict l = s.carries.formed
-  formed-asked query.Proof l = proof-kept p v l.file s.carries.formed
-  formed-asked (query.CheckOpening b) l = s.carries.formed
-  formed-asked (query.CheckBatch m z b) l = s.carries.formed
+  formed_asked (query.Give x) l = give_kept p v s.carries.formed x
+  formed_asked (query.Close t) l = close-kept p v s.carries.formed t
+  formed_asked (query.CloseClaim c) l = close-claim-kept p v s.carries.formed c
+  formed_asked (query.Message even cross odd) l = message-kept p v s.carries.formed even cross odd
+  formed_asked query.Verdict l = s.carries.formed
+  formed_asked query.Proof l = proof-kept p v l.file s.carries.formed
+  formed_asked (query.CheckOpening b) l = s.carries.formed
+  formed_asked (query.CheckBatch m z b) l = s.carries.formed
 
-  formed-answered : (c : Query) (l : Shown) → verifier_table p a c l ≡ none → well_formed (goes_to p v c l) ≡ true
-  formed-answered c l e =
+  formed_answered : (c : Query) (l : Shown) → verifier_table p a c l ≡ none → well_formed (goes_to p v c l) ≡ true
+  formed_answered c l e =
       subst (λ (o : Spoken). well_formed o.verifier ≡ true) (asks p a v s c l ∙ ap (λ t. settled_heard v t (answers p v c l)) e)
-      (formed-asked c l)
+      (formed_asked c l)
 
   -- while the pass is open no verdict is reached
-  open-going : a.closed ≡ false → a.refuted ≡ true → ⊥
-  open-going o r = true≢false (sym (verdict-closed v (s.over r).0) ∙ s.closed ∙ o)
+  open_going : a.closed ≡ false → a.refuted ≡ true → ⊥
+  open_going o r = true≢false (sym (verdict-closed v (s.over r).0) ∙ s.closed ∙ o)
 
   pub item-stands : (x : Given) (f g : ℕ) → a.closed ≡ false → well_formed (one_more p v f g) ≡ true → Stands p (takes_item a x) (one_more p v f g)
   unfolding one_more
@@ -156,7 +156,7 @@ module _ (p : ℕ) (a : VerifierState) (v : Verifier) (s : Stands p a v) where
             };
         closed = s.closed;
         going = s.going;
-        over = λ r. absurd (open-going o r);
+        over = λ r. absurd (open_going o r);
       }
 
   pub close-stands : (claim : ℕ) → a.closed ≡ false → well_formed (closed_with v claim) ≡ true
@@ -167,7 +167,7 @@ module _ (p : ℕ) (a : VerifierState) (v : Verifier) (s : Stands p a v) where
         carries = carries_as v (closed_with v claim) s.carries refl formed;
         closed = refl;
         going = s.going;
-        over = λ r. absurd (open-going o r);
+        over = λ r. absurd (open_going o r);
       }
 
   pub message-stands : (m : Message) → a.closed ≡ true → a.refuted ≡ false → well_formed (hears p v m).verifier ≡ true
@@ -210,12 +210,12 @@ module _ (p : ℕ) (a : VerifierState) (v : Verifier) (s : Stands p a v) where
 
   -- THE STATE AFTER AN ANSWERED CALL
   pub stands_after : (c : Query) (l : Shown) → verifier_table p a c l ≡ none → Stands p (goes_on_heard a c (says_so p v c l)) (goes_to p v c l)
-  stands_after (query.Give x) l e = item-stands _ _ _ (item-rows p a l x e).unclosed (formed-answered (query.Give x) l e)
-  stands_after (query.Close t) l e = close-stands (image p t) (close-rows p a l t e).unclosed (formed-answered (query.Close t) l e)
-  stands_after (query.CloseClaim c) l e = close-stands c (claim-rows p a l c e).unclosed (formed-answered (query.CloseClaim c) l e)
+  stands_after (query.Give x) l e = item-stands _ _ _ (item-rows p a l x e).unclosed (formed_answered (query.Give x) l e)
+  stands_after (query.Close t) l e = close-stands (image p t) (close-rows p a l t e).unclosed (formed_answered (query.Close t) l e)
+  stands_after (query.CloseClaim c) l e = close-stands c (claim-rows p a l c e).unclosed (formed_answered (query.CloseClaim c) l e)
   stands_after (query.Message even cross odd) l e =
       let t = message-rows p a l even cross odd e in
-      message-stands (message_of3 even cross odd) t.0 t.1 (formed-answered (query.Message even cross odd) l e)
+      message-stands (message_of3 even cross odd) t.0 t.1 (formed_answered (query.Message even cross odd) l e)
   stands_after query.Verdict l e = verdict-stands p a v s.carries (verdict-turn p a v s ∙ verdict-row p a l e)
   stands_after query.Proof l e = file-stands l e
   stands_after (query.CheckOpening b) l e = s

@@ -97,9 +97,9 @@ module _ (p : ℕ) where
       by (refused_at k i) e h = absurd (true≢false (sym h))
 
   -- and the no of a message
-  failed-verdict : (v : Verifier) → message_turn v ≡ true → well_formed (failed_now v) ≡ true → verdict p (failed_now v) ≡ answered (no v.round)
+  failed_verdict : (v : Verifier) → message_turn v ≡ true → well_formed (failed_now v) ≡ true → verdict p (failed_now v) ≡ answered (no v.round)
   unfolding message_turn verdict verdict_turn failed_now finds
-  failed-verdict v t formed =
+  failed_verdict v t formed =
       let c = (both v.closed (cond v.failed false (ltb v.round v.start.rounds)) t).0 in
       rw (formed, c)
 
@@ -110,7 +110,7 @@ module _ (p : ℕ) where
     heard-no : (b : Bool) → message_turn v ≡ true → well_formed (heard_as p v m b).verifier ≡ true → (heard_as p v m b).reply ≡ reply.no k
         → verdict p (heard_as p v m b).verifier ≡ answered (no k)
     heard-no true t formed e = absurd (let z : ◌≡◌ {A = ℕ} 0 1 = cc in omega arith)
-    heard-no false t formed e = let same : v.round ≡ k = cc in failed-verdict v t formed ∙ ap (λ i. answered (no i)) same
+    heard-no false t formed e = let same : v.round ≡ k = cc in failed_verdict v t formed ∙ ap (λ i. answered (no i)) same
 
     message-no : (o : Outcome Replied) → message p v even cross odd ≡ o → (leaves v o).outcome ≡ answered (reply.no k)
         → verdict p (leaves v o).verifier ≡ answered (no k)

@@ -13,7 +13,7 @@ use Rattle.refusal.specs.Outcome.{answered}
 use Rattle.field.specs.Total.{limit, in_limits}
 use Rattle.kernel.specs.declared.Kernel.{Kernel}
 use Rattle.vector.proofs.StackCount.{ones_at_most}
-use Rattle.kernel.proofs.KernelLevels.{Levelled, levelled-first, levelled-second, levelled-count}
+use Rattle.kernel.proofs.KernelLevels.{Levelled, levelled_first, levelled_second, levelled_count}
 use Rattle.phase.specs.declared.Mode.{Mode}
 use Rattle.phase.specs.declared.Mode.TheVariants.{Small, Full}
 use Rattle.phase.specs.declared.Next.{Next}
@@ -55,7 +55,7 @@ use Rattle.calls.proofs.Records.{Notes, no_notes, noted, refusal_noted, run_of, 
 use Rattle.calls.proofs.Guards.{challenge_does}
 use Rattle.calls.proofs.Steps.{close_step, does, refused_result, settled, steps}
 use Rattle.calls.proofs.Fits.{Fits, few, run-formed, formed, kind-is, taken_is, sum_is, messages-below}
-use Rattle.calls.proofs.Follows.{Follows, positive, no_items, open-follows, open-at-follows, to-full-follows, to-small-follows, item-follows, close_follows, message-follows, ends-follows, challenge-follows}
+use Rattle.calls.proofs.Follows.{Follows, positive, no_items, open_follows, open_at_follows, to_full_follows, to_small_follows, item-follows, close_follows, message-follows, ends-follows, challenge-follows}
 
 close-answered : (p : ℕ) (r : Run) (s : Pass) (t : Next) (k : Kind) → is_answered (answer_in (close_step p r s t k).answer) ≡ true
 close-answered p r s t Shut = refl
@@ -90,10 +90,10 @@ module _ (p : ℕ) (large : max_weight < p) where
   -- AN ANSWERED CALL
   pub goes : (a : State) {past : Notes} → Fits p a past → (c : Call) → (l : Lent) → table p a c l ≡ none → Goes a past c (does p (run_of a past) (pass_of p a past) c l)
   unfolding message_given opening_given
-  goes a {past} h call.OpenPass l e = (refl, open-follows p large a h l e)
-  goes a {past} h (call.OpenAt b) l e = (refl, open-at-follows p large a h b l e)
-  goes a {past} h call.ToFull l e = (refl, to-full-follows p large a h l e)
-  goes a {past} h call.ToSmall l e = (refl, to-small-follows p large a h l e)
+  goes a {past} h call.OpenPass l e = (refl, open_follows p large a h l e)
+  goes a {past} h (call.OpenAt b) l e = (refl, open_at_follows p large a h b l e)
+  goes a {past} h call.ToFull l e = (refl, to_full_follows p large a h l e)
+  goes a {past} h call.ToSmall l e = (refl, to_small_follows p large a h l e)
   goes a {past} h (call.Give x) l e =
       take_noted p _ past x _ (takes-answer p (run_of a past) (pass_of p a past) (contributes p a.start x) l.f l.g)
       (item-follows p large a h x l e)
@@ -135,15 +135,15 @@ module _ (p : ℕ) (large : max_weight < p) where
         subst (λ b. Inv (cond b (goes_on a c o.lent) a) (noted p c past o.answer) (run_of a past) (pass_of p a past)) (sym (refused_with_lem _ k.0 k.1))
         (subst (λ n. Inv a n (run_of a past) (pass_of p a past)) (sym (refusal_noted p c past k.0 k.1)) (record { run = refl; pass = refl; fits = h }))
 
-  pub decide-step : (a : State) {past : Notes} (r : Run) (s : Pass) → Inv a past r s → (c : Call) → (l : Lent) → Decides r s l (table p a c l) (step p r s c l)
-  decide-step a {past} r s i c l =
+  pub decide_step : (a : State) {past : Notes} (r : Run) (s : Pass) → Inv a past r s → (c : Call) → (l : Lent) → Decides r s l (table p a c l) (step p r s c l)
+  decide_step a {past} r s i c l =
       subst (λ r. Decides r s l (table p a c l) (step p r s c l)) (sym i.run)
       (subst (λ s. Decides (run_of a past) s l (table p a c l) (step p (run_of a past) s c l)) (sym i.pass)
       (subst (Decides (run_of a past) (pass_of p a past) l (table p a c l)) (sym (step_is a i.fits c l)) (answered-so a i.fits c l (table p a c l) refl)))
 
-  pub inv-step : (a : State) {past : Notes} (r : Run) (s : Pass) → Inv a past r s → (c : Call) → (l : Lent)
+  pub inv_step : (a : State) {past : Notes} (r : Run) (s : Pass) → Inv a past r s → (c : Call) → (l : Lent)
       → (let o : Result = step p r s c l in Inv (follow a c o) (noted p c past o.answer) o.run o.pass)
-  inv-step a {past} r s i c l =
+  inv_step a {past} r s i c l =
       subst (λ r. (let o : Result = step p r s c l in Inv (follow a c o) (noted p c past o.answer) o.run o.pass)) (sym i.run)
       (subst (λ s. (let o : Result = step p (run_of a past) s c l in Inv (follow a c o) (noted p c past o.answer) o.run o.pass)) (sym i.pass)
       (subst (λ o. Inv (follow a c o) (noted p c past o.answer) o.run o.pass) (sym (step_is a i.fits c l)) (stands-so a i.fits c l (table p a c l) refl)))
@@ -158,8 +158,8 @@ module _ (p : ℕ) (large : max_weight < p) where
 
   counted : (i t : ℕ) (k : Kernel) → Levelled i t k → Counted i t k
   counted i t k h =
-      let n = levelled-count i t k h in
-      record { f = levelled-first i t k h; g = levelled-second i t k h; fcount = n; gcount = h.paired.counts ∙ n; few = ones_at_most (suc i) t }
+      let n = levelled_count i t k h in
+      record { f = levelled_first i t k h; g = levelled_second i t k h; fcount = n; gcount = h.paired.counts ∙ n; few = ones_at_most (suc i) t }
 
   pub counts-hold : (a : State) {past : Notes} (r : Run) (s : Pass) → Inv a past r s → CountsHold a s
   counts-hold a {past} r s i e =
@@ -178,15 +178,15 @@ module _ (p : ℕ) (large : max_weight < p) where
   abbrev pub Faithful : World → Notes → Type 0
   Faithful w past = Inv w.state past w.run w.pass
 
-  pub faithful-on : (w : World) {past : Notes} → Faithful w past → (m : Made) → Faithful (onward p w m) (noted p m.call past (came p w m).answer)
-  faithful-on w i m = inv-step w.state w.run w.pass i m.call m.lent
+  pub faithful_on : (w : World) {past : Notes} → Faithful w past → (m : Made) → Faithful (onward p w m) (noted p m.call past (came p w m).answer)
+  faithful_on w i m = inv_step w.state w.run w.pass i m.call m.lent
 
   pub all-decided : (w : World) {past : Notes} → Faithful w past → (ms : List Made) → AllDecided p w ms
   unfolding along always
   all-decided w i [] = (tt, counts-hold w.state w.run w.pass i)
   all-decided w i (m ∷ ms) =
-      let rest = all-decided (onward p w m) (faithful-on w i m) ms in (
-        (decide-step w.state w.run w.pass i m.call m.lent, rest.0),
+      let rest = all-decided (onward p w m) (faithful_on w i m) ms in (
+        (decide_step w.state w.run w.pass i m.call m.lent, rest.0),
         (counts-hold w.state w.run w.pass i, rest.1),
       )
 

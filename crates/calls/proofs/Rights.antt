@@ -107,9 +107,9 @@ module _ (p : ℕ) (large : max_weight < p) (through : Bool) (its : List Given) 
       let q = both (leb (long a) (length l.f)) (leb (long a) (length l.g)) e in
       (leb-true _ _ q.0, leb-true _ _ q.1)
 
-  to-full-right : table p a call.ToFull l ≡ none → Right p T a call.ToFull l (does p R S call.ToFull l)
+  to_full_right : table p a call.ToFull l ≡ none → Right p T a call.ToFull l (does p R S call.ToFull l)
   unfolding table
-  to-full-right e =
+  to_full_right e =
       let b = both_long_lem (row-passed (both_long a l) 9 none (row-passed (change_waits a.turn.mode a.turn.next a.start.rounds) 10 _ e).1).0 in
       record {
         answer = refl;
@@ -159,10 +159,10 @@ module _ (p : ℕ) (large : max_weight < p) (through : Bool) (its : List Given) 
       item-buffers x a.pass.kind refl q.opened q.more h.pass.kind (row-passed (not (is_change a.pass.kind) || both_long a l) 9 none q.place).0 e
 
   -- an item's place in the fold of the state that follows
-  take-so : (v : Vector) (x : Given) (m : Lent) (xs ys : List ℕ) → (let z : ℕ × ℕ = item_writes a a.pass.kind in
+  take_so : (v : Vector) (x : Given) (m : Lent) (xs ys : List ℕ) → (let z : ℕ × ℕ = item_writes a a.pass.kind in
       let b : State = buffers_in (is_change a.pass.kind) (in_pass a a.pass.kind a.pass.point (x ∷ a.pass.items)) m in
       Written (fold p (at a.turn.challenges) (level a) v) z.0 z.1 xs ys → Written (fold p (at b.turn.challenges) (level b) v) z.0 z.1 xs ys)
-  take-so v x m xs ys w =
+  take_so v x m xs ys w =
       let z : ℕ × ℕ = item_writes a a.pass.kind in
       let b : State = buffers_in (is_change a.pass.kind) (in_pass a a.pass.kind a.pass.point (x ∷ a.pass.items)) m in
       refolded (fold p (at a.turn.challenges) (level a) v) (fold p (at b.turn.challenges) (level b) v) z.0 z.1 xs ys
@@ -179,8 +179,8 @@ module _ (p : ℕ) (large : max_weight < p) (through : Bool) (its : List Given) 
       let b = item-written-so x q kept.0 in (
         takes-answer p R S (contributes p a.start x) l.f l.g,
         takes-values p R S (contributes p a.start x) l.f l.g,
-        take-so (vector_f p T) x o.lent l.f o.lent.f b.0,
-        take-so (vector_g p T) x o.lent l.g o.lent.g b.1,
+        take_so (vector_f p T) x o.lent l.f o.lent.f b.0,
+        take_so (vector_g p T) x o.lent l.g o.lent.g b.1,
       )
 
   item-right : (x : Given) → table p a (call.Give x) l ≡ none → ItemKept p T through a x l → Right p T a (call.Give x) l (does p R S (call.Give x) l)
@@ -221,8 +221,8 @@ module _ (p : ℕ) (large : max_weight < p) (through : Bool) (its : List Given) 
       by Small k e w = absurd (true≢false (sym e))
       by Full k e w = rw w
 
-  as-left : is_full a.turn.mode ≡ true → waits next.Openings a.turn.next ≡ false → AsLeft a l → HoldsFold
-  as-left f w kept j less =
+  as_left : is_full a.turn.mode ≡ true → waits next.Openings a.turn.next ≡ false → AsLeft a l → HoldsFold
+  as_left f w kept j less =
       let k = full_known f w in
       ((kept j less).0 ∙ g.places_f j (omega arith) less, (kept j less).1 ∙ g.places_g j (omega arith) less)
 
@@ -232,7 +232,7 @@ module _ (p : ℕ) (large : max_weight < p) (through : Bool) (its : List Given) 
       let r = row-passed (is_full a.turn.mode && waits next.Message a.turn.next) 10 _ e in
       let q = both (is_full a.turn.mode) (waits next.Message a.turn.next) r.0 in
       let et = waits-for next.Message a.turn.next q.1 in
-      let m = message-meant p large through its a h l (as-left q.0 (ap (waits next.Openings) et) kept) r.1 e et q.0 in
+      let m = message-meant p large through its a h l (as_left q.0 (ap (waits next.Openings) et) kept) r.1 e et q.0 in
       record {
         answer = ap (λ r. r.answer) m;
         values = ap (λ r. r.values) m;
@@ -248,7 +248,7 @@ module _ (p : ℕ) (large : max_weight < p) (through : Bool) (its : List Given) 
       let r = row-passed (is_full a.turn.mode && waits next.Ends a.turn.next) 10 _ e in
       let q = both (is_full a.turn.mode) (waits next.Ends a.turn.next) r.0 in
       let et = waits-for next.Ends a.turn.next q.1 in
-      let m = ends-meant p large through its a h l (as-left q.0 (ap (waits next.Openings) et) kept) r.1 e et q.0 in
+      let m = ends-meant p large through its a h l (as_left q.0 (ap (waits next.Openings) et) kept) r.1 e et q.0 in
       record {
         answer = ap (λ r. r.answer) m;
         values = ap (λ r. r.values) m;
@@ -308,7 +308,7 @@ module _ (p : ℕ) (large : max_weight < p) (through : Bool) (its : List Given) 
       by Full em et rows kept =
           let n : ℕ = a.start.rounds in
           let turn : challenge_turn p R S ≡ true = rw (formed p a h, et) in
-          let lent = lent-full p large through its a h l (as-left (ap is_full em) (ap (waits next.Openings) et) (kept refl)) rows in
+          let lent = lent-full p large through its a h l (as_left (ap is_full em) (ap (waits next.Openings) et) (kept refl)) rows in
           let q = challenge-so p its a h l turn et c lent in
           let o : Out = challenged_full p R S c l.f l.g in
           let up : suc (length a.turn.challenges) ≡ level (takes_challenge a c) = sym (challenge-level et c) in (
@@ -319,9 +319,9 @@ module _ (p : ℕ) (large : max_weight < p) (through : Bool) (its : List Given) 
             refl,
           )
 
-  write-right : table p a call.WriteProof l ≡ none → Right p T a call.WriteProof l (does p R S call.WriteProof l)
+  write_right : table p a call.WriteProof l ≡ none → Right p T a call.WriteProof l (does p R S call.WriteProof l)
   unfolding table
-  write-right e =
+  write_right e =
       let q = both a.start.plain (waits next.Openings a.turn.next) (row-passed (a.start.plain && waits next.Openings a.turn.next) 10 _ e).0 in
       record {
         answer = refl;
@@ -336,7 +336,7 @@ module _ (p : ℕ) (large : max_weight < p) (through : Bool) (its : List Given) 
   pub right : (c : Call) → table p a c l ≡ none → KeptBy p T through a c l → Right p T a c l (does p R S c l)
   right call.OpenPass e kept = record { answer = refl; values = refl; f = nothing_written _ l.f; g = nothing_written _ l.g; proof = λ e. absurd (not_write _ refl e); file = λ other. refl }
   right (call.OpenAt b) e kept = record { answer = refl; values = refl; f = nothing_written _ l.f; g = nothing_written _ l.g; proof = λ e. absurd (not_write _ refl e); file = λ other. refl }
-  right call.ToFull e kept = to-full-right e
+  right call.ToFull e kept = to_full_right e
   right call.ToSmall e kept = record { answer = refl; values = refl; f = nothing_written _ l.f; g = nothing_written _ l.g; proof = λ e. absurd (not_write _ refl e); file = λ other. refl }
   right (call.Give x) e kept = item-right x e kept
   right call.Close e kept = close-right e
@@ -344,4 +344,4 @@ module _ (p : ℕ) (large : max_weight < p) (through : Bool) (its : List Given) 
   right (call.Challenge c) e kept = challenge-right c e kept
   right call.Ends e kept = ends-right e kept
   right (call.Opening b) e kept = opening-right b e kept
-  right call.WriteProof e kept = write-right e
+  right call.WriteProof e kept = write_right e

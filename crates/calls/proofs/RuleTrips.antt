@@ -58,7 +58,7 @@ module _ (p v n : ℕ) (few : n ≤ 15) (a b : Vector) where
   pub rule-vector-g : vector_g p T ≡ rule_second n b
   rule-vector-g = padded-same (2 ^ n) _ b (λ i less. ap (λ x. (contributes p T.start x).g) (item-at i less))
 
-  -- the run's total is the check's, and so the claim where no row fails (r1cs: check-claim-total)
+  -- the run's total is the check's, and so the claim where no row fails (r1cs: check_claim_total)
   pub rule-run-total : (cs : List ℕ) → meant p T cs total ≡ says (reply.field_total (rule_total p v n a b))
   rule-run-total cs = ap₂ (λ f g. says (reply.field_total (dot p (2 ^ n) f g))) rule-vector-f rule-vector-g
 

@@ -100,14 +100,14 @@ module _ (p : ℕ) (r : Run) (s : Pass) where
   took-challenge c f g Full = read f g _ (same f g (challenged_full p r s c f g) refl)
 
   record Closes (o : Outcome Step) : Type 0 where
-    so-closed : (leaves_step r s o).run.start ≡ r.start
+    so_closed : (leaves_step r s o).run.start ≡ r.start
 
   kept-closed : (o : Outcome Step) → Closes o → (leaves_step r s o).run.start ≡ r.start
-  kept-closed o h = h.so-closed
+  kept-closed o h = h.so_closed
 
   closed-check : (b : Bool) (k : ℕ) (rest : Outcome Step) → Closes rest → Closes (require b k rest)
   closed-check true k rest h = h
-  closed-check false k rest h = record { so-closed = refl }
+  closed-check false k rest h = record { so_closed = refl }
 
   gave-total : (plain : Bool)
       → (cond plain (answered_step (with_total p r s.total) shut_pass (answer.Total s.total))
@@ -117,16 +117,16 @@ module _ (p : ℕ) (r : Run) (s : Pass) where
   gave-total false = refl
 
   gave : (t : Next) → Closes (finished p r s t)
-  gave next.Total = record { so-closed = gave-total r.start.plain }
-  gave next.Message = record { so-closed = refl }
-  gave next.Challenge = record { so-closed = refl }
-  gave next.Ends = record { so-closed = refl }
-  gave next.Openings = record { so-closed = refl }
+  gave next.Total = record { so_closed = gave-total r.start.plain }
+  gave next.Message = record { so_closed = refl }
+  gave next.Challenge = record { so_closed = refl }
+  gave next.Ends = record { so_closed = refl }
+  gave next.Openings = record { so_closed = refl }
 
   closed : (k : Kind) → Closes (closing p r s k)
-  closed Shut = record { so-closed = refl }
+  closed Shut = record { so_closed = refl }
   closed Asked = gave r.next
-  closed Change = record { so-closed = refl }
+  closed Change = record { so_closed = refl }
 
   wrote : (o : Outcome ℕ) → (written_step r s o).run.start ≡ r.start
   wrote (answered size) = refl
@@ -191,9 +191,9 @@ module _ (p : ℕ) where
   first-start v m zero = refl
   first-start v m (suc k) = next_start (hears_first p v m k) (m k) ∙ first-start v m k
 
-  compared-start : (v : Verifier) (file : List ℕ) → (compares v file).start ≡ v.start
+  compared_start : (v : Verifier) (file : List ℕ) → (compares v file).start ≡ v.start
   unfolding compares failed_now
-  compared-start v file = by (ends_agree v file)
+  compared_start v file = by (ends_agree v file)
     where
       by : (b : Bool) → (cond b v (failed_now v)).start ≡ v.start
       by true = refl
@@ -202,7 +202,7 @@ module _ (p : ℕ) where
   file-start : (v : Verifier) (z : ℤ) (file : List ℕ) → (after_file p v z file).start ≡ v.start
   unfolding after_file closed_with
   file-start v z file =
-      compared-start (hears_first p (closed_with v (image p z)) (file_message file) v.start.rounds) file
+      compared_start (hears_first p (closed_with v (image p z)) (file_message file) v.start.rounds) file
       ∙ first-start (closed_with v (image p z)) (file_message file) v.start.rounds
 
 module _ (p : ℕ) (v : Verifier) where
@@ -226,19 +226,19 @@ module _ (p : ℕ) (v : Verifier) where
   took (refused_at k i) = record { so_left = refl }
 
   record Judges (o : Outcome Judgement) : Type 0 where
-    so-judged : (leaves_judged v o).0.start ≡ v.start
+    so_judged : (leaves_judged v o).0.start ≡ v.start
 
   left-judged : (o : Outcome Judgement) → Judges o → (leaves_judged v o).0.start ≡ v.start
-  left-judged o h = h.so-judged
+  left-judged o h = h.so_judged
 
-  judged-check : (b : Bool) (k : ℕ) (rest : Outcome Judgement) → Judges rest → Judges (require b k rest)
-  judged-check true k rest h = h
-  judged-check false k rest h = record { so-judged = refl }
+  judged_check : (b : Bool) (k : ℕ) (rest : Outcome Judgement) → Judges rest → Judges (require b k rest)
+  judged_check true k rest h = h
+  judged_check false k rest h = record { so_judged = refl }
 
   judged : (o : Outcome Head) (file : List ℕ) → Judges (read_total o (λ total. judges p v total file))
-  judged (answered x) file = record { so-judged = file-start p v x.total file }
-  judged (refused k) file = record { so-judged = refl }
-  judged (refused_at k i) file = record { so-judged = refl }
+  judged (answered x) file = record { so_judged = file-start p v x.total file }
+  judged (refused k) file = record { so_judged = refl }
+  judged (refused_at k i) file = record { so_judged = refl }
 
   pub ask-start : (c : Query) (l : Shown) → (ask p v c l).verifier.start ≡ v.start
   unfolding ask give close close_claim closed_with message proof
@@ -263,33 +263,33 @@ module _ (p : ℕ) (v : Verifier) where
   ask-start query.Verdict l = refl
   ask-start query.Proof l =
       left-judged (proof p v l.file)
-      (judged-check (calls.pass_open v) 10 _
-      (judged-check (eqb v.taken v.start.items) 8 _
-      (judged-check v.start.plain 10 _ (judged (read_proof_of p v.start.rounds l.file) l.file))))
+      (judged_check (calls.pass_open v) 10 _
+      (judged_check (eqb v.taken v.start.items) 8 _
+      (judged_check v.start.plain 10 _ (judged (read_proof_of p v.start.rounds l.file) l.file))))
   ask-start (query.CheckOpening b) l = refl
   ask-start (query.CheckBatch m z b) l = refl
 
 -- ALONG A LIST the modulus is that of its start
 module _ (s : Start) where
-  runs-stay : (ms : List Made) (w : World) → w.run.start ≡ s → always (onward (modulus_of s)) (λ w. modulus_of w.run.start ≡ modulus_of s) w ms
+  runs_stay : (ms : List Made) (w : World) → w.run.start ≡ s → always (onward (modulus_of s)) (λ w. modulus_of w.run.start ≡ modulus_of s) w ms
   unfolding always
-  runs-stay [] w e = ap modulus_of e
-  runs-stay (m ∷ ms) w e =
-      (ap modulus_of e, runs-stay ms (onward (modulus_of s) w m) (step_start (modulus_of s) w.run w.pass m.call m.lent ∙ e))
+  runs_stay [] w e = ap modulus_of e
+  runs_stay (m ∷ ms) w e =
+      (ap modulus_of e, runs_stay ms (onward (modulus_of s) w m) (step_start (modulus_of s) w.run w.pass m.call m.lent ∙ e))
 
   pub run-modulus : (b : Begin) (f g : List ℕ) (ms : List Made)
       → always (onward (modulus_of s)) (λ w. modulus_of w.run.start ≡ modulus_of s) (begun s b f g) ms
-  run-modulus total f g ms = runs-stay ms (begun s total f g) refl
-  run-modulus (openings cs) f g ms = runs-stay ms (begun s (openings cs) f g) refl
+  run-modulus total f g ms = runs_stay ms (begun s total f g) refl
+  run-modulus (openings cs) f g ms = runs_stay ms (begun s (openings cs) f g) refl
 
-  verifiers-stay : (qs : List Posed) (h : Hearing) → h.verifier.start ≡ s
+  verifiers_stay : (qs : List Posed) (h : Hearing) → h.verifier.start ≡ s
       → always (hears_on (modulus_of s)) (λ h. modulus_of h.verifier.start ≡ modulus_of s) h qs
   unfolding always
-  verifiers-stay [] h e = ap modulus_of e
-  verifiers-stay (q ∷ qs) h e =
-      (ap modulus_of e, verifiers-stay qs (hears_on (modulus_of s) h q) (ask-start (modulus_of s) h.verifier q.query q.shown ∙ e))
+  verifiers_stay [] h e = ap modulus_of e
+  verifiers_stay (q ∷ qs) h e =
+      (ap modulus_of e, verifiers_stay qs (hears_on (modulus_of s) h q) (ask-start (modulus_of s) h.verifier q.query q.shown ∙ e))
 
   pub verifier-modulus : (cs : List ℕ) (qs : List Posed)
       → always (hears_on (modulus_of s)) (λ h. modulus_of h.verifier.start ≡ modulus_of s) (fresh_hearing s cs) qs
   unfolding fresh_verifier
-  verifier-modulus cs qs = verifiers-stay qs (fresh_hearing s cs) refl
+  verifier-modulus cs qs = verifiers_stay qs (fresh_hearing s cs) refl

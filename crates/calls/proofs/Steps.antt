@@ -42,7 +42,7 @@ use Rattle.calls.specs.Step.{Lent, Result, keeping, leaving, step}
 use Rattle.calls.specs.State.{State}
 use Rattle.calls.specs.Table.{Refusal, refused_with, decided, row, table}
 use Rattle.calls.proofs.Records.{Notes, run_of}
-use Rattle.calls.proofs.Guards.{challenge_does, same_row, like_row, both_and, open-decided, open-at-decided, to-full-decided, to-small-decided, message-decided, ends_decided, opening-decided, challenge-decided, item-decided, close-decided}
+use Rattle.calls.proofs.Guards.{challenge_does, same_row, like_row, both_and, open_decided, open_at_decided, to_full_decided, to_small_decided, message-decided, ends_decided, opening-decided, challenge-decided, item-decided, close-decided}
 
 -- what the close of a pass comes to; the first and the fourth line are met by no list
 abbrev pub close_step : ℕ → Run → Pass → Next → Kind → Step
@@ -146,32 +146,32 @@ module _ (p : ℕ) (a : State) (past : Notes) (few : a.start.rounds ≤ 15) (s :
         rw (le-leb a.start.rounds max_rounds few, total, messages, lt-ltb past.fend p fend, lt-ltb past.gend p gend)
         (same_row (leb (proof_size a.start.rounds) (length file)) 9 _ none _ refl)
 
-    write-turn : may_write p R s ≡ (a.start.plain && waits next.Openings a.turn.next)
-    write-turn = ap (λ b. cond b (cond a.start.plain (waits next.Openings a.turn.next) false) false) wf ∙ both_and a.start.plain (waits next.Openings a.turn.next)
+    write_turn : may_write p R s ≡ (a.start.plain && waits next.Openings a.turn.next)
+    write_turn = ap (λ b. cond b (cond a.start.plain (waits next.Openings a.turn.next) false) false) wf ∙ both_and a.start.plain (waits next.Openings a.turn.next)
 
-    write-so : (l : Lent) → write_call p R s l.file ≡ decided (table p a call.WriteProof l) (answered (proof_size a.start.rounds))
+    write_so : (l : Lent) → write_call p R s l.file ≡ decided (table p a call.WriteProof l) (answered (proof_size a.start.rounds))
     unfolding write_call table
-    write-so l = like_row _ _ 10 _ _ _ write-turn (file-rows l.file)
+    write_so l = like_row _ _ 10 _ _ _ write_turn (file-rows l.file)
 
-    write-settled : (l : Lent) (t : Option Refusal) (o : Outcome ℕ) → o ≡ decided t (answered (proof_size a.start.rounds))
+    write_settled : (l : Lent) (t : Option Refusal) (o : Outcome ℕ) → o ≡ decided t (answered (proof_size a.start.rounds))
         → keeping_step (record { f = l.f; g = l.g; file = written_in o (run_proof R) l.file }) (written_step R s o)
         ≡ settled R s l t (does p R s call.WriteProof l)
     unfolding written_in
-    write-settled l none o e = rw e
-    write-settled l (some (k, none)) o e = rw e
-    write-settled l (some (k, some i)) o e = rw e
+    write_settled l none o e = rw e
+    write_settled l (some (k, none)) o e = rw e
+    write_settled l (some (k, some i)) o e = rw e
 
     -- THE STEP
     pub steps : (c : Call) (l : Lent) → step p R s c l ≡ settled R s l (table p a c l) (does p R s c l)
     unfolding step
-    steps call.OpenPass l = ap (λ o. keeping l (leaves R s [] [] o)) (open-decided p a past few s wf l) ∙ keeps R s l (table p a call.OpenPass l) _
-    steps (call.OpenAt b) l = ap (λ o. keeping l (leaves R s [] [] o)) (open-at-decided p a past few s wf b l) ∙ keeps R s l (table p a (call.OpenAt b) l) _
-    steps call.ToFull l = ap (λ o. leaving l (leaves R s l.f l.g o)) (to-full-decided p a past few s wf l) ∙ leaving-so R s l (table p a call.ToFull l) _
-    steps call.ToSmall l = ap (λ o. keeping l (leaves R s [] [] o)) (to-small-decided p a past few s wf l) ∙ keeps R s l (table p a call.ToSmall l) _
+    steps call.OpenPass l = ap (λ o. keeping l (leaves R s [] [] o)) (open_decided p a past few s wf l) ∙ keeps R s l (table p a call.OpenPass l) _
+    steps (call.OpenAt b) l = ap (λ o. keeping l (leaves R s [] [] o)) (open_at_decided p a past few s wf b l) ∙ keeps R s l (table p a (call.OpenAt b) l) _
+    steps call.ToFull l = ap (λ o. leaving l (leaves R s l.f l.g o)) (to_full_decided p a past few s wf l) ∙ leaving-so R s l (table p a call.ToFull l) _
+    steps call.ToSmall l = ap (λ o. keeping l (leaves R s [] [] o)) (to_small_decided p a past few s wf l) ∙ keeps R s l (table p a call.ToSmall l) _
     steps (call.Give x) l = ap (λ o. leaving l (leaves R s l.f l.g o)) (item-decided p a past few s wf kind count x l) ∙ leaving-so R s l (table p a (call.Give x) l) _
     steps call.Close l = ap (λ o. keeping_step l (leaves_step R s o)) (close-decided p a past few s wf kind count sums l) ∙ close-so l (table p a call.Close l) refl
     steps call.Message l = ap (λ o. leaving l (leaves R s l.f l.g o)) (message-decided p a past few s wf l) ∙ leaving-so R s l (table p a call.Message l) _
     steps (call.Challenge c) l = ap (λ o. leaving l (leaves R s l.f l.g o)) (challenge-decided p a past few s wf c l) ∙ leaving-so R s l (table p a (call.Challenge c) l) _
     steps call.Ends l = ap (λ o. leaving l (leaves R s l.f l.g o)) (ends_decided p a past few s wf l) ∙ leaving-so R s l (table p a call.Ends l) _
     steps (call.Opening b) l = ap (λ o. leaving l (leaves R s l.f l.g o)) (opening-decided p a past few s wf b l) ∙ leaving-so R s l (table p a (call.Opening b) l) _
-    steps call.WriteProof l = write-settled l (table p a call.WriteProof l) _ (write-so l)
+    steps call.WriteProof l = write_settled l (table p a call.WriteProof l) _ (write_so l)

@@ -22,7 +22,7 @@ use Rattle.calls.specs.Proper.{in_use}
 use Rattle.calls.specs.Demand3.{goes_back}
 use Rattle.calls.proofs.Steps.{row-passed}
 use Rattle.calls.proofs.Turns.{both}
-use Rattle.calls.proofs.KeptCalls.{KeptBy, kept_by, by-kept}
+use Rattle.calls.proofs.KeptCalls.{KeptBy, kept_by, by_kept}
 use Rattle.calls.proofs.LiveWorld.{buffers_same}
 
 neither : (x y : Bool) → (x || y) ≡ false → (x ≡ false) × (y ≡ false)
@@ -30,15 +30,15 @@ neither false y e = (refl, e)
 neither true y e = absurd (true≢false e)
 
 module _ (a : State) (idle : in_use a ≡ false) where
-  is-small : is_full a.turn.mode ≡ false
-  is-small = (neither (is_full a.turn.mode) (is_change a.pass.kind) idle).0
+  is_small_lem : is_full a.turn.mode ≡ false
+  is_small_lem = (neither (is_full a.turn.mode) (is_change a.pass.kind) idle).0
 
   no_change : is_change a.pass.kind ≡ false
   no_change = (neither (is_full a.turn.mode) (is_change a.pass.kind) idle).1
 
 module _ (p : ℕ) (through : Bool) (T : Trip) (a : State) (idle : in_use a ≡ false) where
   not_full : is_full a.turn.mode ≡ true → ⊥
-  not_full y = true≢false (sym y ∙ is-small a idle)
+  not_full y = true≢false (sym y ∙ is_small_lem a idle)
 
   -- a call of full mode is not let through
   kept-too : (c : Call) (l m : Lent) → table p a c m ≡ none → KeptBy p T through a c l → KeptBy p T through a c m
@@ -59,7 +59,7 @@ module _ (p : ℕ) (through : Bool) (T : Trip) (a : State) (idle : in_use a ≡ 
   kept-too call.WriteProof l m e h = tt
 
   pub unbound-kept : (c : Call) (l m : Lent) → table p a c m ≡ none → Kept p T through a c l → Kept p T through a c m
-  unbound-kept c l m e h = by-kept p T through a c m (kept-too c l m e (kept_by p T through a c l h))
+  unbound-kept c l m e h = by_kept p T through a c m (kept-too c l m e (kept_by p T through a c l h))
 
 -- FREED by a return, and free as long as no change is opened
 closed-free : (a : State) (t : Next) (k : Kind) → is_full a.turn.mode ≡ false → is_change k ≡ false → a.pass.kind ≡ k → in_use (closed a t k) ≡ false
@@ -73,7 +73,7 @@ closed-free a t Change m k e = absurd (true≢false k)
 
 -- another pass than a change's, in the same mode
 same_mode : (a : State) → in_use a ≡ false → (is_full a.turn.mode || false) ≡ false
-same_mode a h = ap (λ b. b || false) (is-small a h)
+same_mode a h = ap (λ b. b || false) (is_small_lem a h)
 
 goes_free : (a : State) (c : Call) (l : Lent) → (c ≡ call.ToFull → ⊥) → in_use a ≡ false → in_use (goes_on a c l) ≡ false
 goes_free a call.OpenPass l other h = same_mode a h
@@ -81,7 +81,7 @@ goes_free a (call.OpenAt b) l other h = same_mode a h
 goes_free a call.ToFull l other h = absurd (other refl)
 goes_free a call.ToSmall l other h = refl
 goes_free a (call.Give x) l other h = buffers_same in_use (λ a l. refl) (is_change a.pass.kind) _ l ∙ h
-goes_free a call.Close l other h = closed-free a a.turn.next a.pass.kind (is-small a h) (no_change a h) refl
+goes_free a call.Close l other h = closed-free a a.turn.next a.pass.kind (is_small_lem a h) (no_change a h) refl
 goes_free a call.Message l other h = same_mode a h
 goes_free a (call.Challenge c) l other h =
     buffers_same in_use (λ a l. refl) (is_full a.turn.mode) (takes_challenge a c) l ∙ same_mode a h
@@ -97,16 +97,16 @@ module _ (p : ℕ) where
       by true = goes_free w.state m.call (came p w m).lent other h
       by false = h
 
-  stays-free : (w : World) (ms : List Made) → in_use w.state ≡ false → along (onward p) (λ u m. m.call ≡ call.ToFull → ⊥) w ms
+  stays_free : (w : World) (ms : List Made) → in_use w.state ≡ false → along (onward p) (λ u m. m.call ≡ call.ToFull → ⊥) w ms
       → always (onward p) (λ u. in_use u.state ≡ false) w ms
   unfolding along always
-  stays-free w [] h other = h
-  stays-free w (m ∷ ms) h other = (h, stays-free (onward p w m) ms (follow-free w m other.0 h) other.1)
+  stays_free w [] h other = h
+  stays_free w (m ∷ ms) h other = (h, stays_free (onward p w m) ms (follow-free w m other.0 h) other.1)
 
-  pub return-frees : (w : World) (l : Lent) (ms : List Made)
+  pub return_frees : (w : World) (l : Lent) (ms : List Made)
       → (let v : World = onward p w (goes_back l) in
       is_answered (came p w (goes_back l)).answer ≡ true → along (onward p) (λ u m. m.call ≡ call.ToFull → ⊥) v ms
       → always (onward p) (λ u. in_use u.state ≡ false) v ms)
-  return-frees w l ms answered other =
-      stays-free (onward p w (goes_back l)) ms
+  return_frees w l ms answered other =
+      stays_free (onward p w (goes_back l)) ms
       (ap (λ b. in_use (cond b (goes_on w.state call.ToSmall (came p w (goes_back l)).lent) w.state)) answered) other

@@ -16,7 +16,7 @@ use Rattle.item.specs.declared.Item.{Item}
 use Rattle.item.specs.declared.Start.{Start}
 use Rattle.item.specs.Mark.{is_mark}
 use Rattle.item.specs.Item.{contributes}
-use Rattle.item.proofs.Marks.{ordinary_item, unmarked-contributes}
+use Rattle.item.proofs.Marks.{ordinary_item, unmarked_contributes}
 use Rattle.runs.specs.Trip.{Trip, trip_item, enters_as, vector_f, vector_g, sum_of, total_of}
 use Rattle.r1cs.proofs.RuleTotals.{padded-same}
 use Rattle.calls.specs.BatchTrip.{log_trip}
@@ -54,7 +54,7 @@ ordinary_file p T cs = file_of p T.start.rounds (ordinary_total T) (ordinary_f p
 
 -- IT IS THE SAME
 item_same : (p : ℕ) (s : Start) (x : Given) → NotMarked s.version x → contributes p s x ≡ ordinary p x
-item_same p s (Reading r w) m = unmarked-contributes p s r w m
+item_same p s (Reading r w) m = unmarked_contributes p s r w m
 item_same p s (Numbers a b) m = refl
 
 sum_same : (s : Start) (xs : List Given) → ((i : ℕ) → i < length xs → NotMarked s.version (get_or xs i (Numbers 0 0)))
@@ -68,8 +68,8 @@ pub unmarked_total : (T : Trip) → length T.items ≡ T.start.items → Unmarke
 unmarked_total T whole h = sum_same T.start T.items (λ i l. h i (omega (arith, whole)))
 
 module _ (p : ℕ) (T : Trip) where
-  pub unmarked-f : Unmarked T → vector_f p T ≡ ordinary_f p T
-  unmarked-f h =
+  pub unmarked_f : Unmarked T → vector_f p T ≡ ordinary_f p T
+  unmarked_f h =
       padded-same T.start.items _ _
       (λ i l. ap (λ y. enters_as p T.start i y.f) (item_same p T.start (trip_item T i) (h i l)))
 
@@ -81,9 +81,9 @@ module _ (p : ℕ) (T : Trip) where
       by (Reading r w) = refl
       by (Numbers a b) = refl
 
-  pub unmarked-file : length T.items ≡ T.start.items → Unmarked T → (cs : List ℕ) → proof_of_trip p T cs ≡ ordinary_file p T cs
-  unmarked-file whole h cs =
-      ap₂ (λ t f. file_of p T.start.rounds t f (vector_g p T) cs) (unmarked_total T whole h) (unmarked-f h)
+  pub unmarked_file : length T.items ≡ T.start.items → Unmarked T → (cs : List ℕ) → proof_of_trip p T cs ≡ ordinary_file p T cs
+  unmarked_file whole h cs =
+      ap₂ (λ t f. file_of p T.start.rounds t f (vector_g p T) cs) (unmarked_total T whole h) (unmarked_f h)
       ∙ ap (λ g. file_of p T.start.rounds (ordinary_total T) (ordinary_f p T) g cs) weights-same
 
 -- OF A LOG WITHOUT THE MARK: its trip, total and proof file
@@ -98,4 +98,4 @@ module _ (log : List ℕ) (none : NoMark log) where
   log-total = unmarked_total (log_trip log) (items-length item 0 (log_count log)) log-unmarked
 
   pub log-file : (p : ℕ) (cs : List ℕ) → proof_of_trip p (log_trip log) cs ≡ ordinary_file p (log_trip log) cs
-  log-file p = unmarked-file p (log_trip log) (items-length item 0 (log_count log)) log-unmarked
+  log-file p = unmarked_file p (log_trip log) (items-length item 0 (log_count log)) log-unmarked

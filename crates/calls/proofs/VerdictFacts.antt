@@ -67,20 +67,20 @@ module _ (p : ℕ) (s : Start) (cs : List ℕ) (b : Brought) where
   fails-same k j (inr f) (inl g) = absurd (g.fails (f.all j g.round))
   fails-same k j (inr f) (inr g) = f.last ∙ sym g.last
 
-  meets-not : Meets p s cs b → (k : ℕ) → Fails k → ⊥
-  meets-not h k (inl f) = f.fails (h.all k f.round)
-  meets-not h k (inr f) = f.fails h.product h.ends
+  meets_not : Meets p s cs b → (k : ℕ) → Fails k → ⊥
+  meets_not h k (inl f) = f.fails (h.all k f.round)
+  meets_not h k (inr f) = f.fails h.product h.ends
 
   pub judged : (d : Finding) → Found d → VerdictJudged p s cs b (answered (finds d))
   judged yes h =
       record {
         yes = (λ e. h, λ m. refl);
-        no = λ k. (λ e. absurd (yes_no e), λ f. absurd (meets-not h k f));
+        no = λ k. (λ e. absurd (yes_no e), λ f. absurd (meets_not h k f));
         either = inl refl;
       }
   judged (no j) h =
       record {
-        yes = (λ e. absurd (yes_no (sym e)), λ m. absurd (meets-not m j h));
+        yes = (λ e. absurd (yes_no (sym e)), λ m. absurd (meets_not m j h));
         no = λ k. (λ e. subst Fails (no_same e) h, λ f. ap (λ k. judged_as (no k)) (fails-same j k h f));
         either = inr (j, refl);
       }

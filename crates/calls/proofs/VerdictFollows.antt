@@ -47,7 +47,7 @@ use Rattle.calls.proofs.QueryKeeps.{stands_after}
 use Rattle.calls.proofs.QueryKept.{hears-kept}
 use Rattle.calls.proofs.HeardTrip.{Fine}
 use Rattle.calls.proofs.VerdictFacts.{Found, judged, answered-passed, answered-no, more-count, newest, more-pass, more-fails, found-file}
-use Rattle.calls.proofs.VerdictPhases.{held, Sums, Passing, Phase, unclosed, passing, settled, Bears, few, ends-own, carries, unclosed-of, item-phase, close-phase}
+use Rattle.calls.proofs.VerdictPhases.{held, Sums, Passing, Phase, unclosed, passing, settled, Bears, few, ends-own, carries, unclosed_of, item-phase, close-phase}
 
 all_three : (x y z : Bool) → x ≡ true → y ≡ false → z ≡ true → (x && (not y && z)) ≡ true
 all_three x y z a b c = rw (a, b, c)
@@ -68,8 +68,8 @@ module _ (p : ℕ) (s : Start) (cs : List ℕ) (large : max_weight < p) (fits : 
     abbrev count : ℕ
     count = length b.messages
 
-    not-settled : verdict_turn v ≡ true → ⊥
-    not-settled t = true≢false (sym (message-turn p a v h.stands ∙ all_three _ _ _ closed going next) ∙ spoken v t)
+    not_settled : verdict_turn v ≡ true → ⊥
+    not_settled t = true≢false (sym (message-turn p a v h.stands ∙ all_three _ _ _ closed going next) ∙ spoken v t)
 
     passing-of : Passing p s cs b a v
     passing-of = by h.phase
@@ -77,7 +77,7 @@ module _ (p : ℕ) (s : Start) (cs : List ℕ) (large : max_weight < p) (fits : 
         by : Phase p s cs b a v → Passing p s cs b a v
         by (unclosed c u) = absurd (true≢false (sym closed ∙ c))
         by (passing c r g) = g
-        by (settled t f) = absurd (not-settled t)
+        by (settled t f) = absurd (not_settled t)
 
     round_same : v.round ≡ count
     round_same = (h.stands.going going).1 ∙ passing-of.round
@@ -209,7 +209,7 @@ module _ (p : ℕ) (s : Start) (cs : List ℕ) (large : max_weight < p) (fits : 
     file-ends : (v.fsum ≡ end_f p s cs b) × (v.gsum ≡ end_g p s cs b)
     file-ends =
         let rows = file-rows p a l e in
-        let x = (unclosed-of p s cs b a v h rows.unclosed).sums in
+        let x = (unclosed_of p s cs b a v h rows.unclosed).sums in
         ends-own p s cs large fits listed b v x
         (sym x.taken ∙ had.taken ∙ eqb-true (length a.items) a.start.items rows.counted
         ∙ ap (λ (t : Start). t.items) h.start)
@@ -228,10 +228,10 @@ module _ (p : ℕ) (s : Start) (cs : List ℕ) (large : max_weight < p) (fits : 
         (found-file p s cs b file (file_verdict_of p (at cs) n file (end_f p s cs b) (end_g p s cs b)) (file-verdict-says p (at cs) file n (end_f p s cs b) (end_g p s cs b)))
 
   -- AN ANSWERED CALL, and the verifier after it
-  bears-with : (c : Query) (l : Shown) → verifier_table p a c l ≡ none
+  bears_with : (c : Query) (l : Shown) → verifier_table p a c l ≡ none
       → Phase p s cs (brought_with p n b c l) (goes_on_heard a c (says_so p v c l)) (goes_to p v c l)
       → Bears p s cs (brought_with p n b c l) (goes_on_heard a c (says_so p v c l)) (goes_to p v c l)
-  bears-with c l e phase =
+  bears_with c l e phase =
       let kept = hears-kept a c (says_so p v c l) in
       record {
         stands = stands_after p a v h.stands c l e;
@@ -247,13 +247,13 @@ module _ (p : ℕ) (s : Start) (cs : List ℕ) (large : max_weight < p) (fits : 
   answers-judged (query.Give x) l e =
       let rows = item-rows p a l x e in (
         refl,
-        bears-with (query.Give x) l e
+        bears_with (query.Give x) l e
             (item-phase p s cs b a v h x rows.unclosed (subst (λ (t : Start). Fine p t.plain x) h.start rows.fine)),
       )
   answers-judged (query.Close t) l e =
-      (refl, bears-with (query.Close t) l e (close-phase p s cs b a v h (image p t) (close-rows p a l t e).unclosed))
+      (refl, bears_with (query.Close t) l e (close-phase p s cs b a v h (image p t) (close-rows p a l t e).unclosed))
   answers-judged (query.CloseClaim c) l e =
-      (refl, bears-with (query.CloseClaim c) l e (close-phase p s cs b a v h c (claim-rows p a l c e).unclosed))
+      (refl, bears_with (query.CloseClaim c) l e (close-phase p s cs b a v h c (claim-rows p a l c e).unclosed))
   answers-judged (query.Message even cross odd) l e =
       let m = message_of3 even cross odd in
       let rows = message-rows p a l even cross odd e in
@@ -261,10 +261,10 @@ module _ (p : ℕ) (s : Start) (cs : List ℕ) (large : max_weight < p) (fits : 
   answers-judged query.Verdict l e =
       let row = verdict-row p a l e in
       let found = verdict-found row in
-      (judged p s cs b (finds p v) found, bears-with query.Verdict l e (settled (verdict-turn p a v h.stands ∙ row) found))
+      (judged p s cs b (finds p v) found, bears_with query.Verdict l e (settled (verdict-turn p a v h.stands ∙ row) found))
   answers-judged query.Proof l e =
       let found = file-found l e in
-      (judged p s cs (file_brought p n b l.file) (finds p (w l e)) found, bears-with query.Proof l e (settled (file-turn l e) found))
+      (judged p s cs (file_brought p n b l.file) (finds p (w l e)) found, bears_with query.Proof l e (settled (file-turn l e) found))
   answers-judged (query.CheckOpening x) l e = (tt, h)
   answers-judged (query.CheckBatch m z x) l e =
       (batch-judged p s cs (few p s cs large fits listed) listed (length a.items) v had z x l, h)

@@ -102,8 +102,8 @@ module _ (p : ℕ) (s : Start) (cs : List ℕ) where
     settled-closed : verdict_turn v ≡ true → a.closed ≡ true
     settled-closed t = sym h.stands.closed ∙ verdict-closed v t
 
-    pub unclosed-of : a.closed ≡ false → Unclosed b v
-    unclosed-of e = by h.phase
+    pub unclosed_of : a.closed ≡ false → Unclosed b v
+    unclosed_of e = by h.phase
       where
         by : Phase b a v → Unclosed b v
         by (unclosed c u) = u
@@ -127,9 +127,9 @@ module _ (p : ℕ) (s : Start) (cs : List ℕ) where
       item-newest : trip_item (trip_of p s cs more) k ≡ x
       item-newest = get_or-append_seam b.items x [] (Numbers 0 0)
 
-      sums-more : Sums b v → Fine p s.plain x → Sums more (one_more p v (contributes p v.start x).f (contributes p v.start x).g)
+      sums_more : Sums b v → Fine p s.plain x → Sums more (one_more p v (contributes p v.start x).f (contributes p v.start x).g)
       unfolding one_more entering
-      sums-more m fine =
+      sums_more m fine =
           let c = carries in
           let T = trip_of p s cs b in
           let U = trip_of p s cs more in
@@ -159,11 +159,11 @@ module _ (p : ℕ) (s : Start) (cs : List ℕ) where
           }
 
       pub item-phase : a.closed ≡ false → Fine p s.plain x → Phase more (takes_item a x) (one_more p v (contributes p v.start x).f (contributes p v.start x).g)
-      item-phase e fine = let u = unclosed-of e in unclosed e (record { messages = u.messages; ends = u.ends; sums = sums-more u.sums fine })
+      item-phase e fine = let u = unclosed_of e in unclosed e (record { messages = u.messages; ends = u.ends; sums = sums_more u.sums fine })
 
     -- A CLOSE
-    not-refuted : a.closed ≡ false → a.refuted ≡ false
-    not-refuted e = by a.refuted refl
+    not_refuted : a.closed ≡ false → a.refuted ≡ false
+    not_refuted e = by a.refuted refl
       where
         by : (r : Bool) → a.refuted ≡ r → r ≡ false
         by false r = refl
@@ -171,16 +171,16 @@ module _ (p : ℕ) (s : Start) (cs : List ℕ) where
 
     no-round : a.closed ≡ false → a.round ≡ 0
     no-round e =
-        sym (h.stands.going (not-refuted e)).1
+        sym (h.stands.going (not_refuted e)).1
         ∙ (open_turn v (parts_of_lem v h.stands.carries.formed).turn (h.stands.closed ∙ e)).first
 
     pub close-phase : (claim : ℕ) → a.closed ≡ false → Phase (claim_brought b claim) (at_round a a.round a.refuted) (closed_with v claim)
     unfolding closed_with claim_at
     close-phase claim e =
-        let u = unclosed-of e in
+        let u = unclosed_of e in
         let none_yet : length b.messages ≡ 0 = ap length u.messages in
         let m = u.sums in
-        passing refl (not-refuted e)
+        passing refl (not_refuted e)
         (record {
           round = no-round e ∙ sym none_yet;
           all = λ i l. absurd (omega arith);

@@ -16,8 +16,8 @@ module _ (l : Lists) (s : Slots) (r : Record) (b : Bool) (names : b ≡ names_sl
   arm : (x : Bool) → b ≡ x → cond x (slot_block s r.a) (parts_block l r.a r.b) ≡ block_named l s r
   arm x e = ap (λ y. cond y (slot_block s r.a) (parts_block l r.a r.b)) (sym e ∙ names)
 
-  pub slot-named : b ≡ true → (bytes : List ℕ) → bytes ≡ slot_in r.a s.sizes s.bytes → of_bytes bytes ≡ block_named l s r
-  slot-named e bytes is = ap of_bytes is ∙ arm true e
+  pub slot_named : b ≡ true → (bytes : List ℕ) → bytes ≡ slot_in r.a s.sizes s.bytes → of_bytes bytes ≡ block_named l s r
+  slot_named e bytes is = ap of_bytes is ∙ arm true e
 
-  pub parts-named : b ≡ false → (xs ys : List ℕ) → xs ≡ take r.a (numbers_in l.held l.scratch) → ys ≡ take r.b (drop r.a (numbers_in l.held l.scratch)) → of_numbers xs ys ≡ block_named l s r
-  parts-named e xs ys first second = ap₂ of_numbers first second ∙ arm false e
+  pub parts_named : b ≡ false → (xs ys : List ℕ) → xs ≡ take r.a (numbers_in l.held l.scratch) → ys ≡ take r.b (drop r.a (numbers_in l.held l.scratch)) → of_numbers xs ys ≡ block_named l s r
+  parts_named e xs ys first second = ap₂ of_numbers first second ∙ arm false e

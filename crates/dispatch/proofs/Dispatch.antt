@@ -28,21 +28,21 @@ module _ (p : ℕ) (r : Run) (s : Pass) (f g file : List ℕ) where
   at_call : (o : Step) (f' g' file' : List ℕ) (c k : Call) → c ≡ k → result_of o f' g' file' ≡ step p r s k (lending f g file) → result_of o f' g' file' ≡ step p r s c (lending f g file)
   at_call o f' g' file' c k e h = h ∙ sym (ap (λ x. step p r s x (lending f g file)) e)
 
-  pub made-open-pass : (o : Step) (c : Call) → c ≡ call.OpenPass → out o [] [] ≡ leaves r s [] [] (open_call p r s) → result_of o f g file ≡ step p r s c (lending f g file)
+  pub made-open_pass : (o : Step) (c : Call) → c ≡ call.OpenPass → out o [] [] ≡ leaves r s [] [] (open_call p r s) → result_of o f g file ≡ step p r s c (lending f g file)
   unfolding step
-  made-open-pass o c e h = at_call o f g file c call.OpenPass e (ap (keeping (lending f g file)) h)
+  made-open_pass o c e h = at_call o f g file c call.OpenPass e (ap (keeping (lending f g file)) h)
 
-  pub made-open-at : (o : Step) (c : Call) (b : ℕ) → c ≡ call.OpenAt b → out o [] [] ≡ leaves r s [] [] (open_at_call p r s b) → result_of o f g file ≡ step p r s c (lending f g file)
+  pub made-open_at : (o : Step) (c : Call) (b : ℕ) → c ≡ call.OpenAt b → out o [] [] ≡ leaves r s [] [] (open_at_call p r s b) → result_of o f g file ≡ step p r s c (lending f g file)
   unfolding step
-  made-open-at o c b e h = at_call o f g file c (call.OpenAt b) e (ap (keeping (lending f g file)) h)
+  made-open_at o c b e h = at_call o f g file c (call.OpenAt b) e (ap (keeping (lending f g file)) h)
 
-  pub made-to-full : (o : Step) (f' g' : List ℕ) (c : Call) → c ≡ call.ToFull → out o f' g' ≡ leaves r s f g (to_full_call p r s f g) → result_of o f' g' file ≡ step p r s c (lending f g file)
+  pub made-to_full : (o : Step) (f' g' : List ℕ) (c : Call) → c ≡ call.ToFull → out o f' g' ≡ leaves r s f g (to_full_call p r s f g) → result_of o f' g' file ≡ step p r s c (lending f g file)
   unfolding step
-  made-to-full o f' g' c e h = at_call o f' g' file c call.ToFull e (ap (leaving (lending f g file)) h)
+  made-to_full o f' g' c e h = at_call o f' g' file c call.ToFull e (ap (leaving (lending f g file)) h)
 
-  pub made-to-small : (o : Step) (c : Call) → c ≡ call.ToSmall → out o [] [] ≡ leaves r s [] [] (to_small_call p r s) → result_of o f g file ≡ step p r s c (lending f g file)
+  pub made-to_small : (o : Step) (c : Call) → c ≡ call.ToSmall → out o [] [] ≡ leaves r s [] [] (to_small_call p r s) → result_of o f g file ≡ step p r s c (lending f g file)
   unfolding step
-  made-to-small o c e h = at_call o f g file c call.ToSmall e (ap (keeping (lending f g file)) h)
+  made-to_small o c e h = at_call o f g file c call.ToSmall e (ap (keeping (lending f g file)) h)
 
   -- an item, by its kind; a signed number reaches the method through its bits
   pub give-reading : (o : Out) (x : Given) (z z' : ℤ) (w : ℕ) → x ≡ Reading z w → z' ≡ z → o ≡ leaves r s f g (give_call p r s (Reading z' w) f g) → o ≡ leaves r s f g (give_call p r s x f g)
@@ -75,6 +75,6 @@ module _ (p : ℕ) (r : Run) (s : Pass) (f g file : List ℕ) where
   unfolding step
   made-opening o c b e h = at_call o f g file c (call.Opening b) e (ap (leaving (lending f g file)) h)
 
-  pub made-write-proof : (o : Step) (file' : List ℕ) (c : Call) → c ≡ call.WriteProof → out o [] [] ≡ out (written_step r s (write_call p r s file)) [] [] → file' ≡ written_in (write_call p r s file) (run_proof r) file → result_of o f g file' ≡ step p r s c (lending f g file)
+  pub made-write_proof : (o : Step) (file' : List ℕ) (c : Call) → c ≡ call.WriteProof → out o [] [] ≡ out (written_step r s (write_call p r s file)) [] [] → file' ≡ written_in (write_call p r s file) (run_proof r) file → result_of o f g file' ≡ step p r s c (lending f g file)
   unfolding step
-  made-write-proof o file' c e h h' = at_call o f g file' c call.WriteProof e (ap (keeping (lending f g file')) h ∙ ap (result_of (written_step r s (write_call p r s file)) f g) h')
+  made-write_proof o file' c e h h' = at_call o f g file' c call.WriteProof e (ap (keeping (lending f g file')) h ∙ ap (result_of (written_step r s (write_call p r s file)) f g) h')

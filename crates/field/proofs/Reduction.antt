@@ -5,7 +5,7 @@ use native.Mathlib.Nat.{lt_of_le_of_lt, mul-le-mul, mul-le-mul_left, mul-lt-mul_
 use native.Mathlib.Omega.{arith}
 use lib.Pow.{pow-add, pow_pos}
 use Rattle.algebra.specs.Mod.{base, residue, add_mod, neg_mod, mul_mod}
-use Rattle.algebra.proofs.Congruence.{cong-add, cong-refl, cong-residue, cong-sym, residue-lt, residue-small}
+use Rattle.algebra.proofs.Congruence.{cong_add, cong_refl, cong_residue, cong_sym, residue-lt, residue-small}
 
 -- the product of two k-bit numbers
 pub product-below : (k : ℕ) {a b : ℕ} → a < 2 ^ k → b < 2 ^ k → a * b < 2 ^ (k + k)
@@ -30,13 +30,13 @@ base-residue p = ap (λ x. x % base p) (sub-zero (base p)) ∙ mod_self (base p)
 
 module _ (p a : ℕ) where
   -- a negated number, by whether its residue is 0
-  pub neg-zero : residue p a ≡ 0 → neg_mod p a ≡ 0
+  pub neg_zero : residue p a ≡ 0 → neg_mod p a ≡ 0
   unfolding neg_mod
-  neg-zero z = ap (λ r. residue p (base p - r)) z ∙ base-residue p
+  neg_zero z = ap (λ r. residue p (base p - r)) z ∙ base-residue p
 
-  pub neg-other : (residue p a ≡ 0 → ⊥) → neg_mod p a ≡ p - residue p a
+  pub neg_other : (residue p a ≡ 0 → ⊥) → neg_mod p a ≡ p - residue p a
   unfolding neg_mod
-  neg-other n =
+  neg_other n =
       residue-small p (base p - residue p a) (omega (arith, residue-lt p a))
       ∙ (let b : base p ≡ p = omega (arith, residue-lt p a) in ap (λ q. q - residue p a) b)
 
@@ -45,4 +45,4 @@ module _ (p a : ℕ) where
 
 pub add_mul_residue : (p a b c : ℕ) → residue p (a + b * c) ≡ add_mod p a (mul_mod p b c)
 unfolding add_mod mul_mod
-add_mul_residue p a b c = (cong-add (cong-refl a) (cong-sym (cong-residue (b * c)))).residues
+add_mul_residue p a b c = (cong_add (cong_refl a) (cong_sym (cong_residue (b * c)))).residues

@@ -7,14 +7,14 @@ use native.Mathlib.Omega.{arith}
 use lib.Dec.{eqb}
 use lib.ListN.{replicate, get_or-replicate}
 use Rattle.algebra.specs.Mod.{residue, mul_mod}
-use Rattle.algebra.proofs.Congruence.{cong-mul, cong-refl, cong-residue, residue-twice}
+use Rattle.algebra.proofs.Congruence.{cong_mul, cong_refl, cong_residue, residue-twice}
 use Rattle.vector.specs.Vector.{at, bit, weight}
 use Rattle.item.specs.Start.{untwisted_start}
 use Rattle.item.specs.Item.{enters_as}
 
 times-one : (p x : ℕ) → mul_mod p x (residue p 1) ≡ residue p x
 unfolding mul_mod
-times-one p x = (cong-mul (cong-refl x) (cong-residue 1)).residues ∙ ap (residue p) (mul-one x)
+times-one p x = (cong_mul (cong_refl x) (cong_residue 1)).residues ∙ ap (residue p) (mul-one x)
 
 ones-weight : (p n i : ℕ) → n ≤ 15 → weight p (at (replicate 15 1)) n i ≡ residue p 1
 unfolding weight mul_mod

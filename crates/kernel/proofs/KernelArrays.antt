@@ -79,8 +79,8 @@ module _ (k : Kernel) (pr : Paired k) where
 
   module _ (n : ℕ) (sums : Sums) (evals : Evals) (below : n ≤ k.fcount) (sixteen : Sixteen evals) where
     -- with n of its entries
-    pub cut-paired : Paired (kernel_with (stacks_in k.flevels k.fvalues k.glevels k.gvalues n) sums evals)
-    cut-paired =
+    pub cut_paired : Paired (kernel_with (stacks_in k.flevels k.fvalues k.glevels k.gvalues n) sums evals)
+    cut_paired =
         record {
           counts = refl;
           room = omega (arith, pr.room);
@@ -94,14 +94,14 @@ module _ (k : Kernel) (pr : Paired k) where
 
     -- and one more
     module _ (level f g : ℕ) (h : n ≤ 15) where
-      pub push-pairs : stack_pairs (kernel_with (pushed k.flevels k.fvalues k.glevels k.gvalues (climber n level f g)) sums evals)
+      pub push_pairs : stack_pairs (kernel_with (pushed k.flevels k.fvalues k.glevels k.gvalues (climber n level f g)) sums evals)
           ≡ (level, (f, g)) ∷ pairs_view k.flevels k.fvalues k.gvalues n
-      push-pairs =
+      push_pairs =
           rw (le-ltb 15 n h)
           (pairs_push k.flevels k.fvalues k.gvalues n level f g (omega (arith, pr.flevels)) (omega (arith, pr.fvalues)) (omega (arith, pr.gvalues)))
 
-      pub push-paired : Paired (kernel_with (pushed k.flevels k.fvalues k.glevels k.gvalues (climber n level f g)) sums evals)
-      push-paired =
+      pub push_paired : Paired (kernel_with (pushed k.flevels k.fvalues k.glevels k.gvalues (climber n level f g)) sums evals)
+      push_paired =
           rw (le-ltb 15 n h)
           (record {
             counts = refl;

@@ -18,8 +18,8 @@ use Rattle.kernel.specs.Change.{left, left_in}
 use Rattle.kernel.specs.KernelView.{pairs_view, stack_pairs, Paired}
 use Rattle.kernel.proofs.KernelSteps.{stays, at_last}
 use Rattle.kernel.proofs.KernelTurns.{kernel_parts}
-use Rattle.kernel.proofs.KernelArrays.{climber, cut-paired, push-pairs, push-paired}
-use Rattle.kernel.proofs.KernelMachine.{no_top, differs, rises-on, climb-up}
+use Rattle.kernel.proofs.KernelArrays.{climber, cut_paired, push_pairs, push_paired}
+use Rattle.kernel.proofs.KernelMachine.{no_top, differs, rises_on, climb_up}
 
 -- The last arrival: a level, and the pair there.
 abbrev pub Arrival : Type 0
@@ -68,13 +68,13 @@ module _ (p : ℕ) (cs : List ℕ) (i : ℕ) (k : Kernel) (pr : Paired k) (some 
   unfolding left
   pushes n level f g h l =
       rw (ne_eqb level (suc i) (λ e. omega arith)) (
-        ap (λ st. (st, (level, (f, g)))) (sym (push-pairs k pr n (sums_in k) k.evals h pr.evals level f g (omega arith))),
-        push-paired k pr n (sums_in k) k.evals h pr.evals level f g (omega arith),
+        ap (λ st. (st, (level, (f, g)))) (sym (push_pairs k pr n (sums_in k) k.evals h pr.evals level f g (omega arith))),
+        push_paired k pr n (sums_in k) k.evals h pr.evals level f g (omega arith),
       )
 
   goes : (n f g : ℕ) → n ≤ k.fcount → Has (climber n (suc i) f g) (below n, (suc i, (f, g)))
   unfolding left
-  goes n f g h = rw (eq-eqb (suc i) (suc i) refl) (refl, cut-paired k pr n (sums_in k) k.evals h pr.evals)
+  goes n f g h = rw (eq-eqb (suc i) (suc i) refl) (refl, cut_paired k pr n (sums_in k) k.evals h pr.evals)
 
   stops : (n level f g : ℕ) → may_rise p cs (suc i) k.flevels k.fvalues k.gvalues (climber n level f g) ≡ false
       → (r : Stack Pair × Arrival) → Has (climber n level f g) r → Has (climbs n (climber n level f g)) r
@@ -84,11 +84,11 @@ module _ (p : ℕ) (cs : List ℕ) (i : ℕ) (k : Kernel) (pr : Paired k) (some 
   abbrev enters : ℕ → Pair → Stack Pair → Arrival → Stack Pair × Arrival
   enters level a st m = enter (combine_pair p) arrives_at (joins p (items cs) i) (items cs) i level a st m
 
-  climb-law : (n level f g : ℕ) (m : Arrival) → n ≤ k.fcount → level ≤ i → Has (climbs n (climber n level f g)) (enters level (f, g) (below n) m)
+  climb_law : (n level f g : ℕ) (m : Arrival) → n ≤ k.fcount → level ≤ i → Has (climbs n (climber n level f g)) (enters level (f, g) (below n) m)
   unfolding enter pairs_view
-  climb-law zero level f g m hn hl = stops zero level f g (neither (ltb level (suc i)) _ (no_top k.flevels level)) _ (pushes 0 level f g hn hl)
-  climb-law (suc n) level f g m hn hl =
-      go (eqb level (get_or k.flevels n 0)) refl (ltb level i) refl (λ l. climb-law n (suc level) f' g' (level, (f, g)) (omega arith) l)
+  climb_law zero level f g m hn hl = stops zero level f g (neither (ltb level (suc i)) _ (no_top k.flevels level)) _ (pushes 0 level f g hn hl)
+  climb_law (suc n) level f g m hn hl =
+      go (eqb level (get_or k.flevels n 0)) refl (ltb level i) refl (λ l. climb_law n (suc level) f' g' (level, (f, g)) (omega arith) l)
     where
       f' : ℕ
       f' = combine p (get_or cs level 0) f (get_or k.fvalues n 0)
@@ -101,8 +101,8 @@ module _ (p : ℕ) (cs : List ℕ) (i : ℕ) (k : Kernel) (pr : Paired k) (some 
 
       rise : level ≡ get_or k.flevels n 0 → climbs (suc n) (climber (suc n) level f g) ≡ climbs n (climber n (suc level) f' g')
       rise e =
-          climb-up p cs (suc i) k.flevels k.fvalues k.gvalues n level f g
-          (rises-on p cs (suc i) k.flevels k.fvalues k.gvalues n level f g e (omega arith))
+          climb_up p cs (suc i) k.flevels k.fvalues k.gvalues n level f g
+          (rises_on p cs (suc i) k.flevels k.fvalues k.gvalues n level f g e (omega arith))
 
       go : (same : Bool) → eqb level (get_or k.flevels n 0) ≡ same → (less : Bool) → ltb level i ≡ less
           → (suc level ≤ i → Has (climbs n (climber n (suc level) f' g')) (enters (suc level) (f', g') (below n) (level, (f, g))))
@@ -126,7 +126,7 @@ module _ (p : ℕ) (cs : List ℕ) (i : ℕ) (k : Kernel) (pr : Paired k) (some 
   left-law : (f g : ℕ) (m : Arrival)
       → (let c : Climber = climber_in p cs (suc i) k f g in Has c (enters 0 (f, g) (stack_pairs k) m))
   unfolding climbed
-  left-law f g m = climb-law k.fcount 0 f g m (omega arith) (omega arith)
+  left-law f g m = climb_law k.fcount 0 f g m (omega arith) (omega arith)
 
   pub left-enter : (f g : ℕ) (m : Arrival)
       → (let c : Climber = climber_in p cs (suc i) k f g in

@@ -34,15 +34,15 @@ module _ {A B : Type 0} (combine_a : ℕ → A → A → A) (combine_b : ℕ →
     (arrive : ℕ → A → M → M) (emit : A → A → M → M) (arrive' : ℕ → B → N → N) (emit' : B → B → N → N) (φ : M → N)
     (arrives : (k : ℕ) (a : A) (m : M) → φ (arrive k a m) ≡ arrive' k (h a) (φ m))
     (emits : (even odd : A) (m : M) → φ (emit even odd m) ≡ emit' (h even) (h odd) (φ m)) where
-  gathers-image : (i k : ℕ) (new : A) (st : Stack A) (m : M)
+  gathers_image : (i k : ℕ) (new : A) (st : Stack A) (m : M)
       → φ (enter combine_a arrive emit c i k new st m).1 ≡ (enter combine_b arrive' emit' c i k (h new) (map_values h st) (φ m)).1
   unfolding enter map_values
-  gathers-image i k new [] m = arrives k new m
-  gathers-image i k new (e ∷ rest) m =
+  gathers_image i k new [] m = arrives k new m
+  gathers_image i k new (e ∷ rest) m =
       by (eqb k e.0) (ltb k i)
       (enter combine_a arrive emit c i (suc k) (combine_a (c k) new e.1) rest (arrive k new m))
       (enter combine_b arrive' emit' c i (suc k) (combine_b (c k) (h new) (h e.1)) (map_values h rest) (arrive' k (h new) (φ m)))
-      (gathers-image i (suc k) (combine_a (c k) new e.1) rest (arrive k new m)
+      (gathers_image i (suc k) (combine_a (c k) new e.1) rest (arrive k new m)
       ∙ ap (λ a. (enter combine_b arrive' emit' c i (suc k) a (map_values h rest) (φ (arrive k new m))).1) (respects (c k) new e.1)
       ∙ ap (λ x. (enter combine_b arrive' emit' c i (suc k) (combine_b (c k) (h new) (h e.1)) (map_values h rest) x).1) (arrives k new m))
     where
@@ -75,12 +75,12 @@ module _ (n : ℕ) (hn : n ≤ 15) (t : ℕ) (ht : t < 2 ^ n) (p : ℕ) (cs : Li
       ∙ ap bare_of (map_levels (λ (a : Pair). tt) (stack_pairs k) ∙ h.places ∙ sym (entries-levels still (items cs) n unnamed t i))
       ∙ bare_levels (bare_entries (items cs) n t i)
 
-  pub levelled-left : (i : ℕ) → i ≤ n → (k : Kernel) → LevelledBelow i t k → LevelledBelow i (suc t) (left_kernel i k (climber_in p cs i k f g))
-  levelled-left zero hi k h = record { paired = subst Paired same h.paired; places = ap (λ q. levels (stack_pairs q)) (sym same) ∙ h.places }
+  pub levelled_left : (i : ℕ) → i ≤ n → (k : Kernel) → LevelledBelow i t k → LevelledBelow i (suc t) (left_kernel i k (climber_in p cs i k f g))
+  levelled_left zero hi k h = record { paired = subst Paired same h.paired; places = ap (λ q. levels (stack_pairs q)) (sym same) ∙ h.places }
     where
       same : k ≡ left_kernel 0 k (climber_in p cs 0 k f g)
       same = sym (lowest_kept p cs k f g h.paired)
-  levelled-left (suc i) hi k h = record { paired = left-paired p cs i k h.paired (room (suc i) k h) f g; places = places }
+  levelled_left (suc i) hi k h = record { paired = left-paired p cs i k h.paired (room (suc i) k h) f g; places = places }
     where
       next : Kernel
       next = left_kernel (suc i) k (climber_in p cs (suc i) k f g)
@@ -105,7 +105,7 @@ module _ (n : ℕ) (hn : n ≤ 15) (t : ℕ) (ht : t < 2 ^ n) (p : ℕ) (cs : Li
       (suc i) (suc i) 0 (omega arith) t (completes_zero t) 0 in
       let same : (climber_in p cs (suc i) k f g).level ≡ r.0 =
       ap (λ r. r.1.0) (sym (left-enter p cs i k h.paired (room (suc i) k h) f g (0, (0, 0))))
-      ∙ gathers-image (combine_pair p) still (λ a. tt) (λ c even odd. refl) (items cs) arrives_at (joins p (items cs) i) last_level (λ even odd m. suc i) (λ m. m.0)
+      ∙ gathers_image (combine_pair p) still (λ a. tt) (λ c even odd. refl) (items cs) arrives_at (joins p (items cs) i) last_level (λ even odd m. suc i) (λ m. m.0)
       (λ k a m. refl) (λ even odd m. refl) i 0 (f, g) (stack_pairs k) (0, (0, 0))
       ∙ ap (λ st. (enter still last_level (λ even odd m. suc i) (items cs) i 0 tt st 0).1) (bare i k h)
       ∙ ap (λ r. r.1) (enter-item still (items cs) n unnamed last_level (λ even odd m. suc i) i (omega arith) t ht 0)
@@ -114,11 +114,11 @@ module _ (n : ℕ) (hn : n ≤ 15) (t : ℕ) (ht : t < 2 ^ n) (p : ℕ) (cs : Li
       subst (StopsAt (suc i) t) (sym same) r.1.2
 
   -- level i, where the items taken are a multiple of 2^i
-  pub reaches-last : (i : ℕ) → i ≤ n → (k : Kernel) → LevelledBelow i t k → suc t % 2 ^ i ≡ 0 → (climber_in p cs i k f g).level ≡ i
-  reaches-last i hi k h e = stops_last i t (climber_in p cs i k f g).level (stopped i hi k h) (multiple_completes i t e)
+  pub reaches_last : (i : ℕ) → i ≤ n → (k : Kernel) → LevelledBelow i t k → suc t % 2 ^ i ≡ 0 → (climber_in p cs i k f g).level ≡ i
+  reaches_last i hi k h e = stops_last i t (climber_in p cs i k f g).level (stopped i hi k h) (multiple_completes i t e)
 
-  pub stops-before : (i : ℕ) → i ≤ n → (k : Kernel) → LevelledBelow i t k → (suc t % 2 ^ i ≡ 0 → ⊥) → (climber_in p cs i k f g).level < i
-  stops-before i hi k h ne = stops_below i t (climber_in p cs i k f g).level (stopped i hi k h) (λ up. ne (completes_multiple i t up))
+  pub stops_before : (i : ℕ) → i ≤ n → (k : Kernel) → LevelledBelow i t k → (suc t % 2 ^ i ≡ 0 → ⊥) → (climber_in p cs i k f g).level < i
+  stops_before i hi k h ne = stops_below i t (climber_in p cs i k f g).level (stopped i hi k h) (λ up. ne (completes_multiple i t up))
 
 -- THE ITEMS OF f AND g
 pub record Changing (p n : ℕ) (c : ℕ → ℕ) (i : ℕ) (f g : Vector) (t : ℕ) (k : Kernel) : Type 0 where
@@ -206,16 +206,16 @@ module _ (p n : ℕ) (c : ℕ → ℕ) (f g : Vector) (hn : n ≤ 15) (cs : List
       subst (λ l. ◌≡◌ {A = Pair} (x.f, x.g) (beside (fold p c l f) (fold p c l g) (size n l - suc t / 2 ^ l))) level value
 
   -- it completes an item of fold i where the items taken are a multiple of 2^i
-  pub arrives-last : (i : ℕ) → i ≤ n → ((j : ℕ) → j < i → items cs j ≡ c j) → (k : Kernel) → Changing p n c i f g t k → suc t % 2 ^ i ≡ 0
+  pub arrives_last : (i : ℕ) → i ≤ n → ((j : ℕ) → j < i → items cs j ≡ c j) → (k : Kernel) → Changing p n c i f g t k → suc t % 2 ^ i ≡ 0
       → (let x : Climber = climber_in p cs i k (f (2 ^ n - 1 - t)) (g (2 ^ n - 1 - t)) in
       (x.level ≡ i) × (x.f ≡ fold p c i f (size n i - suc t / 2 ^ i)) × (x.g ≡ fold p c i g (size n i - suc t / 2 ^ i)))
-  arrives-last i hi agree k h e =
+  arrives_last i hi agree k h e =
       let x : Climber = climber_in p cs i k a b in
-      let l : x.level ≡ i = reaches-last n hn t ht p cs a b i hi k (changing-levelled p n c i f g t k h) e in
+      let l : x.level ≡ i = reaches_last n hn t ht p cs a b i hi k (changing-levelled p n c i f g t k h) e in
       let value : (x.f, x.g) ≡ beside (fold p c i f) (fold p c i g) (size n i - suc t / 2 ^ i) =
       item-value i hi agree k h ∙ ap (λ l. beside (fold p c l f) (fold p c l g) (size n l - suc t / 2 ^ l)) l in
       (l, ap (λ e. e.0) value, ap (λ e. e.1) value)
 
-  pub arrives-below : (i : ℕ) → i ≤ n → (k : Kernel) → Changing p n c i f g t k → (suc t % 2 ^ i ≡ 0 → ⊥)
+  pub arrives_below : (i : ℕ) → i ≤ n → (k : Kernel) → Changing p n c i f g t k → (suc t % 2 ^ i ≡ 0 → ⊥)
       → (climber_in p cs i k (f (2 ^ n - 1 - t)) (g (2 ^ n - 1 - t))).level < i
-  arrives-below i hi k h ne = stops-before n hn t ht p cs a b i hi k (changing-levelled p n c i f g t k h) ne
+  arrives_below i hi k h ne = stops_before n hn t ht p cs a b i hi k (changing-levelled p n c i f g t k h) ne

@@ -15,7 +15,7 @@ use Rattle.kernel.specs.KernelView.{Paired}
 use Rattle.kernel.proofs.KernelSteps.{fits-so}
 use Rattle.kernel.proofs.KernelLevels.{LevelledBelow, padding-below}
 use Rattle.kernel.proofs.KernelChange.{left_kernel}
-use Rattle.kernel.proofs.KernelChangePass.{Changing, changing-padding, changing-item, levelled-left}
+use Rattle.kernel.proofs.KernelChangePass.{Changing, changing-padding, changing-item, levelled_left}
 
 -- the kernel of a change pass does not look at its buffers
 pub placed-kernel : (p : ℕ) (cs : List ℕ) (last size t : ℕ) (s : Placed) (f g : ℕ) → (placed p cs last size t s f g).kernel ≡ placed_kernel p cs last s.kernel f g
@@ -45,7 +45,7 @@ levelled_change n i hn hi p cs t (x ∷ xs) fits =
     let rest : LevelledBelow i (t + length xs) (change_of p cs i (padding_below t i) xs) = levelled_change n i hn hi p cs t xs (omega arith) in
     rw (add-suc t (length xs))
     (subst (LevelledBelow i (suc (t + length xs))) (sym (kernel_left p cs i (change_of p cs i (padding_below t i) xs) x.0 x.1 (omega arith) rest.paired))
-    (levelled-left n hn (t + length xs) (omega arith) p cs x.0 x.1 i hi (change_of p cs i (padding_below t i) xs) rest))
+    (levelled_left n hn (t + length xs) (omega arith) p cs x.0 x.1 i hi (change_of p cs i (padding_below t i) xs) rest))
 
 module _ (p n : ℕ) (c : ℕ → ℕ) (i : ℕ) (f g : Vector) (hn : n ≤ 15) (hi : i ≤ n) (cs : List ℕ) (agree : (j : ℕ) → j < i → items cs j ≡ c j) where
   -- from a kernel that has taken t items, with the next ones

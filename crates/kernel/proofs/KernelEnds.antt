@@ -68,11 +68,11 @@ module _ (p n : ℕ) (c : ℕ → ℕ) (at : Points) (f g : Vector) (k : Kernel)
     unfolding pairs_view
     end_values = ap (λ m. first_pair (pairs_view k.flevels k.fvalues k.gvalues m)) (sym taken-one) ∙ ap first_pair taken-end
 
-    pub taken-end-first : get_or k.fvalues 0 0 ≡ end_value p c n f
-    taken-end-first = ap (λ e. e.0) end_values
+    pub taken-end_first : get_or k.fvalues 0 0 ≡ end_value p c n f
+    taken-end_first = ap (λ e. e.0) end_values
 
-    pub taken-end-second : get_or k.gvalues 0 0 ≡ end_value p c n g
-    taken-end-second = ap (λ e. e.1) end_values
+    pub taken-end_second : get_or k.gvalues 0 0 ≡ end_value p c n g
+    taken-end_second = ap (λ e. e.1) end_values
 
   -- AN OPENING at b
   module _ (b : ℕ) (on : at.on ≡ true) (point : at.point ≡ b) (minus : at.minus ≡ neg_mod p b) (square : at.square ≡ mul_mod p b b)

@@ -18,30 +18,30 @@ use Rattle.vector.proofs.Horner.{horner_step, horner, horner-step}
 use Rattle.kernel.proofs.KernelMachine.{Gathered, arriving, meeting, arrived-sixteen}
 
 module _ (p x : ℕ) (sums : List ℕ) (level item : ℕ) where
-  other-level : (l : ℕ) → (level ≡ l → ⊥) → get_or (horner_at p x sums level item) l 0 ≡ get_or sums l 0
+  other_level : (l : ℕ) → (level ≡ l → ⊥) → get_or (horner_at p x sums level item) l 0 ≡ get_or sums l 0
   unfolding horner_at
-  other-level l ne = get_or-set_other sums level l _ 0 (λ e. ne (sym e))
+  other_level l ne = get_or-set_other sums level l _ 0 (λ e. ne (sym e))
 
-  this-level : length sums ≡ 16 → level ≤ 15 → get_or (horner_at p x sums level item) level 0 ≡ horner_step p x (get_or sums level 0) item
+  this_level : length sums ≡ 16 → level ≤ 15 → get_or (horner_at p x sums level item) level 0 ≡ horner_step p x (get_or sums level 0) item
   unfolding horner_at
-  this-level e h = get_or-set_same sums level _ 0 (omega arith)
+  this_level e h = get_or-set_same sums level _ 0 (omega arith)
 
 -- one of the six arrays: the values at x of the folds of one vector
 module _ (p x : ℕ) (at : Points) (array : Evals → List ℕ) (image : Pair → ℕ)
     (respects : (c : ℕ) (even odd : Pair) → image (combine_pair p c even odd) ≡ combine p c (image even) (image odd))
     (sixteen : (e : Evals) → Sixteen e → length (array e) ≡ 16)
     (steps : (e : Evals) (level : ℕ) (a : Pair) → array (arrived p at e level a.0 a.1) ≡ horner_at p x (array e) level (image a)) where
-  pub array-step : (c : ℕ → ℕ) (n : ℕ) (v : ℕ → Pair) (i l : ℕ) → l ≤ i → l ≤ 15 → (t : ℕ) → t < 2 ^ n → (m : Gathered) → Sixteen m.evals
+  pub array_step : (c : ℕ → ℕ) (n : ℕ) (v : ℕ → Pair) (i l : ℕ) → l ≤ i → l ≤ 15 → (t : ℕ) → t < 2 ^ n → (m : Gathered) → Sixteen m.evals
       → get_or (array m.evals) l 0 ≡ horner p x (fold p c l (λ k. image (v k))) (size n l) (t / 2 ^ l)
       → get_or (array (gathered (combine_pair p) c n v (arriving p at) (meeting p) i 0 t m).evals) l 0
       ≡ horner p x (fold p c l (λ k. image (v k))) (size n l) (suc t / 2 ^ l)
-  array-step c n v i l hi low t ht m s e =
+  array_step c n v i l hi low t ht m s e =
       horner-step p x (combine_pair p) image respects c n v (arriving p at) (meeting p) (λ m. Sixteen m.evals) l (λ m. get_or (array m.evals) l 0)
       (λ k a m s. arrived-sixteen p at m.evals k a.0 a.1 s)
       (λ even odd m s. s)
-      (λ k a m ne s. ap (λ xs. get_or xs l 0) (steps m.evals k a) ∙ other-level p x (array m.evals) k (image a) l ne)
+      (λ k a m ne s. ap (λ xs. get_or xs l 0) (steps m.evals k a) ∙ other_level p x (array m.evals) k (image a) l ne)
       (λ even odd m s. refl)
-      (λ a m s. ap (λ xs. get_or xs l 0) (steps m.evals l a) ∙ this-level p x (array m.evals) l (image a) (sixteen m.evals s) low)
+      (λ a m s. ap (λ xs. get_or xs l 0) (steps m.evals l a) ∙ this_level p x (array m.evals) l (image a) (sixteen m.evals s) low)
       i hi t ht m s e
 
 -- the six values at level l of the folds of f and g, after t of their N items
@@ -65,21 +65,21 @@ module _ (p : ℕ) (at : Points) (on : at.on ≡ true) where
   evaluated-step c n f g i l hi low t ht m s r =
       record {
         fpoint =
-            array-step p at.point at (λ e. e.fpoint) (λ a. a.0) (λ c even odd. refl) (λ e s. s.fpoint) (λ e level a. ap (λ r. r.fpoint) (arrived-on e level a))
+            array_step p at.point at (λ e. e.fpoint) (λ a. a.0) (λ c even odd. refl) (λ e s. s.fpoint) (λ e level a. ap (λ r. r.fpoint) (arrived-on e level a))
             c n (beside f g) i l hi low t ht m s r.fpoint;
         fminus =
-            array-step p at.minus at (λ e. e.fminus) (λ a. a.0) (λ c even odd. refl) (λ e s. s.fminus) (λ e level a. ap (λ r. r.fminus) (arrived-on e level a))
+            array_step p at.minus at (λ e. e.fminus) (λ a. a.0) (λ c even odd. refl) (λ e s. s.fminus) (λ e level a. ap (λ r. r.fminus) (arrived-on e level a))
             c n (beside f g) i l hi low t ht m s r.fminus;
         fsquare =
-            array-step p at.square at (λ e. e.fsquare) (λ a. a.0) (λ c even odd. refl) (λ e s. s.fsquare) (λ e level a. ap (λ r. r.fsquare) (arrived-on e level a))
+            array_step p at.square at (λ e. e.fsquare) (λ a. a.0) (λ c even odd. refl) (λ e s. s.fsquare) (λ e level a. ap (λ r. r.fsquare) (arrived-on e level a))
             c n (beside f g) i l hi low t ht m s r.fsquare;
         gpoint =
-            array-step p at.point at (λ e. e.gpoint) (λ a. a.1) (λ c even odd. refl) (λ e s. s.gpoint) (λ e level a. ap (λ r. r.gpoint) (arrived-on e level a))
+            array_step p at.point at (λ e. e.gpoint) (λ a. a.1) (λ c even odd. refl) (λ e s. s.gpoint) (λ e level a. ap (λ r. r.gpoint) (arrived-on e level a))
             c n (beside f g) i l hi low t ht m s r.gpoint;
         gminus =
-            array-step p at.minus at (λ e. e.gminus) (λ a. a.1) (λ c even odd. refl) (λ e s. s.gminus) (λ e level a. ap (λ r. r.gminus) (arrived-on e level a))
+            array_step p at.minus at (λ e. e.gminus) (λ a. a.1) (λ c even odd. refl) (λ e s. s.gminus) (λ e level a. ap (λ r. r.gminus) (arrived-on e level a))
             c n (beside f g) i l hi low t ht m s r.gminus;
         gsquare =
-            array-step p at.square at (λ e. e.gsquare) (λ a. a.1) (λ c even odd. refl) (λ e s. s.gsquare) (λ e level a. ap (λ r. r.gsquare) (arrived-on e level a))
+            array_step p at.square at (λ e. e.gsquare) (λ a. a.1) (λ c even odd. refl) (λ e s. s.gsquare) (λ e level a. ap (λ r. r.gsquare) (arrived-on e level a))
             c n (beside f g) i l hi low t ht m s r.gsquare;
       }

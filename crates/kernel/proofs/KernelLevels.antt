@@ -82,21 +82,21 @@ module _ (height t : ℕ) (k : Kernel) (h : LevelledBelow height t k) where
       sym (pairs_count k.flevels k.fvalues k.gvalues k.fcount) ∙ sym (levels-count (stack_pairs k)) ∙ ap length h.places ∙ below_length t height
 
 module _ (i t : ℕ) (k : Kernel) (h : Levelled i t k) where
-  pub levelled-first : levels (stack_f k) ≡ ones_from t 0 i
-  levelled-first = below-first (suc i) t k h
+  pub levelled_first : levels (stack_f k) ≡ ones_from t 0 i
+  levelled_first = below-first (suc i) t k h
 
-  pub levelled-second : levels (stack_g k) ≡ ones_from t 0 i
-  levelled-second = below-second (suc i) t k h
+  pub levelled_second : levels (stack_g k) ≡ ones_from t 0 i
+  levelled_second = below-second (suc i) t k h
 
-  pub levelled-count : k.fcount ≡ ones (suc i) t
-  levelled-count = below-count (suc i) t k h
+  pub levelled_count : k.fcount ≡ ones (suc i) t
+  levelled_count = below-count (suc i) t k h
 
   -- one more pair, whatever it is
-  pub levelled-item : (n : ℕ) → n ≤ 15 → i ≤ n → t < 2 ^ n → (p : ℕ) (cs : List ℕ) (at : Points) (f g : ℕ) → Levelled i (suc t) (entered p cs i at k f g)
-  levelled-item n hn hi ht p cs at f g = record { paired = entered-paired p cs i at k h.paired room (omega arith) f g; places = places }
+  pub levelled_item : (n : ℕ) → n ≤ 15 → i ≤ n → t < 2 ^ n → (p : ℕ) (cs : List ℕ) (at : Points) (f g : ℕ) → Levelled i (suc t) (entered p cs i at k f g)
+  levelled_item n hn hi ht p cs at f g = record { paired = entered-paired p cs i at k h.paired room (omega arith) f g; places = places }
     where
       room : k.fcount ≤ 15
-      room = rw levelled-count (omega (arith, ones_below_lem n (suc i) t ht))
+      room = rw levelled_count (omega (arith, ones_below_lem n (suc i) t ht))
 
       nothing : Unit {0}
       nothing = tt

@@ -20,9 +20,9 @@ use Rattle.kernel.specs.declared.Kernel.{Kernel}
 use Rattle.kernel.specs.declared.Climber.{Climber}
 use Rattle.kernel.specs.Kernel.{sums_in, kernel_with, horner_at, stepped, arrived, top_at, raised, may_rise, climb_from, climbed, evaluated_from, evaluated, meets_at, summed, settled, sums_after, settled_in, sums_with, entered}
 use Rattle.kernel.specs.KernelView.{pairs_view, stack_pairs, sums_of, Sixteen, Paired}
-use Rattle.kernel.proofs.KernelSteps.{fits-so, stays, evaluation-stays, at_last, by-top}
+use Rattle.kernel.proofs.KernelSteps.{fits-so, stays, evaluation_stays, at_last, by_top}
 use Rattle.kernel.proofs.KernelTurns.{entered-fits}
-use Rattle.kernel.proofs.KernelArrays.{climber, cut-paired, push-pairs, push-paired}
+use Rattle.kernel.proofs.KernelArrays.{climber, cut_paired, push_pairs, push_paired}
 
 -- What the machine gathers: the sums of the pairs that met, and the evaluations.
 pub record Gathered : Type 0 where
@@ -86,22 +86,22 @@ module _ (p : ℕ) (cs : List ℕ) (last : ℕ) (ls fv gv : List ℕ) where
   pub differs : (n level f g : ℕ) → (level ≡ get_or ls n 0 → ⊥) → may_rise p cs last ls fv gv (climber (suc n) level f g) ≡ false
   differs n level f g ne = neither (ltb level last) _ (top_is ls n level ∙ ne_eqb _ level (λ e. ne (sym e)))
 
-  pub rises-on : (n level f g : ℕ) → level ≡ get_or ls n 0 → level < last → may_rise p cs last ls fv gv (climber (suc n) level f g) ≡ true
-  rises-on n level f g e l = by-top p cs last ls fv gv (climber (suc n) level f g) l ∙ top_is ls n level ∙ eq-eqb _ level (sym e)
+  pub rises_on : (n level f g : ℕ) → level ≡ get_or ls n 0 → level < last → may_rise p cs last ls fv gv (climber (suc n) level f g) ≡ true
+  rises_on n level f g e l = by_top p cs last ls fv gv (climber (suc n) level f g) l ∙ top_is ls n level ∙ eq-eqb _ level (sym e)
 
-  pub climb-up : (n level f g : ℕ) → may_rise p cs last ls fv gv (climber (suc n) level f g) ≡ true
+  pub climb_up : (n level f g : ℕ) → may_rise p cs last ls fv gv (climber (suc n) level f g) ≡ true
       → climb_from p cs last ls fv gv (suc n) (climber (suc n) level f g)
       ≡ climb_from p cs last ls fv gv n (climber n (suc level) (combine p (get_or cs level 0) f (get_or fv n 0)) (combine p (get_or cs level 0) g (get_or gv n 0)))
   unfolding climb_from
-  climb-up n level f g e =
+  climb_up n level f g e =
       ap (λ b. cond b (climb_from p cs last ls fv gv n (raised p cs last ls fv gv (climber (suc n) level f g))) (climber (suc n) level f g)) e
       ∙ ap (climb_from p cs last ls fv gv n) (up n level f g)
 
-  evaluation-up : (at : Points) (n level f g : ℕ) (e : Evals) → may_rise p cs last ls fv gv (climber (suc n) level f g) ≡ true
+  evaluation_up : (at : Points) (n level f g : ℕ) (e : Evals) → may_rise p cs last ls fv gv (climber (suc n) level f g) ≡ true
       → evaluated_from p cs last ls fv gv at (suc n) (climber (suc n) level f g) e
       ≡ evaluated_from p cs last ls fv gv at n (climber n (suc level) (up_f n level f) (up_g n level g)) (arrived p at e level f g)
   unfolding evaluated_from
-  evaluation-up at n level f g e h =
+  evaluation_up at n level f g e h =
       ap (λ b. cond b (evaluated_from p cs last ls fv gv at n (raised p cs last ls fv gv (climber (suc n) level f g)) (arrived p at e level f g)) (arrived p at e level f g)) h
       ∙ ap (λ c. evaluated_from p cs last ls fv gv at n c (arrived p at e level f g)) (up n level f g)
 
@@ -123,27 +123,27 @@ module _ (p : ℕ) (cs : List ℕ) (last : ℕ) (at : Points) (k : Kernel) (pr :
   abbrev Has : Climber → Evals → Stack Pair × Gathered → Type 0
   Has c e r = (r ≡ (stack_pairs (after c e), gathering (after c e))) × Paired (after c e)
 
-  settles-pushed : (n level f g : ℕ) (e : Evals) → n ≤ k.fcount → Sixteen e → meets_at last k.flevels (climber n level f g) ≡ false
+  settles_pushed : (n level f g : ℕ) (e : Evals) → n ≤ k.fcount → Sixteen e → meets_at last k.flevels (climber n level f g) ≡ false
       → Has (climber n level f g) e ((level, (f, g)) ∷ below n, record { sums = sums_of k; evals = e })
   unfolding settled sums_after
-  settles-pushed n level f g e h s m =
+  settles_pushed n level f g e h s m =
       rw m (
-        ap (λ st. (st, record { sums = sums_of k; evals = e })) (sym (push-pairs k pr n (sums_in k) e h s level f g (omega arith))),
-        push-paired k pr n (sums_in k) e h s level f g (omega arith),
+        ap (λ st. (st, record { sums = sums_of k; evals = e })) (sym (push_pairs k pr n (sums_in k) e h s level f g (omega arith))),
+        push_paired k pr n (sums_in k) e h s level f g (omega arith),
       )
 
-  settles-met : (n level f g : ℕ) (e : Evals) → suc n ≤ k.fcount → Sixteen e → meets_at last k.flevels (climber (suc n) level f g) ≡ true
+  settles_met : (n level f g : ℕ) (e : Evals) → suc n ≤ k.fcount → Sixteen e → meets_at last k.flevels (climber (suc n) level f g) ≡ true
       → Has (climber (suc n) level f g) e
       (below n, meeting p (f, g) (get_or k.fvalues n 0, get_or k.gvalues n 0) (record { sums = sums_of k; evals = e }))
   unfolding settled sums_after summed
-  settles-met n level f g e h s m = rw (m, sub-one (suc n)) (refl, cut-paired k pr n _ e (omega arith) s)
+  settles_met n level f g e h s m = rw (m, sub-one (suc n)) (refl, cut_paired k pr n _ e (omega arith) s)
 
   abbrev enters : ℕ → Pair → Stack Pair → Gathered → Stack Pair × Gathered
   enters level a st m = enter (combine_pair p) (arriving p at) (meeting p) (items cs) last level a st m
 
-  not-met : (n level f g : ℕ) → (level ≡ get_or k.flevels n 0 → ⊥) → meets_at last k.flevels (climber (suc n) level f g) ≡ false
+  not_met : (n level f g : ℕ) → (level ≡ get_or k.flevels n 0 → ⊥) → meets_at last k.flevels (climber (suc n) level f g) ≡ false
   unfolding meets_at
-  not-met n level f g ne = go (eqb level last) refl
+  not_met n level f g ne = go (eqb level last) refl
     where
       go : (b : Bool) → eqb level last ≡ b → cond b (top_at k.flevels (suc n) last) false ≡ false
       go true e = top_is k.flevels n last ∙ ne_eqb _ last (λ e'. ne (eqb-true level last e ∙ sym e'))
@@ -161,18 +161,18 @@ module _ (p : ℕ) (cs : List ℕ) (last : ℕ) (at : Points) (k : Kernel) (pr :
       → (r : Stack Pair × Gathered) → Has (climber n level f g) (arrived p at e level f g) r → Has (climbs n (climber n level f g)) (evaluates n (climber n level f g) e) r
   stops n level f g e h r has =
       subst (λ c. Has c (evaluates n (climber n level f g) e) r) (sym (stays p cs last k.flevels k.fvalues k.gvalues n (climber n level f g) h))
-      (subst (λ x. Has (climber n level f g) x r) (sym (evaluation-stays p cs last k.flevels k.fvalues k.gvalues at n (climber n level f g) e h)) has)
+      (subst (λ x. Has (climber n level f g) x r) (sym (evaluation_stays p cs last k.flevels k.fvalues k.gvalues at n (climber n level f g) e h)) has)
 
-  climb-law : (n level f g : ℕ) (e : Evals) (m : Gathered) → n ≤ k.fcount → level ≤ last → Sixteen e
+  climb_law : (n level f g : ℕ) (e : Evals) (m : Gathered) → n ≤ k.fcount → level ≤ last → Sixteen e
       → m ≡ record { sums = sums_of k; evals = e }
       → Has (climbs n (climber n level f g)) (evaluates n (climber n level f g) e) (enters level (f, g) (below n) m)
   unfolding enter pairs_view
-  climb-law zero level f g e m hn hl s em =
+  climb_law zero level f g e m hn hl s em =
       stops zero level f g e (neither (ltb level last) _ (no_top k.flevels level)) _
-      (rw em (settles-pushed 0 level f g (arrived p at e level f g) hn (arrived-sixteen p at e level f g s) (alone level f g)))
-  climb-law (suc n) level f g e m hn hl s em =
+      (rw em (settles_pushed 0 level f g (arrived p at e level f g) hn (arrived-sixteen p at e level f g s) (alone level f g)))
+  climb_law (suc n) level f g e m hn hl s em =
       go (eqb level (get_or k.flevels n 0)) refl (ltb level last) refl
-      (λ l. climb-law n (suc level) f' g' e' (arriving p at level (f, g) m) (omega arith) l (arrived-sixteen p at e level f g s) (ap (arriving p at level (f, g)) em))
+      (λ l. climb_law n (suc level) f' g' e' (arriving p at level (f, g) m) (omega arith) l (arrived-sixteen p at e level f g s) (ap (arriving p at level (f, g)) em))
     where
       f' : ℕ
       f' = combine p (get_or cs level 0) f (get_or k.fvalues n 0)
@@ -197,32 +197,32 @@ module _ (p : ℕ) (cs : List ℕ) (last : ℕ) (at : Points) (k : Kernel) (pr :
           (below n, meeting p (f, g) (get_or k.fvalues n 0, get_or k.gvalues n 0) (arriving p at level (f, g) m)))
           ((level, (f, g)) ∷ below (suc n), arriving p at level (f, g) m))
       go true es true el rest =
-          let may = rises-on p cs last k.flevels k.fvalues k.gvalues n level f g (eqb-true _ _ es) (ltb-true _ _ el) in
+          let may = rises_on p cs last k.flevels k.fvalues k.gvalues n level f g (eqb-true _ _ es) (ltb-true _ _ el) in
           subst (λ c. Has c (evaluates (suc n) (climber (suc n) level f g) e) (enters (suc level) (f', g') (below n) (arriving p at level (f, g) m)))
-          (sym (climb-up p cs last k.flevels k.fvalues k.gvalues n level f g may))
+          (sym (climb_up p cs last k.flevels k.fvalues k.gvalues n level f g may))
           (subst (λ x. Has (climbs n (climber n (suc level) f' g')) x (enters (suc level) (f', g') (below n) (arriving p at level (f, g) m)))
-          (sym (evaluation-up p cs last k.flevels k.fvalues k.gvalues at n level f g e may))
+          (sym (evaluation_up p cs last k.flevels k.fvalues k.gvalues at n level f g e may))
           (rest (ltb-true level last el)))
       go true es false el rest =
           let end : level ≡ last = omega (arith, ltb-false level last el) in
           stops (suc n) level f g e (at_last p cs last k.flevels k.fvalues k.gvalues (climber (suc n) level f g) (ltb-false level last el)) _
           (subst (λ x. Has (climber (suc n) level f g) e' (below n, meeting p (f, g) (get_or k.fvalues n 0, get_or k.gvalues n 0) x)) (sym arrives)
-          (settles-met n level f g e' hn (arrived-sixteen p at e level f g s) (both-last n level f g (eqb-true _ _ es) end)))
+          (settles_met n level f g e' hn (arrived-sixteen p at e level f g s) (both-last n level f g (eqb-true _ _ es) end)))
       go false es less el rest =
           stops (suc n) level f g e (differs p cs last k.flevels k.fvalues k.gvalues n level f g (eqb-false _ _ es)) _
           (subst (λ x. Has (climber (suc n) level f g) e' ((level, (f, g)) ∷ below (suc n), x)) (sym arrives)
-          (settles-pushed (suc n) level f g e' hn (arrived-sixteen p at e level f g s) (not-met n level f g (eqb-false _ _ es))))
+          (settles_pushed (suc n) level f g e' hn (arrived-sixteen p at e level f g s) (not_met n level f g (eqb-false _ _ es))))
 
-  is-after : (f g : ℕ) → entered p cs last at k f g ≡ after (climbs k.fcount (climber k.fcount 0 f g)) (evaluates k.fcount (climber k.fcount 0 f g) k.evals)
+  is_after : (f g : ℕ) → entered p cs last at k f g ≡ after (climbs k.fcount (climber k.fcount 0 f g)) (evaluates k.fcount (climber k.fcount 0 f g) k.evals)
   unfolding climbed evaluated
-  is-after f g = entered-fits p cs last at k f g (fits-so last k.fcount k.gcount low pr.room pr.counts)
+  is_after f g = entered-fits p cs last at k f g (fits-so last k.fcount k.gcount low pr.room pr.counts)
 
   -- ONE MORE PAIR: the stack, the sums and the evaluations
   entered-law : (f g : ℕ)
       → (let q : Kernel = entered p cs last at k f g in (enters 0 (f, g) (stack_pairs k) (gathering k) ≡ (stack_pairs q, gathering q)) × Paired q)
   entered-law f g =
-      subst (λ q. (enters 0 (f, g) (stack_pairs k) (gathering k) ≡ (stack_pairs q, gathering q)) × Paired q) (sym (is-after f g))
-      (climb-law k.fcount 0 f g k.evals (gathering k) (omega arith) (omega arith) pr.evals refl)
+      subst (λ q. (enters 0 (f, g) (stack_pairs k) (gathering k) ≡ (stack_pairs q, gathering q)) × Paired q) (sym (is_after f g))
+      (climb_law k.fcount 0 f g k.evals (gathering k) (omega arith) (omega arith) pr.evals refl)
 
   pub entered-enter : (f g : ℕ)
       → (let q : Kernel = entered p cs last at k f g in

@@ -14,7 +14,7 @@ use Rattle.vector.specs.Message.{Message}
 use Rattle.kernel.specs.Kernel.{zeros, empty_kernel, padding_kernel}
 use Rattle.vector.proofs.Rounds.{size-times}
 use Rattle.vector.proofs.Folds.{fold-equal}
-use Rattle.vector.proofs.StackLaw.{machine, gathered_all, stack-law}
+use Rattle.vector.proofs.StackLaw.{machine, gathered_all, stack_law}
 use Rattle.vector.proofs.Passes.{no_message, add_pair, last_message, pass-sums}
 use Rattle.vector.proofs.Padding.{zero-pair, no-pair, gathered-still}
 use Rattle.vector.proofs.Horner.{horner, horner-zero}
@@ -63,13 +63,13 @@ module _ (p n : ℕ) (c : ℕ → ℕ) (i : ℕ) (at : Points) (f g : Vector) (h
       })
 
   -- nothing taken
-  none-horner : (v : Vector) (l x : ℕ) → horner p x (fold p c l v) (size n l) (0 / 2 ^ l) ≡ 0
+  none_horner : (v : Vector) (l x : ℕ) → horner p x (fold p c l v) (size n l) (0 / 2 ^ l) ≡ 0
   unfolding horner
-  none-horner v l x = rw (zero-div (2 ^ l))
+  none_horner v l x = rw (zero-div (2 ^ l))
 
-  none-sums : i < n → no_message ≡ sums_at 0
+  none_sums : i < n → no_message ≡ sums_at 0
   unfolding gathered_all
-  none-sums less =
+  none_sums less =
       pass-sums p n c f g (λ k a m. m) (add_pair p) (λ m. m) (λ k a m. refl) (λ even odd m. refl) no_message refl i less 0 (omega arith)
 
   pub taken_none : Taken p n c i at f g 0 empty_kernel
@@ -77,9 +77,9 @@ module _ (p n : ℕ) (c : ℕ → ℕ) (i : ℕ) (at : Points) (f g : Vector) (h
   taken_none =
       record {
         paired = empty_paired;
-        stack = empty_stack ∙ ap (λ r. r.0) (stack-law (combine_pair p) c n (beside f g) (λ k a m. m) (add_pair p) i hi no_message 0 (omega arith));
-        sums = none-sums;
-        evals = λ on l hl. zero-evals 0 l (omega arith) empty_kernel refl (none-horner f l) (none-horner g l);
+        stack = empty_stack ∙ ap (λ r. r.0) (stack_law (combine_pair p) c n (beside f g) (λ k a m. m) (add_pair p) i hi no_message 0 (omega arith));
+        sums = none_sums;
+        evals = λ on l hl. zero-evals 0 l (omega arith) empty_kernel refl (none_horner f l) (none_horner g l);
       }
 
   -- the padding taken

@@ -14,7 +14,7 @@ use Rattle.vector.specs.Fold.{Pair, combine_pair}
 use Rattle.vector.specs.Stack.{Stack, entries}
 use Rattle.kernel.specs.Kernel.{sums_in, kernel_with, pushed, empty_kernel, pushed_zero, padding_from, padding_below, padding_kernel}
 use Rattle.kernel.specs.KernelView.{pairs_view, stack_pairs, sums_of, Paired}
-use Rattle.kernel.proofs.KernelArrays.{climber, push-pairs, push-paired}
+use Rattle.kernel.proofs.KernelArrays.{climber, push_pairs, push_paired}
 use Rattle.vector.proofs.Passes.{no_message}
 use Rattle.vector.proofs.Padding.{equal_from, zero_entries, padding-entries}
 
@@ -69,9 +69,9 @@ module _ (t : ℕ) where
   one_more m k st true h =
       let room : k.fcount ≤ 15 = omega (arith, h.1) in
       let new = zero_pushed k m h.0 room in (
-        subst Paired (sym new) (push-paired k h.0 k.fcount (sums_in k) k.evals (omega arith) h.0.evals m 0 0 room),
+        subst Paired (sym new) (push_paired k h.0 k.fcount (sums_in k) k.evals (omega arith) h.0.evals m 0 0 room),
         omega (arith, h.1),
-        ap stack_pairs new ∙ push-pairs k h.0 k.fcount (sums_in k) k.evals (omega arith) h.0.evals m 0 0 room ∙ ap (λ s. (m, (0, 0)) ∷ s) h.2,
+        ap stack_pairs new ∙ push_pairs k h.0 k.fcount (sums_in k) k.evals (omega arith) h.0.evals m 0 0 room ∙ ap (λ s. (m, (0, 0)) ∷ s) h.2,
       )
   one_more m k st false h = (h.0, omega (arith, h.1), h.2)
 

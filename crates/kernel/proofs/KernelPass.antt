@@ -21,7 +21,7 @@ use Rattle.vector.proofs.Machine.{enter, gathered}
 use Rattle.vector.proofs.StackLaw.{enter-item}
 use Rattle.vector.proofs.StackCount.{ones_at_most, ones_below_lem, entries-count}
 use Rattle.vector.proofs.StackImage.{map_values, entries-first, entries-second}
-use Rattle.vector.proofs.Gathering.{last_pairs, sums-step}
+use Rattle.vector.proofs.Gathering.{last_pairs, sums_step}
 use Rattle.vector.proofs.Passes.{no_message, add_pair, last_message, last-message}
 use Rattle.kernel.proofs.KernelArrays.{pairs_count, first-stack, second-stack}
 use Rattle.kernel.proofs.KernelMachine.{Gathered, arriving, meeting, gathering, entered-enter, entered-paired}
@@ -87,18 +87,18 @@ module _ (p n : ℕ) (c : ℕ → ℕ) (i : ℕ) (at : Points) (f g : Vector) (h
         ∙ ap (λ st. enter (combine_pair p) (arriving p at) (meeting p) c i 0 (f (2 ^ n - 1 - t), g (2 ^ n - 1 - t)) st (gathering k)) h.stack
         ∙ enter-item (combine_pair p) c n (beside f g) (arriving p at) (meeting p) i hi t ht (gathering k)
 
-    pairs-sums : (q : ℕ) → last_pairs (add_pair p) (fold_with (combine_pair p) c i (beside f g)) (size n (suc i)) no_message q
+    pairs_sums : (q : ℕ) → last_pairs (add_pair p) (fold_with (combine_pair p) c i (beside f g)) (size n (suc i)) no_message q
         ≡ last_message p (fold p c i f) (fold p c i g) (size n (suc i)) q
-    pairs-sums q =
+    pairs_sums q =
         ap (λ v. last_pairs (add_pair p) v (size n (suc i)) no_message q) (fold-beside p c f g i)
         ∙ last-message p (fold p c i f) (fold p c i g) (size n (suc i)) q
 
     item-sums : (less : i < n) → sums_of next ≡ last_message p (fold p c i f) (fold p c i g) (size n (suc i)) (suc t / 2 ^ suc i)
     item-sums less =
         ap (λ r. r.1.sums) item-step
-        ∙ sums-step (combine_pair p) c n (beside f g) (arriving p at) (meeting p) (add_pair p) (λ m. m.sums) (λ k a m. refl) (λ even odd m. refl) i less no_message
-        i 0 (omega arith) t ht (completes_zero t) (gathering k) (h.sums less ∙ sym (pairs-sums (t / 2 ^ suc i)))
-        ∙ pairs-sums (suc t / 2 ^ suc i)
+        ∙ sums_step (combine_pair p) c n (beside f g) (arriving p at) (meeting p) (add_pair p) (λ m. m.sums) (λ k a m. refl) (λ even odd m. refl) i less no_message
+        i 0 (omega arith) t ht (completes_zero t) (gathering k) (h.sums less ∙ sym (pairs_sums (t / 2 ^ suc i)))
+        ∙ pairs_sums (suc t / 2 ^ suc i)
 
     item-evals : at.on ≡ true → (l : ℕ) → l ≤ i → Evaluated p n c at f g (suc t) next.evals l
     item-evals on l hl =

@@ -60,20 +60,20 @@ module _ (p : ℕ) (cs : List ℕ) (last : ℕ) (ls fv gv : List ℕ) where
       ∙ ap (λ m. climb_from p cs last ls fv gv m (raised p cs last ls fv gv c)) (sym (sub-one (suc n)))
 
   -- the evaluations go the same way
-  pub evaluation-stays : (at : Points) (n : ℕ) (c : Climber) (e : Evals) → may_rise p cs last ls fv gv c ≡ false
+  pub evaluation_stays : (at : Points) (n : ℕ) (c : Climber) (e : Evals) → may_rise p cs last ls fv gv c ≡ false
       → evaluated_from p cs last ls fv gv at n c e ≡ arrived p at e c.level c.f c.g
   unfolding evaluated_from
-  evaluation-stays at zero c e h = refl
-  evaluation-stays at (suc n) c e h =
+  evaluation_stays at zero c e h = refl
+  evaluation_stays at (suc n) c e h =
       ap (λ b.
       cond b (evaluated_from p cs last ls fv gv at n (raised p cs last ls fv gv c) (arrived p at e c.level c.f c.g)) (arrived p at e c.level c.f c.g)) h
 
-  pub evaluation-rises : (at : Points) (n : ℕ) (c : Climber) (e : Evals) → 0 < n → may_rise p cs last ls fv gv c ≡ true
+  pub evaluation_rises : (at : Points) (n : ℕ) (c : Climber) (e : Evals) → 0 < n → may_rise p cs last ls fv gv c ≡ true
       → evaluated_from p cs last ls fv gv at n c e
       ≡ evaluated_from p cs last ls fv gv at (n - 1) (raised p cs last ls fv gv c) (arrived p at e c.level c.f c.g)
   unfolding evaluated_from
-  evaluation-rises at zero c e pos h = absurd (omega arith)
-  evaluation-rises at (suc n) c e pos h =
+  evaluation_rises at zero c e pos h = absurd (omega arith)
+  evaluation_rises at (suc n) c e pos h =
       ap (λ b.
       cond b (evaluated_from p cs last ls fv gv at n (raised p cs last ls fv gv c) (arrived p at e c.level c.f c.g)) (arrived p at e c.level c.f c.g)) h
       ∙ ap (λ m. evaluated_from p cs last ls fv gv at m (raised p cs last ls fv gv c) (arrived p at e c.level c.f c.g)) (sym (sub-one (suc n)))
@@ -82,8 +82,8 @@ module _ (p : ℕ) (cs : List ℕ) (last : ℕ) (ls fv gv : List ℕ) where
   pub at_last : (c : Climber) → last ≤ c.level → may_rise p cs last ls fv gv c ≡ false
   at_last c h = simp (le-ltb _ _ h)
 
-  pub by-top : (c : Climber) → c.level < last → may_rise p cs last ls fv gv c ≡ top_at ls c.count c.level
-  by-top c l = simp (lt-ltb _ _ l)
+  pub by_top : (c : Climber) → c.level < last → may_rise p cs last ls fv gv c ≡ top_at ls c.count c.level
+  by_top c l = simp (lt-ltb _ _ l)
 
 by_case : (b : Bool) (x c : Climber) → x.count ≤ c.count → (cond b x c).count ≤ c.count
 by_case true x c h = h
@@ -117,12 +117,12 @@ unfolding left
 leaves_in last fl fv gl gv c h = pick (eqb c.level last) _ _ (λ e. h) (λ e. pushes-in fl fv gl gv c h)
 
 module _ (t : ℕ) where
-  pub pads-one : (m : ℕ) (k : Kernel) → 0 < m → bit (m - 1) t ≡ 1 → padding_from t m k ≡ padding_from t (m - 1) (pushed_zero k (m - 1))
+  pub pads_one : (m : ℕ) (k : Kernel) → 0 < m → bit (m - 1) t ≡ 1 → padding_from t m k ≡ padding_from t (m - 1) (pushed_zero k (m - 1))
   unfolding padding_from
-  pads-one zero k pos e = absurd (omega arith)
-  pads-one (suc m) k pos e = let e' : bit m t ≡ 1 = rw sub-one at e in simp (sub-one, eq-eqb _ _ e')
+  pads_one zero k pos e = absurd (omega arith)
+  pads_one (suc m) k pos e = let e' : bit m t ≡ 1 = rw sub-one at e in simp (sub-one, eq-eqb _ _ e')
 
-  pub pads-none : (m : ℕ) (k : Kernel) → 0 < m → (bit (m - 1) t ≡ 1 → ⊥) → padding_from t m k ≡ padding_from t (m - 1) k
+  pub pads_none : (m : ℕ) (k : Kernel) → 0 < m → (bit (m - 1) t ≡ 1 → ⊥) → padding_from t m k ≡ padding_from t (m - 1) k
   unfolding padding_from
-  pads-none zero k pos e = absurd (omega arith)
-  pads-none (suc m) k pos e = let e' : bit m t ≡ 1 → ⊥ = rw sub-one at e in simp (sub-one, ne_eqb _ _ e')
+  pads_none zero k pos e = absurd (omega arith)
+  pads_none (suc m) k pos e = let e' : bit m t ≡ 1 → ⊥ = rw sub-one at e in simp (sub-one, ne_eqb _ _ e')

@@ -12,7 +12,7 @@ use Rattle.vector.specs.Fold.{Pair, beside}
 use Rattle.kernel.specs.Kernel.{entered, streamed, empty_kernel, padding_kernel}
 use Rattle.kernel.proofs.KernelPass.{Taken, taken_item}
 use Rattle.kernel.proofs.KernelOpen.{taken_none, taken-padding}
-use Rattle.kernel.proofs.KernelLevels.{Levelled, levelled-item, levelled_padding}
+use Rattle.kernel.proofs.KernelLevels.{Levelled, levelled_item, levelled_padding}
 
 module _ (p : ℕ) (cs : List ℕ) (last : ℕ) (at : Points) (start : Kernel) where
   unfoldable pub kernel_of : List Pair → Kernel
@@ -63,7 +63,7 @@ unfolding kernel_of
 levelled_list n i hn hi p cs at t [] fits = rw (add-zero t) (levelled_padding t i (omega arith))
 levelled_list n i hn hi p cs at t (x ∷ xs) fits =
     rw (add-suc t (length xs))
-    (levelled-item i (t + length xs) (kernel_of p cs i at (padding_kernel t i) xs) (levelled_list n i hn hi p cs at t xs (omega arith))
+    (levelled_item i (t + length xs) (kernel_of p cs i at (padding_kernel t i) xs) (levelled_list n i hn hi p cs at t xs (omega arith))
     n hn hi (omega arith) p cs at x.0 x.1)
 
 -- A PASS OVER TWO LISTS that hold f and g, from last item to first

@@ -16,7 +16,7 @@ use Rattle.kernel.specs.declared.Sums.{Sums}
 use Rattle.kernel.specs.declared.Climber.{Climber}
 use Rattle.kernel.specs.Kernel.{StackArrays, stacks_in, sums_in, kernel_with, evals_of, stepped, arrived, no_points, raised, may_rise, climb_from, evaluated_from, climber₀, climbed, evaluated, settled, sums_after, fits, climber_in, settled_in, sums_with, evals_in, entered, streamed}
 use Rattle.kernel.specs.Change.{left, place_after, put_in, Placed, placed_of, placed_at, placed, placed_all}
-use Rattle.kernel.proofs.KernelSteps.{stays, rises, evaluation-stays, evaluation-rises, fits-so}
+use Rattle.kernel.proofs.KernelSteps.{stays, rises, evaluation_stays, evaluation_rises, fits-so}
 
 -- a kernel with as many entries of g as of f is its parts
 pub kernel_parts : (k : Kernel) → k.gcount ≡ k.fcount
@@ -59,25 +59,25 @@ module _ (p : ℕ) (cs : List ℕ) (last : ℕ) (at : Points) (on : at.on ≡ tr
   unfolding arrived
   arrived-on = step ∙ ap (λ x. cond x (stepped p at e level a b) e) (sym on)
 
-  pub goes-up : (a' b' : ℕ) → 0 < count → may_rise p cs last ls fv gv (record { count = count; level = level; f = a; g = b }) ≡ true
+  pub goes_up : (a' b' : ℕ) → 0 < count → may_rise p cs last ls fv gv (record { count = count; level = level; f = a; g = b }) ≡ true
       → a' ≡ combine p (get_or cs level 0) a (get_or fv (count - 1) 0) → b' ≡ combine p (get_or cs level 0) b (get_or gv (count - 1) 0)
       → (let old : Climber = record { count = count; level = level; f = a; g = b } in
       let new : Climber = record { count = count - 1; level = level + 1; f = a'; g = b' } in
       (climb_from p cs last ls fv gv (count - 1) new ≡ climb_from p cs last ls fv gv count old)
       × (evaluated_from p cs last ls fv gv at (count - 1) new e' ≡ evaluated_from p cs last ls fv gv at count old e))
-  goes-up a' b' some may ea eb =
+  goes_up a' b' some may ea eb =
       let same : ◌≡◌ {A = Climber} (record { count = count - 1; level = level + 1; f = a'; g = b' }) (raised p cs last ls fv gv now) =
       ap₂ (λ x y. record { count = count - 1; level = level + 1; f = x; g = y }) ea eb in (
         ap (climb_from p cs last ls fv gv (count - 1)) same ∙ sym (rises p cs last ls fv gv count now some may),
-        ap₂ (evaluated_from p cs last ls fv gv at (count - 1)) same arrived-on ∙ sym (evaluation-rises p cs last ls fv gv at count now e some may),
+        ap₂ (evaluated_from p cs last ls fv gv at (count - 1)) same arrived-on ∙ sym (evaluation_rises p cs last ls fv gv at count now e some may),
       )
 
-  pub comes-to-stop : may_rise p cs last ls fv gv (record { count = count; level = level; f = a; g = b }) ≡ false
+  pub comes_to_stop : may_rise p cs last ls fv gv (record { count = count; level = level; f = a; g = b }) ≡ false
       → (let old : Climber = record { count = count; level = level; f = a; g = b } in
       (old ≡ climb_from p cs last ls fv gv count old) × (e' ≡ evaluated_from p cs last ls fv gv at count old e))
-  comes-to-stop stop = (
+  comes_to_stop stop = (
     sym (stays p cs last ls fv gv count now stop),
-    arrived-on ∙ sym (evaluation-stays p cs last ls fv gv at count now e stop),
+    arrived-on ∙ sym (evaluation_stays p cs last ls fv gv at count now e stop),
   )
 
 -- A PASS THAT DOES NOT EVALUATE leaves the evaluations as they are

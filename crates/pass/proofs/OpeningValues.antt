@@ -28,29 +28,29 @@ abbrev three : Triple → List ℕ
 three t = t.at_point ∷ t.at_minus ∷ t.at_square ∷ []
 
 module _ (t : ℕ → Triple) where
-  pub triples-length : (k m : ℕ) → length (triple_values t k m) ≡ 3 * m
+  pub triples_length : (k m : ℕ) → length (triple_values t k m) ≡ 3 * m
   unfolding triple_values
-  triples-length k zero = refl
-  triples-length k (suc m) = omega (arith, triples-length (suc k) m)
+  triples_length k zero = refl
+  triples_length k (suc m) = omega (arith, triples_length (suc k) m)
 
-  triples-last : (k m : ℕ) → triple_values t k (suc m) ≡ triple_values t k m ++ three (t (k + m))
+  triples_last : (k m : ℕ) → triple_values t k (suc m) ≡ triple_values t k m ++ three (t (k + m))
   unfolding triple_values
-  triples-last k zero = rw (add-zero k)
-  triples-last k (suc m) =
+  triples_last k zero = rw (add-zero k)
+  triples_last k (suc m) =
       rw (add-suc k m, ← suc-add k m)
-      (ap (λ rest. (t k).at_point ∷ (t k).at_minus ∷ (t k).at_square ∷ rest) (triples-last (suc k) m))
+      (ap (λ rest. (t k).at_point ∷ (t k).at_minus ∷ (t k).at_square ∷ rest) (triples_last (suc k) m))
 
   -- one more triple stored
   pub triple-stored : (values : List ℕ) (from j : ℕ)
       → set (set (set (sets values from (triple_values t 0 j)) (from + 3 * j) (t j).at_point) (from + 3 * j + 1) (t j).at_minus) (from + 3 * j + 2) (t j).at_square
       ≡ sets values from (triple_values t 0 (j + 1))
   triple-stored values from j =
-      let first : from + 3 * j ≡ from + length (triple_values t 0 j) = ap (λ n. from + n) (sym (triples-length 0 j)) in
+      let first : from + 3 * j ≡ from + length (triple_values t 0 j) = ap (λ n. from + n) (sym (triples_length 0 j)) in
       let second : from + 3 * j + 1 ≡ suc (from + length (triple_values t 0 j)) = omega arith in
       let third : from + 3 * j + 2 ≡ suc (suc (from + length (triple_values t 0 j))) = omega arith in
       rw (third, second, first)
       (sets_append (triple_values t 0 j) (three (t j)) values from
-      ∙ ap (sets values from) (sym (triples-last 0 j ∙ ap (λ k. triple_values t 0 j ++ three (t k)) (zero-add j)) ∙ ap (triple_values t 0) (sym (add-one j))))
+      ∙ ap (sets values from) (sym (triples_last 0 j ∙ ap (λ k. triple_values t 0 j ++ three (t k)) (zero-add j)) ∙ ap (triple_values t 0) (sym (add-one j))))
 
 -- the triples of two vectors, one after the other, before zeros
 pub both_stored : (s t : ℕ → Triple) (n : ℕ) → n ≤ 15
@@ -58,8 +58,8 @@ pub both_stored : (s t : ℕ → Triple) (n : ℕ) → n ≤ 15
 both_stored s t n few =
     let vs : List ℕ = triple_values s 0 n in
     let ws : List ℕ = triple_values t 0 n in
-    let all : length (vs ++ ws) ≡ 6 * n = length-append vs ws ∙ omega (arith, triples-length s 0 n, triples-length t 0 n) in
-    let from : 3 * n ≡ 0 + length vs = omega (arith, triples-length s 0 n) in
+    let all : length (vs ++ ws) ≡ 6 * n = length-append vs ws ∙ omega (arith, triples_length s 0 n, triples_length t 0 n) in
+    let from : 3 * n ≡ 0 + length vs = omega (arith, triples_length s 0 n) in
     let room : length no_values ≡ 90 = length-replicate {A = ℕ} 90 0 in
     let whole : 6 * n + (90 - 6 * n) ≡ 90 = omega arith in
     let rest : drop (6 * n) no_values ≡ replicate (90 - 6 * n) 0 =

@@ -75,9 +75,9 @@ module _ (p : ℕ) (r : Run) (s : Pass) where
     pub half : fold_size r / 2 ≡ size r.start.rounds (suc r.round)
     pub halves : fold_size r ≡ 2 * size r.start.rounds (suc r.round)
 
-  in-round : (what : Next) → well_formed p r s ≡ true → r.next ≡ what → (round_fits what r.round r.start.rounds ≡ true → r.round < r.start.rounds)
+  in_round : (what : Next) → well_formed p r s ≡ true → r.next ≡ what → (round_fits what r.round r.start.rounds ≡ true → r.round < r.start.rounds)
       → (level_of r Shut ≡ r.round) → InRound what
-  in-round what e same below level =
+  in_round what e same below level =
       let h = formed p r s e in
       let t = tests p r s e in
       let less : r.round < r.start.rounds = below (ap (λ a. round_fits a r.round r.start.rounds) (sym same) ∙ t.fits) in
@@ -100,13 +100,13 @@ module _ (p : ℕ) (r : Run) (s : Pass) where
   message-round e =
       let a = holds (full_formed p r s) (waits Message r.next) e in
       let same = waits-for Message r.next a.1 in
-      in-round Message (holds (well_formed p r s) (is_full r.mode) a.0).0 same (λ t. ltb-true r.round r.start.rounds t) (rw same)
+      in_round Message (holds (well_formed p r s) (is_full r.mode) a.0).0 same (λ t. ltb-true r.round r.start.rounds t) (rw same)
 
   pub challenge-round : challenge_turn p r s ≡ true → InRound Challenge
   challenge-round e =
       let a = holds (well_formed p r s) (waits Challenge r.next) e in
       let same = waits-for Challenge r.next a.1 in
-      in-round Challenge a.0 same (λ t. ltb-true r.round r.start.rounds t) (rw same)
+      in_round Challenge a.0 same (λ t. ltb-true r.round r.start.rounds t) (rw same)
 
   -- the end values are next
   pub record AtEnds : Type 0 where

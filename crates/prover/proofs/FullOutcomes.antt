@@ -58,14 +58,14 @@ module _ (p : ℕ) (r : Run) (s : Pass) (f g : List ℕ) where
     abbrev call : Outcome Out
     call = require turn number.order (lent_folds p r f g (answered o))
 
-    pub read-turn : turn ≡ false → leaves r s f g call ≡ out (refused_step r s number.order) f g
-    read-turn t = stop r s f g turn number.order _ t
+    pub read_turn : turn ≡ false → leaves r s f g call ≡ out (refused_step r s number.order) f g
+    read_turn t = stop r s f g turn number.order _ t
 
-    pub read-refused : turn ≡ true → (k : ℕ) → good ≡ refused k → leaves r s f g call ≡ out (refused_step r s k) f g
-    read-refused t k e = pass r s f g turn number.order _ t ∙ lent-refused (answered o) k e
+    pub read_refused : turn ≡ true → (k : ℕ) → good ≡ refused k → leaves r s f g call ≡ out (refused_step r s k) f g
+    read_refused t k e = pass r s f g turn number.order _ t ∙ lent-refused (answered o) k e
 
-    pub read-given : turn ≡ true → good ≡ answered tt → leaves r s f g call ≡ o
-    read-given t e = pass r s f g turn number.order _ t ∙ lent-read (answered o) e
+    pub read_given : turn ≡ true → good ≡ answered tt → leaves r s f g call ≡ o
+    read_given t e = pass r s f g turn number.order _ t ∙ lent-read (answered o) e
 
   -- a call that tests a number between the two
   module _ (turn ok : Bool) (rest : Outcome Out) where

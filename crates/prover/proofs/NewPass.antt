@@ -11,7 +11,7 @@ use Rattle.vector.specs.Vector.{Vector}
 use Rattle.kernel.specs.Kernel.{empty_kernel, padding_kernel}
 use Rattle.vector.proofs.Rounds.{rounds-enough, size-all}
 use Rattle.vector.proofs.StackCount.{ones_below_lem}
-use Rattle.kernel.proofs.KernelLevels.{levelled_padding, levelled-count}
+use Rattle.kernel.proofs.KernelLevels.{levelled_padding, levelled_count}
 use Rattle.kernel.proofs.KernelPass.{Taken}
 use Rattle.kernel.proofs.KernelOpen.{taken-padding}
 use Rattle.phase.specs.declared.Next.TheVariants as next
@@ -58,7 +58,7 @@ module _ (r : Run) (s : Pass) (h : Formed r s) where
   pub padded-room : (padded_kernel r).fcount ≤ 15
   padded-room =
       let l = levelled_padding (padding r) (level_of r Asked) level-few in
-      omega (arith, levelled-count (level_of r Asked) (padding r) (padded_kernel r) l, ones_below_lem 15 (suc (level_of r Asked)) (padding r) padding-below)
+      omega (arith, levelled_count (level_of r Asked) (padding r) (padded_kernel r) l, ones_below_lem 15 (suc (level_of r Asked)) (padding r) padding-below)
 
   -- of any two vectors whose items from L on are zero, the padding is what the pass has taken
   pub padded-taken : (p : ℕ) (c : ℕ → ℕ) (at : Points) (f g : Vector) → ((j : ℕ) → r.start.items ≤ j → f j ≡ 0) → ((j : ℕ) → r.start.items ≤ j → g j ≡ 0)

@@ -16,25 +16,25 @@ module _ (p : ℕ) (r : Run) (s : Pass) where
   unfolding open_call
   open_order a = ap (λ t. require t number.order (answered (opened r no_points (open_kernel r)))) a
 
-  pub open-answered : may_open p r s ≡ true → open_call p r s ≡ answered (opened r no_points (open_kernel r))
+  pub open_answered : may_open p r s ≡ true → open_call p r s ≡ answered (opened r no_points (open_kernel r))
   unfolding open_call
-  open-answered a = ap (λ t. require t number.order (answered (opened r no_points (open_kernel r)))) a
+  open_answered a = ap (λ t. require t number.order (answered (opened r no_points (open_kernel r)))) a
 
   module _ (b : ℕ) where
     abbrev point_row : Bool → Outcome Out
     point_row t = require t number.argument (answered (opened r (points_of p b) (padded_kernel r)))
 
-    pub open-at-order : may_open_at p r s ≡ false → open_at_call p r s b ≡ refused number.order
+    pub open_at_order : may_open_at p r s ≡ false → open_at_call p r s b ≡ refused number.order
     unfolding open_at_call
-    open-at-order a = ap (λ t. require t number.order (point_row (is_nonzero p b))) a
+    open_at_order a = ap (λ t. require t number.order (point_row (is_nonzero p b))) a
 
     module _ (a : may_open_at p r s ≡ true) where
       open_at_turn : open_at_call p r s b ≡ point_row (is_nonzero p b)
       unfolding open_at_call
       open_at_turn = ap (λ t. require t number.order (point_row (is_nonzero p b))) a
 
-      pub open-at-argument : is_nonzero p b ≡ false → open_at_call p r s b ≡ refused number.argument
-      open-at-argument e = open_at_turn ∙ ap point_row e
+      pub open_at_argument : is_nonzero p b ≡ false → open_at_call p r s b ≡ refused number.argument
+      open_at_argument e = open_at_turn ∙ ap point_row e
 
-      pub open-at-answered : is_nonzero p b ≡ true → open_at_call p r s b ≡ answered (opened r (points_of p b) (padded_kernel r))
-      open-at-answered e = open_at_turn ∙ ap point_row e
+      pub open_at_answered : is_nonzero p b ≡ true → open_at_call p r s b ≡ answered (opened r (points_of p b) (padded_kernel r))
+      open_at_answered e = open_at_turn ∙ ap point_row e

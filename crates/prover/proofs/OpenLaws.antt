@@ -29,7 +29,7 @@ use Rattle.pass.specs.Open.{new_pass, no_points, points_of}
 use Rattle.prover.specs.Open.{may_open, may_open_at, padded_kernel, open_kernel, opened, open_call, open_at_call}
 use Rattle.prover.proofs.Facts.{formed}
 use Rattle.prover.proofs.Decides.{Nonzero, nonzero, not_so}
-use Rattle.prover.proofs.OpenFacts.{open-answered, open-at-answered}
+use Rattle.prover.proofs.OpenFacts.{open_answered, open_at_answered}
 use Rattle.prover.proofs.OpenTurns.{TakesPass, total, message, ends, OpenTurn, OpenAtTurn, open_turn, open_at_turn}
 use Rattle.prover.proofs.NewPass.{new_formed, padded-counts, padded-room, open_counts}
 
@@ -121,11 +121,11 @@ open_at_gives p r s b o e = (subst (OpenAtSays p r s b) e (open_at_says p r s b)
 
 -- a proper opening is answered
 pub open_opens : (p : ℕ) (r : Run) (s : Pass) → OpenTurn p r s → open_call p r s ≡ answered (opened r no_points (open_kernel r))
-open_opens p r s t = open-answered p r s ((open_turn p r s).back t)
+open_opens p r s t = open_answered p r s ((open_turn p r s).back t)
 
 pub open_at_opens : (p : ℕ) (r : Run) (s : Pass) (b : ℕ) → OpenAtTurn p r s → Nonzero p b
     → open_at_call p r s b ≡ answered (opened r (points_of p b) (padded_kernel r))
-open_at_opens p r s b t e = open-at-answered p r s b ((open_at_turn p r s).back t) ((nonzero p b).back e)
+open_at_opens p r s b t e = open_at_answered p r s b ((open_at_turn p r s).back t) ((nonzero p b).back e)
 
 -- "opening a pass anew drops the unfinished one": whatever the pass was
 pub open_anew : (p : ℕ) (r : Run) (s unfinished : Pass) → OpenTurn p r s → OpenTurn p r unfinished → open_call p r unfinished ≡ open_call p r s

@@ -123,13 +123,13 @@ module _ (p : ℕ) (r : Run) (s : Pass) (f g : List ℕ) where
 
 -- the outcomes of a return
 module _ (p : ℕ) (r : Run) (s : Pass) where
-  pub return-never : may_return p r s ≡ false → leaves r s [] [] (to_small_call p r s) ≡ out (refused_step r s number.order) [] []
+  pub return_never : may_return p r s ≡ false → leaves r s [] [] (to_small_call p r s) ≡ out (refused_step r s number.order) [] []
   unfolding to_small_call
-  return-never a = stop r s [] [] (may_return p r s) number.order _ a
+  return_never a = stop r s [] [] (may_return p r s) number.order _ a
 
-  pub return-made : may_return p r s ≡ true → leaves r s [] [] (to_small_call p r s) ≡ returns r s
+  pub return_made : may_return p r s ≡ true → leaves r s [] [] (to_small_call p r s) ≡ returns r s
   unfolding to_small_call
-  return-made a = pass r s [] [] (may_return p r s) number.order _ a
+  return_made a = pass r s [] [] (may_return p r s) number.order _ a
 
 -- a check in a row, of a call with no buffers
 module _ (r : Run) (s : Pass) where
@@ -165,9 +165,9 @@ module _ (p : ℕ) (r : Run) (s : Pass) where
 
 -- the outcomes of writing the proof
 module _ (p : ℕ) (r : Run) (s : Pass) (file : List ℕ) where
-  pub write-never : may_write p r s ≡ false → write_call p r s file ≡ refused number.order
+  pub write_never : may_write p r s ≡ false → write_call p r s file ≡ refused number.order
   unfolding write_call
-  write-never h = ap (λ b. require b number.order (write_proof p r.start.rounds r.total r.messages r.fend r.gend file)) h
+  write_never h = ap (λ b. require b number.order (write_proof p r.start.rounds r.total r.messages r.fend r.gend file)) h
 
   pub write_then : may_write p r s ≡ true → write_call p r s file ≡ write_proof p r.start.rounds r.total r.messages r.fend r.gend file
   unfolding write_call

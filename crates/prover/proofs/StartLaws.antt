@@ -18,7 +18,7 @@ use Rattle.vector.specs.Rounds.{rounds_of}
 use Rattle.vector.specs.Vector.{at}
 use Rattle.vector.specs.Slice.{is_nonzero, all_nonzero}
 use Rattle.vector.proofs.Rounds.{rounds_power}
-use Rattle.vector.proofs.Every.{all-nonzero-iff}
+use Rattle.vector.proofs.Every.{all-nonzero_iff}
 use Rattle.prover.specs.declared.Run.{Run}
 use Rattle.prover.specs.Records.{Out}
 use Rattle.pass.specs.Formed.{pass_formed, turn_formed}
@@ -45,7 +45,7 @@ pub twists_fit : (p n : ℕ) (twists : List ℕ) → Decides (list_fits p n twis
 twists_fit p n twists =
     decide_both {a = eqb (length twists) n} {b = all_nonzero p n twists}
     (record { so = eqb-true (length twists) n; back = eq-eqb (length twists) n })
-    (record { so = (all-nonzero-iff p n twists).0; back = (all-nonzero-iff p n twists).1 })
+    (record { so = (all-nonzero_iff p n twists).0; back = (all-nonzero_iff p n twists).1 })
 
 -- the rows of a start, each after those above it: Count is what 3 asks, Argument what 6 asks
 pub data StartRefused (Count Argument : Type 0) : ℕ → Type 0 where

@@ -23,8 +23,8 @@ module _ (file : List ℕ) (k : ℕ) (there : entry_at (k + 1) ≤ length file) 
       → ◌≡◌ {A = Entry} (record { row = row; column = column; value = value }) (entry file k)
   entry_read row column value h = ap (contents (entry file k)) (sym (ap entry_of h) ∙ e ∙ entry-there)
 
-  pub entry-not-missing : r ≡ read.Nothing → ⊥
-  entry-not-missing h =
+  pub entry-not_missing : r ≡ read.Nothing → ⊥
+  entry-not_missing h =
       let z : nothing ≡ found (entry file k) = sym (ap entry_of h) ∙ e ∙ entry-there in
       let n : ◌≡◌ {A = ℕ} 0 1 = cc in
       omega arith

@@ -12,7 +12,7 @@ use Rattle.refusal.proofs.Outcome.{failed, fails, require-says}
 use Rattle.wire.specs.Matrix.{Shape, read_matrix}
 use Rattle.wire.proofs.MatrixSays.{GoodMatrix, MatrixRefused, Faulty, MatrixSays, matrix-says, matrix-said}
 use Rattle.r1cs.specs.Product.{rule_vector, after_shape, product_call}
-use Rattle.r1cs.proofs.Vectors.{RuleVector, vector-of, of-vector}
+use Rattle.r1cs.proofs.Vectors.{RuleVector, vector-of, of_vector}
 use Rattle.r1cs.proofs.ProductRows.{row-vector, row-buffer, row_done}
 
 -- answered
@@ -40,7 +40,7 @@ module _ (p : ℕ) (file z out : List ℕ) where
   after-says (answered shape) good =
       let n = shape.rounds in
       require-says (ProductSays p file z out) (rule_vector p (2 ^ n) z) _ _
-      (λ bad. by_vector shape good (λ v. failed bad (of-vector p (2 ^ n) z v)))
+      (λ bad. by_vector shape good (λ v. failed bad (of_vector p (2 ^ n) z v)))
       λ fits.
       let v = vector-of p (2 ^ n) z fits in
       require-says (ProductSays p file z out) (leb (2 ^ n) (length out)) _ _
@@ -53,23 +53,23 @@ module _ (p : ℕ) (file z out : List ℕ) where
   product-says = after-says (read_matrix p file) (matrix-says p file)
 
   -- what follows a file that was read
-  past-file : (shape : Shape) → GoodMatrix p file shape → product_call p file z out ≡ after_shape p z out (answered shape)
-  past-file shape good = ap (after_shape p z out) (matrix-said p file (answered shape) good)
+  past_file : (shape : Shape) → GoodMatrix p file shape → product_call p file z out ≡ after_shape p z out (answered shape)
+  past_file shape good = ap (after_shape p z out) (matrix-said p file (answered shape) good)
 
   -- each outcome, both ways
   pub product-said : (o : Outcome ℕ) → ProductSays p file z out o → product_call p file z out ≡ o
   unfolding after_shape
   product-said (answered n) h =
       let shape : Shape = record { rounds = n; count = h.count } in
-      past-file shape h.matrix
-      ∙ row_done p z out shape (of-vector p (2 ^ n) z h.vector) (le-leb (2 ^ n) (length out) h.buffer)
+      past_file shape h.matrix
+      ∙ row_done p z out shape (of_vector p (2 ^ n) z h.vector) (le-leb (2 ^ n) (length out) h.buffer)
   product-said (refused k) (by_file_lem h) = ap (after_shape p z out) (matrix-said p file (refused k) h)
   product-said (refused k) (by_vector shape good bad) =
       let size = 2 ^ shape.rounds in
-      past-file shape good ∙ row-vector p z out shape (fails (rule_vector p size z) (λ e. bad (vector-of p size z e)))
+      past_file shape good ∙ row-vector p z out shape (fails (rule_vector p size z) (λ e. bad (vector-of p size z e)))
   product-said (refused k) (by_buffer shape good v short) =
       let size = 2 ^ shape.rounds in
-      past-file shape good ∙ row-buffer p z out shape (of-vector p size z v) (lt-leb size (length out) short)
+      past_file shape good ∙ row-buffer p z out shape (of_vector p size z v) (lt-leb size (length out) short)
   product-said (refused_at k i) h = ap (after_shape p z out) (matrix-said p file (refused_at k i) h)
 
   -- an answered product

@@ -24,8 +24,8 @@ module _ (z : Vector) (x : ℕ) where
   abbrev only : ℕ → Vector
   only c j = cond (eqb c j) x 0 * z j
 
-  off-place : (c j : ℕ) → (c ≡ j → ⊥) → only c j ≡ 0
-  off-place c j other = rw (ne_eqb c j other) (zero-mul (z j))
+  off_place : (c j : ℕ) → (c ≡ j → ⊥) → only c j ≡ 0
+  off_place c j other = rw (ne_eqb c j other) (zero-mul (z j))
 
   -- a row with one number
   one_place : (size c : ℕ) → c < size → sum size (only c) ≡ x * z c
@@ -34,11 +34,11 @@ module _ (z : Vector) (x : ℕ) where
   one_place (suc size) c less =
       ⊎_elim
       (λ (last : c ≡ size).
-      ap₂ ◌+◌ (sum-zero size (only c) (λ j l. off-place c j (λ q. omega arith)))
+      ap₂ ◌+◌ (sum-zero size (only c) (λ j l. off_place c j (λ q. omega arith)))
       (rw (eq-eqb c size last) (ap (λ k. x * z k) (sym last)))
       ∙ zero-add (x * z c))
       (λ (below : c < size).
-      ap₂ ◌+◌ (one_place size c below) (off-place c size (λ q. omega arith)) ∙ add-zero (x * z c))
+      ap₂ ◌+◌ (one_place size c below) (off_place c size (λ q. omega arith)) ∙ add-zero (x * z c))
       (eq-or-lt_of_le (omega arith))
 
 module _ (e : Entry) (z : Vector) (size i : ℕ) where
@@ -120,7 +120,7 @@ module _ (p size : ℕ) (file : List ℕ) (z : Vector) where
   all-added k xs ys zs all cleared e =
       e ∙ ap₂ (λ m us. overwrite (first_times m) size us) all cleared ∙ overwrite-again (λ i. 0) (first_times (matrix_count file)) size xs
 
-  pub none-added : (xs ys : List ℕ) → ys ≡ overwrite (λ i. 0) size xs → ys ≡ overwrite (first_times 0) size ys
-  none-added xs ys cleared =
+  pub none_added : (xs ys : List ℕ) → ys ≡ overwrite (λ i. 0) size xs → ys ≡ overwrite (first_times 0) size ys
+  none_added xs ys cleared =
       cleared ∙ sym (overwrite-again (λ i. 0) (λ i. 0) size xs) ∙ ap (overwrite (λ i. 0) size) (sym cleared)
       ∙ overwrite-same (λ i. 0) (first_times 0) size ys (λ i l. no-entries i)

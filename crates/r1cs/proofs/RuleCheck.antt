@@ -23,7 +23,7 @@ use Rattle.verifier.proofs.Answered.{start-rule_says}
 use Rattle.r1cs.specs.Product.{matrix_in, product_of, product_call, product_in, product_leaves}
 use Rattle.r1cs.specs.Claim.{claim_call}
 use Rattle.r1cs.specs.Check.{rule_total, rule_message, rule_claim, NoRowFails, RulesHold, rule_verdict}
-use Rattle.r1cs.proofs.Vectors.{RuleVector, of-vector}
+use Rattle.r1cs.proofs.Vectors.{RuleVector, of_vector}
 use Rattle.r1cs.proofs.ProductSays.{product-answered}
 use Rattle.r1cs.proofs.ClaimRows.{claim-answered}
 use Rattle.r1cs.proofs.RuleTotals.{rule-total, rule-claim}
@@ -79,8 +79,8 @@ module _ (p : ℕ) (file_a file_b file_c z out_a out_b out_c : List ℕ) (n v : 
   cz = take (2 ^ n) (product_leaves p file_c z out_c)
 
   -- the run's total
-  pub check-total : rule_total p v n az bz ≡ residue p (sum (2 ^ n) (λ i. az i * bz i * v ^ i))
-  check-total = rule-total p v n (product-rounds p file_a z out_a n answers-a) az bz
+  pub check_total : rule_total p v n az bz ≡ residue p (sum (2 ^ n) (λ i. az i * bz i * v ^ i))
+  check_total = rule-total p v n (product-rounds p file_a z out_a n answers-a) az bz
 
   cz-at : (i : ℕ) → i < 2 ^ n → at cz i ≡ product_of p n file_c z i
   cz-at i less = get_or-take (2 ^ n) (product_leaves p file_c z out_c) i 0 less ∙ product_at p file_c z out_c n answers-c i less
@@ -98,11 +98,11 @@ module _ (p : ℕ) (file_a file_b file_c z out_a out_b out_c : List ℕ) (n v : 
       }
 
   -- the claim of the first 2^n places is answered
-  pub check-claim : is_nonzero p v ≡ true → claim_call p cz n v ≡ answered (rule_claim p v n (product_of p n file_c z))
-  check-claim point =
+  pub check_claim : is_nonzero p v ≡ true → claim_call p cz n v ≡ answered (rule_claim p v n (product_of p n file_c z))
+  check_claim point =
       sym
       (claim-answered p cz n v (le-leb n max_rounds (product-rounds p file_c z out_c n answers-c)) point
-      (of-vector p (2 ^ n) cz (cz-vector (above_zero p v point))))
+      (of_vector p (2 ^ n) cz (cz-vector (above_zero p v point))))
       ∙ ap answered (evaluate-same p (2 ^ n) (at cz) (product_of p n file_c z) v cz-at)
 
   -- no row of the three matrices fails: the claim is the run's total
@@ -111,9 +111,9 @@ module _ (p : ℕ) (file_a file_b file_c z out_a out_b out_c : List ℕ) (n v : 
     rows-hold i less =
         ap₂ (mul_mod p) (product_at p file_a z out_a n answers-a i less) (product_at p file_b z out_b n answers-b i less) ∙ holds i less
 
-    pub check-claim-total : is_nonzero p v ≡ true → claim_call p cz n v ≡ answered (rule_total p v n az bz)
-    check-claim-total point =
-        check-claim point
+    pub check_claim_total : is_nonzero p v ≡ true → claim_call p cz n v ≡ answered (rule_total p v n az bz)
+    check_claim_total point =
+        check_claim point
         ∙ ap answered
         (sym (rule-claim p v n (product-rounds p file_a z out_a n answers-a) az bz (product_of p n file_c z) rows-hold))
 
@@ -129,18 +129,18 @@ module _ (p : ℕ) (file_a file_b file_c z out_a out_b out_c : List ℕ) (n v : 
     b-field = product-reduced p file_b z out_b n answers-b (above_zero p v point)
 
     -- THE RULE CHECK: yes where no row fails
-    pub check-accepts : RulesHold p n file_a file_b file_c z
+    pub check_accepts : RulesHold p n file_a file_b file_c z
         → rule_verdict p n s.verifier az bz claim (rule_message p v n (at cs) az bz) ≡ answered yes
-    check-accepts holds =
-        ap (λ x. rule_verdict p n s.verifier az bz x (rule_message p v n (at cs) az bz)) (claim-of (sym claims ∙ check-claim-total holds point))
+    check_accepts holds =
+        ap (λ x. rule_verdict p n s.verifier az bz x (rule_message p v n (at cs) az bz)) (claim-of (sym claims ∙ check_claim_total holds point))
         ∙ rule-yes p n v cs az bz s starts a-field b-field
 
     -- and no at 0 where the total is not the claim, so that a row fails
-    pub check-rejects : (rule_total p v n az bz ≡ claim → ⊥)
+    pub check_rejects : (rule_total p v n az bz ≡ claim → ⊥)
         → rule_verdict p n s.verifier az bz claim (rule_message p v n (at cs) az bz) ≡ answered (no 0)
-    check-rejects other =
+    check_rejects other =
         let e = base-of p (above_zero p v point) in
-        let value = claim-of (sym claims ∙ check-claim point) in
+        let value = claim-of (sym claims ∙ check_claim point) in
         rule-no p n v cs az bz s starts a-field b-field claim
         (lt-ltb claim p
         (omega (arith, value, residue-lt p (sum (2 ^ n) (λ i. product_of p n file_c z i * v ^ i)))))

@@ -9,7 +9,7 @@ use lib.ListN.{length, replicate}
 use lib.Seq.{get_or-take, length-take-le}
 use borrow.Author.Tests.{ltb-true, lt-ltb}
 use Rattle.algebra.specs.Mod.{residue, mul_mod, pow_mod}
-use Rattle.algebra.proofs.Congruence.{Cong, cong-refl, cong-trans, cong-eq, cong-mul, cong-residue, mul-cong}
+use Rattle.algebra.proofs.Congruence.{Cong, cong_refl, cong_trans, cong_eq, cong_mul, cong_residue, mul_cong}
 use Rattle.vector.specs.Vector.{Vector, at, sum, dot, weight, padded, twisted}
 use Rattle.vector.specs.Twist.{twist_of, twists_of}
 use Rattle.vector.proofs.Sums.{sum-cong}
@@ -23,9 +23,9 @@ use Rattle.r1cs.specs.Check.{rule_twists, rule_first, rule_total, rule_claim, No
 module _ {p : ℕ} where
   pow_cong : (v i : ℕ) → Cong p (pow_mod p v i) (v ^ i)
   unfolding pow_mod
-  pow_cong v zero = cong-trans (cong-residue 1) (cong-eq (sym (pow-zero v)))
+  pow_cong v zero = cong_trans (cong_residue 1) (cong_eq (sym (pow-zero v)))
   pow_cong v (suc i) =
-      cong-trans (mul-cong v (pow_mod p v i)) (cong-trans (cong-mul (cong-refl v) (pow_cong v i)) (cong-eq (sym (pow-succ' v i))))
+      cong_trans (mul_cong v (pow_mod p v i)) (cong_trans (cong_mul (cong_refl v) (pow_cong v i)) (cong_eq (sym (pow-succ' v i))))
 
 pub padded-same : (items : ℕ) (u w : Vector) → ((i : ℕ) → i < items → u i ≡ w i) → padded items u ≡ padded items w
 padded-same items u w e = fun_ext (λ i. by i (ltb i items) refl)
@@ -35,14 +35,14 @@ padded-same items u w e = fun_ext (λ i. by i (ltb i items) refl)
     by i false h = refl
 
 module _ (p v n : ℕ) (small : n ≤ 15) where
-  twists-length : length (rule_twists p v n) ≡ n
-  twists-length =
+  twists_length : length (rule_twists p v n) ≡ n
+  twists_length =
       length-take-le n (twists_of p v n)
       (omega (arith, overwrite-length (twist_of p v) (replicate 15 0) (min n 15)))
 
   rule-weight : (i : ℕ) → i < 2 ^ n → weight p (at (rule_twists p v n)) (length (rule_twists p v n)) i ≡ pow_mod p v i
   rule-weight i less =
-      ap (λ k. weight p (at (rule_twists p v n)) k i) twists-length
+      ap (λ k. weight p (at (rule_twists p v n)) k i) twists_length
       ∙ weight-challenges p (at (twists_of p v n)) (at (rule_twists p v n)) n i (λ k h. get_or-take n (twists_of p v n) k 0 h)
       ∙ twists_weight p v n i small less
 
@@ -67,8 +67,8 @@ module _ (p v n : ℕ) (small : n ≤ 15) where
       ∙ dot-padded p (2 ^ n) (2 ^ n) (omega arith) (λ i. mul_mod p (a i) (pow_mod p v i)) b
       ∙ (sum-cong (2 ^ n) (λ i. mul_mod p (a i) (pow_mod p v i) * b i) (λ i. a i * b i * v ^ i)
       (λ i less.
-      cong-trans (cong-mul (cong-trans (mul-cong (a i) (pow_mod p v i)) (cong-mul (cong-refl (a i)) (pow_cong v i))) (cong-refl (b i)))
-      (cong-eq (mul_right_comm (a i) (v ^ i) (b i))))
+      cong_trans (cong_mul (cong_trans (mul_cong (a i) (pow_mod p v i)) (cong_mul (cong_refl (a i)) (pow_cong v i))) (cong_refl (b i)))
+      (cong_eq (mul_right_comm (a i) (v ^ i) (b i))))
       ).residues
 
   -- "which is the run's total when no row fails"
@@ -77,5 +77,5 @@ module _ (p v n : ℕ) (small : n ≤ 15) where
   rule-claim a b c holds =
       rule-total a b
       ∙ (sum-cong (2 ^ n) (λ i. a i * b i * v ^ i) (λ i. c i * v ^ i)
-      (λ i less. cong-mul (record { residues = holds i less }) (cong-refl (v ^ i)))
+      (λ i less. cong_mul (record { residues = holds i less }) (cong_refl (v ^ i)))
       ).residues

@@ -29,14 +29,14 @@ use Rattle.r1cs.proofs.RuleTotals.{rule-first}
 
 -- the messages of two vectors under another claim than their scalar product
 module _ (p : ℕ) (c : ℕ → ℕ) (f g : Vector) (claim : ℕ) where
-  other-claim : (n : ℕ) → (dot p (2 ^ n) f g ≡ claim → ⊥)
+  other_claim : (n : ℕ) → (dot p (2 ^ n) f g ≡ claim → ⊥)
       → verdict_of p c n claim (vector.message p n c f g) (mul_mod p (end_value p c n f) (end_value p c n g)) ≡ no 0
   unfolding verdict_of first_fault claim_at
-  other-claim zero other =
+  other_claim zero other =
       let product = mul_mod p (end_value p c 0 f) (end_value p c 0 g) in
       let total : product ≡ dot p (2 ^ 0) f g = sym (last-claim p 0 c f g) ∙ first-claim p 0 c f g in
       rw (ne_eqb claim product (λ e. other (sym (e ∙ total))))
-  other-claim (suc n) other =
+  other_claim (suc n) other =
       let m = vector.message p (suc n) c f g in
       let total : vector.passes p (m 0) ≡ dot p (2 ^ suc n) f g =
       message-passes p (suc n) c f g 0 (omega arith) ∙ first-claim p (suc n) c f g in
@@ -85,4 +85,4 @@ module _ (p n v : ℕ) (cs : List ℕ) (a b : Vector) (s : Replied) (starts : st
       → rule_verdict p n s.verifier a b claim (rule_message p v n (at cs) a b) ≡ answered (no 0)
   rule-no claim h other =
       rule-finds claim (rule_message p v n (at cs) a b) h (message-reduced p n (at cs) f g positive)
-      ∙ ap answered (other-claim p (at cs) f g claim n other)
+      ∙ ap answered (other_claim p (at cs) f g claim n other)

@@ -12,7 +12,7 @@ use Rattle.vector.specs.Vector.{at}
 use Rattle.vector.specs.Opening.{evaluate}
 use Rattle.vector.specs.Slice.{all_reduced, evaluate_slice}
 use Rattle.vector.proofs.Rounds.{size-all}
-use Rattle.vector.proofs.Every.{all-reduced-iff}
+use Rattle.vector.proofs.Every.{all-reduced_iff}
 use Rattle.r1cs.specs.Product.{rule_vector}
 
 both : (a b : Bool) → cond a b false ≡ true → (a ≡ true) × (b ≡ true)
@@ -33,11 +33,11 @@ module _ (p size : ℕ) (xs : List ℕ) where
   unfolding rule_vector
   vector-of h =
       let t = both (eqb (length xs) size) (all_reduced p size xs) h in
-      record { long = eqb-true (length xs) size t.0; reduced = (all-reduced-iff p size xs).0 t.1 }
+      record { long = eqb-true (length xs) size t.0; reduced = (all-reduced_iff p size xs).0 t.1 }
 
-  pub of-vector : RuleVector p size xs → rule_vector p size xs ≡ true
+  pub of_vector : RuleVector p size xs → rule_vector p size xs ≡ true
   unfolding rule_vector
-  of-vector h = rw (eq-eqb (length xs) size h.long) ((all-reduced-iff p size xs).1 h.reduced)
+  of_vector h = rw (eq-eqb (length xs) size h.long) ((all-reduced_iff p size xs).1 h.reduced)
 
   pub vector-value : (x : ℕ) → length xs ≡ size → evaluate_slice p size xs x ≡ evaluate p size (at xs) x
   unfolding evaluate_slice

@@ -19,7 +19,7 @@ use Rattle.kernel.proofs.KernelSteps.{fits-so}
 use Rattle.kernel.proofs.KernelTurns.{placed-fits}
 use Rattle.kernel.proofs.KernelOpen.{padded-fold}
 use Rattle.kernel.proofs.KernelLevels.{LevelledBelow}
-use Rattle.kernel.proofs.KernelChangePass.{Changing, arrives-last, arrives-below, reaches-last, stops-before}
+use Rattle.kernel.proofs.KernelChangePass.{Changing, arrives_last, arrives_below, reaches_last, stops_before}
 use Rattle.phase.specs.declared.Next.TheVariants as next
 use Rattle.phase.specs.declared.Kind.TheVariants.{Change}
 use Rattle.phase.specs.Cases.{is_change, waits}
@@ -96,10 +96,10 @@ module _ (p : ℕ) (r : Run) (s : Pass) (x : Item) (fs gs : List ℕ) (ok : run_
   abbrev after : (Climber → ℕ) → List ℕ → ℕ → ℕ → List ℕ
   after value xs a b = cond (eqb (pair a b).level i) (set xs place (value (pair a b))) xs
 
-  in-change : (a b : ℕ) → Paired (kernel_of s)
+  in_change : (a b : ℕ) → Paired (kernel_of s)
       → placed_item p r s a b fs gs ≡ placed_at i (fold_size r) (padding r + s.taken) (placed_of (kernel_of s) fs gs) (pair a b)
   unfolding placed_in
-  in-change a b pr =
+  in_change a b pr =
       let few = (run-facts p r ok).few in
       let level = run-level p r ok Change in
       ap (λ k. placed p r.challenges (level_of r k) (fold_size r) (padding r + s.taken) (placed_of (kernel_of s) fs gs) a b) change
@@ -108,7 +108,7 @@ module _ (p : ℕ) (r : Run) (s : Pass) (x : Item) (fs gs : List ℕ) (ok : run_
 
   taken-after : Paired (kernel_of s)
       → takes p r s x fs gs ≡ taken_item r s (placed_at i (fold_size r) (padding r + s.taken) (placed_of (kernel_of s) fs gs) (pair (entering p r s x) x.g))
-  taken-after pr = takes-place p r s x fs gs later (ap is_change change) ∙ ap (taken_item r s) (in-change (entering p r s x) x.g pr)
+  taken-after pr = takes-place p r s x fs gs later (ap is_change change) ∙ ap (taken_item r s) (in_change (entering p r s x) x.g pr)
 
   first-after : Paired (kernel_of s) → (takes p r s x fs gs).f ≡ after (λ e. e.f) fs (entering p r s x) x.g
   first-after pr = ap (λ o. o.f) (taken-after pr)
@@ -129,8 +129,8 @@ module _ (p : ℕ) (r : Run) (s : Pass) (x : Item) (fs gs : List ℕ) (ok : run_
         let few = (run-facts p r ok).few in
         let level = run-level p r ok Change in
         placed-kept i t (size n i) (pair a b).level place (value (pair a b)) xs there room
-        (reaches-last n few t ht p r.challenges a b i level (kernel_of s) h)
-        (stops-before n few t ht p r.challenges a b i level (kernel_of s) h)
+        (reaches_last n few t ht p r.challenges a b i level (kernel_of s) h)
+        (stops_before n few t ht p r.challenges a b i level (kernel_of s) h)
 
     pub item-kept : (let i : ℕ = level_of r Change in
         let from : ℕ = size r.start.rounds i - suc t / 2 ^ i in
@@ -156,8 +156,8 @@ module _ (p : ℕ) (r : Run) (s : Pass) (x : Item) (fs gs : List ℕ) (ok : run_
         let b : ℕ = g (2 ^ n - 1 - t) in
         subst (Written v (size n i - suc t / 2 ^ i) (size n i - t / 2 ^ i) xs) (ap₂ (after value xs) (sym first) (sym second))
         (placed-written i t (size n i) (pair a b).level place (value (pair a b)) xs there room
-        (λ e. (arrives-last p n c f g few r.challenges t ht i level agree (kernel_of s) h e).0)
-        (arrives-below p n c f g few r.challenges t ht i level (kernel_of s) h)
+        (λ e. (arrives_last p n c f g few r.challenges t ht i level agree (kernel_of s) h e).0)
+        (arrives_below p n c f g few r.challenges t ht i level (kernel_of s) h)
         v long right)
 
     pub item-written : size r.start.rounds (level_of r Change) ≤ length fs → size r.start.rounds (level_of r Change) ≤ length gs
@@ -169,7 +169,7 @@ module _ (p : ℕ) (r : Run) (s : Pass) (x : Item) (fs gs : List ℕ) (ok : run_
     item-written flong glong =
         let few = (run-facts p r ok).few in
         let level = run-level p r ok Change in
-        let last = arrives-last p n c f g few r.challenges t ht i level agree (kernel_of s) h in (
+        let last = arrives_last p n c f g few r.challenges t ht i level agree (kernel_of s) h in (
           subst (Written (fold p c i f) (size n i - suc t / 2 ^ i) (size n i - t / 2 ^ i) fs) (sym (first-after h.paired))
               (after-written (fold p c i f) (λ e. e.f) fs flong (λ e. (last e).1)),
           subst (Written (fold p c i g) (size n i - suc t / 2 ^ i) (size n i - t / 2 ^ i) gs) (sym (second-after h.paired))

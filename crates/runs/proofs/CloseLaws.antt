@@ -16,7 +16,7 @@ use Rattle.kernel.specs.KernelView.{sums_of}
 use Rattle.vector.proofs.Folds.{fold-reduced}
 use Rattle.vector.specs.Stack.{ones}
 use Rattle.kernel.proofs.KernelPass.{Taken, taken-first, taken-second, taken-count, taken-at-most}
-use Rattle.kernel.proofs.KernelEnds.{taken-message, taken-end-first, taken-end-second}
+use Rattle.kernel.proofs.KernelEnds.{taken-message, taken-end_first, taken-end_second}
 use Rattle.phase.specs.declared.Next.TheVariants.{Message, Ends, Openings}
 use Rattle.phase.specs.declared.Kind.TheVariants.{Asked}
 use Rattle.phase.specs.Level.{level_at}
@@ -39,8 +39,8 @@ use Rattle.runs.proofs.RunFacts.{run-facts, run-level}
 module _ (p : ℕ) (c : ℕ → ℕ) (f g : Vector) (r : Run) (s : Pass) (ok : run_formed p r ≡ true) (t : ℕ)
     (h : Taken p r.start.rounds c (level_of r s.kind) s.points f g t (kernel_of s)) where
   -- one entry for each binary one of t modulo 2^(i+1)
-  pub stack-counts : (s.fcount ≡ ones (suc (level_of r s.kind)) t) × (s.gcount ≡ ones (suc (level_of r s.kind)) t)
-  stack-counts =
+  pub stack_counts : (s.fcount ≡ ones (suc (level_of r s.kind)) t) × (s.gcount ≡ ones (suc (level_of r s.kind)) t)
+  stack_counts =
       let few = (run-facts p r ok).few in
       let first = taken-count p r.start.rounds c (level_of r s.kind) s.points f g few (run-level p r ok s.kind) t (kernel_of s) h in
       (first, h.paired.counts ∙ first)
@@ -79,8 +79,8 @@ module _ (p : ℕ) (c : ℕ → ℕ) (f g : Vector) (r : Run) (s : Pass) (ok : r
   pub end_values : r.next ≡ Ends → (get_or s.fvalues 0 0 ≡ end_value p c r.start.rounds f) × (get_or s.gvalues 0 0 ≡ end_value p c r.start.rounds g)
   end_values next =
       let level : level_of r s.kind ≡ r.start.rounds = ap (λ a. level_at r.start.rounds r.round a s.kind) next in (
-        taken-end-first p r.start.rounds c s.points f g (kernel_of s) (subst At level h),
-        taken-end-second p r.start.rounds c s.points f g (kernel_of s) (subst At level h),
+        taken-end_first p r.start.rounds c s.points f g (kernel_of s) (subst At level h),
+        taken-end_second p r.start.rounds c s.points f g (kernel_of s) (subst At level h),
       )
 
   pub closed-ends : r.next ≡ Ends

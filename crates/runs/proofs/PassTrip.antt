@@ -69,16 +69,16 @@ module _ (p : ℕ) (r : Run) (its : List Given) where
   abbrev item_g : Vector
   item_g i = (contributes p r.start (trip_item (trip_of r its) i)).g
 
-  pairs-at : (xs : List Given) → length xs ≤ r.start.items → Gives (trip_of r its) xs → (q : ℕ) → q < length xs
+  pairs_at : (xs : List Given) → length xs ≤ r.start.items → Gives (trip_of r its) xs → (q : ℕ) → q < length xs
       → get_or (pairs_of p r xs) q (0, 0) ≡ beside item_f item_g (r.start.items - length xs + q)
   unfolding pairs_of
-  pairs-at [] l h q less = absurd (omega arith)
-  pairs-at (x ∷ xs) l h zero less =
+  pairs_at [] l h q less = absurd (omega arith)
+  pairs_at (x ∷ xs) l h zero less =
       ap (λ i. (enters_as p r.start i (contributes p r.start x).f, (contributes p r.start x).g)) (first-place r.start.items (length xs))
       ∙ ap (λ y. (enters_as p r.start (r.start.items - suc (length xs) + 0) (contributes p r.start y).f, (contributes p r.start y).g)) (h 0 less)
-  pairs-at (x ∷ xs) l h (suc q) less =
+  pairs_at (x ∷ xs) l h (suc q) less =
       let e : r.start.items - length xs + q ≡ r.start.items - suc (length xs) + suc q = omega arith in
-      pairs-at xs (omega arith) (gives_rest (trip_of r its) x xs l h) q (omega arith) ∙ ap (beside item_f item_g) e
+      pairs_at xs (omega arith) (gives_rest (trip_of r its) x xs l h) q (omega arith) ∙ ap (beside item_f item_g) e
 
   beyond : (v : Vector) (j : ℕ) → r.start.items ≤ j → padded r.start.items v j ≡ 0
   beyond v j h = ap (λ t. cond t (v j) 0) (le-ltb j r.start.items h)
@@ -87,14 +87,14 @@ module _ (p : ℕ) (r : Run) (its : List Given) where
   before v j h = sym (ap (λ t. cond t (v j) 0) (lt-ltb j r.start.items h))
 
   -- the pairs of a pass are the last items of the trip's vectors
-  vectors-at : (xs : List Given) → length xs ≤ r.start.items → Gives (trip_of r its) xs → (q : ℕ) → q < length (pairs_of p r xs)
+  vectors_at : (xs : List Given) → length xs ≤ r.start.items → Gives (trip_of r its) xs → (q : ℕ) → q < length (pairs_of p r xs)
       → get_or (pairs_of p r xs) q (0, 0) ≡ beside (vector_f p (trip_of r its)) (vector_g p (trip_of r its)) (r.start.items - length (pairs_of p r xs) + q)
-  vectors-at xs l h q less =
+  vectors_at xs l h q less =
       let m : length (pairs_of p r xs) ≡ length xs = pairs_length p r xs in
       let i : ℕ = r.start.items - length xs + q in
       let in-trip : i < r.start.items = omega arith in
       rw m
-      (pairs-at xs l h q (omega arith) ∙ ap₂ (λ a b. (a, b)) (before item_f i in-trip) (before item_g i in-trip))
+      (pairs_at xs l h q (omega arith) ∙ ap₂ (λ a b. (a, b)) (before item_f i in-trip) (before item_g i in-trip))
 
   -- the products of a pass for the total run from the last item down
   summed : (k : Kind) (b : ℕ) → waits next.Total r.next ≡ true → r.start.plain ≡ false → (xs : List Given) → length xs ≤ r.start.items → Gives (trip_of r its) xs
@@ -137,7 +137,7 @@ module _ (p : ℕ) (r : Run) (b : ℕ) (xs : List Given) (formed : run_formed p 
         (subst (λ q. Taken p r.start.rounds c i on f g (2 ^ r.start.rounds - r.start.items + length xs) q) (sym kernel)
         (subst (λ m. Taken p r.start.rounds c i on f g (2 ^ r.start.rounds - r.start.items + m) (stream_of p r.challenges i on (padding_kernel (2 ^ r.start.rounds - r.start.items) i) (pairs_of p r xs))) more
         (taken_pass p r.start.rounds c i on f g w.few (w.level Asked) r.challenges agree r.start.items w.enough (beyond p r its (item_f p r its)) (beyond p r its (item_g p r its))
-        (pairs_of p r xs) (omega arith) (vectors-at p r its xs within h))))
+        (pairs_of p r xs) (omega arith) (vectors_at p r its xs within h))))
 
     -- the trip's items from L-1 down, with their padding
     pub after-given : (T : Trip) → T.start ≡ r.start → Gives T xs
@@ -161,7 +161,7 @@ module _ (p : ℕ) (r : Run) (b : ℕ) (xs : List Given) (formed : run_formed p 
         subst (Changing p r.start.rounds c i f g (2 ^ r.start.rounds - r.start.items + length xs)) (sym kernel)
         (subst (λ m. Changing p r.start.rounds c i f g (2 ^ r.start.rounds - r.start.items + m) (change_of p r.challenges i (padding_below (2 ^ r.start.rounds - r.start.items) i) (pairs_of p r xs))) more
         (changing-pass p r.start.rounds c i f g w.few (w.level Change) r.challenges agree r.start.items w.enough (beyond p r its (item_f p r its)) (beyond p r its (item_g p r its))
-        (pairs_of p r xs) (omega arith) (vectors-at p r its xs within h)))
+        (pairs_of p r xs) (omega arith) (vectors_at p r its xs within h)))
 
     -- the same of a change pass
     pub after-changing : (T : Trip) → T.start ≡ r.start → Gives T xs

@@ -3,7 +3,7 @@ use mathlib.Core.Path.{◌≡◌, sym, ap, ap₂, ◌∙◌}
 use Prim.Native.Nat.{ℕ, ◌+◌, ◌*◌}
 use native.Mathlib.Numerals.{add-one}
 use Rattle.algebra.specs.Mod.{residue, add_mod, mul_mod}
-use Rattle.algebra.proofs.Congruence.{residue-zero, cong-residue, cong-add}
+use Rattle.algebra.proofs.Congruence.{residue-zero, cong_residue, cong_add}
 use Rattle.vector.specs.Vector.{Vector, sum}
 use Rattle.vector.specs.Message.{even_sum, cross_sum, odd_sum}
 use Rattle.vector.proofs.Sums.{sum-plus, running-product}
@@ -27,18 +27,18 @@ add_item p n f g x e =
 
 -- one more pair of a message
 module _ (p k : ℕ) (f g : Vector) (x : ℕ) where
-  pub add-even : x ≡ residue p (even_sum k f g)
+  pub add_even : x ≡ residue p (even_sum k f g)
       → add_mod p x (mul_mod p (f (2 * k)) (g (2 * k))) ≡ residue p (even_sum (k + 1) f g)
-  add-even e = add_item p k (λ i. f (2 * i)) (λ i. g (2 * i)) x e
+  add_even e = add_item p k (λ i. f (2 * i)) (λ i. g (2 * i)) x e
 
-  pub add-odd : x ≡ residue p (odd_sum k f g)
+  pub add_odd : x ≡ residue p (odd_sum k f g)
       → add_mod p x (mul_mod p (f (2 * k + 1)) (g (2 * k + 1))) ≡ residue p (odd_sum (k + 1) f g)
-  add-odd e = add_item p k (λ i. f (2 * i + 1)) (λ i. g (2 * i + 1)) x e
+  add_odd e = add_item p k (λ i. f (2 * i + 1)) (λ i. g (2 * i + 1)) x e
 
   -- the two halves of the cross sum
-  pub add-forth : x ≡ residue p (sum k (λ i. f (2 * i) * g (2 * i + 1)))
+  pub add_forth : x ≡ residue p (sum k (λ i. f (2 * i) * g (2 * i + 1)))
       → add_mod p x (mul_mod p (f (2 * k)) (g (2 * k + 1))) ≡ residue p (sum (k + 1) (λ i. f (2 * i) * g (2 * i + 1)))
-  add-forth e = add_item p k (λ i. f (2 * i)) (λ i. g (2 * i + 1)) x e
+  add_forth e = add_item p k (λ i. f (2 * i)) (λ i. g (2 * i + 1)) x e
 
   pub add_back : x ≡ residue p (sum k (λ i. f (2 * i + 1) * g (2 * i)))
       → add_mod p x (mul_mod p (f (2 * k + 1)) (g (2 * k))) ≡ residue p (sum (k + 1) (λ i. f (2 * i + 1) * g (2 * i)))
@@ -49,5 +49,5 @@ pub add_cross : (p k : ℕ) (f g : Vector) (x y : ℕ) → x ≡ residue p (sum 
 unfolding add_mod
 add_cross p k f g x y ex ey =
     ap₂ (λ a b. residue p (a + b)) ex ey
-    ∙ (cong-add (cong-residue (sum k (λ i. f (2 * i) * g (2 * i + 1)))) (cong-residue (sum k (λ i. f (2 * i + 1) * g (2 * i))))).residues
+    ∙ (cong_add (cong_residue (sum k (λ i. f (2 * i) * g (2 * i + 1)))) (cong_residue (sum k (λ i. f (2 * i + 1) * g (2 * i))))).residues
     ∙ ap (residue p) (sym (sum-plus k (λ i. f (2 * i) * g (2 * i + 1)) (λ i. f (2 * i + 1) * g (2 * i))))

@@ -61,8 +61,8 @@ and_right false b e = absurd (never (sym e))
 
 module _ (p m : ℕ) (xs : List ℕ) where
   -- the places that the slice lacks count as 0
-  pub reduced-short : length xs < m → (all_reduced p (length xs) xs && ltb 0 p) ≡ all_reduced p m xs
-  reduced-short less =
+  pub reduced_short : length xs < m → (all_reduced p (length xs) xs && ltb 0 p) ≡ all_reduced p m xs
+  reduced_short less =
       either (all_reduced p (length xs) xs) ((all_reduced p (length xs) xs && ltb 0 p) ≡ all_reduced p m xs)
       (λ all.
       ap (λ b. b && ltb 0 p) all
@@ -84,31 +84,31 @@ module _ (p m : ℕ) (xs : List ℕ) where
       lacks : (k : ℕ) → length xs ≤ k → at xs k ≡ 0
       lacks k le = get_or-eq_default xs 0 {n = k} le
 
-  pub reduced-all : ((k : ℕ) → k < m → at xs k < p) → true ≡ all_reduced p m xs
-  reduced-all below = sym (every_true (λ k. ltb (at xs k) p) m (λ k h. lt-ltb (at xs k) p (below k h)))
+  pub reduced_all : ((k : ℕ) → k < m → at xs k < p) → true ≡ all_reduced p m xs
+  reduced_all below = sym (every_true (λ k. ltb (at xs k) p) m (λ k h. lt-ltb (at xs k) p (below k h)))
 
   -- the test is the statement
-  pub all-reduced-iff : (all_reduced p m xs ≡ true) ↔ ((k : ℕ) → k < m → at xs k < p)
-  all-reduced-iff =
-      ((λ e k h. ltb-true (at xs k) p (every-at (λ k. ltb (at xs k) p) m e k h)), λ below. sym (reduced-all below))
+  pub all-reduced_iff : (all_reduced p m xs ≡ true) ↔ ((k : ℕ) → k < m → at xs k < p)
+  all-reduced_iff =
+      ((λ e k h. ltb-true (at xs k) p (every-at (λ k. ltb (at xs k) p) m e k h)), λ below. sym (reduced_all below))
 
-  pub nonzero-zero : (i : ℕ) → i < m → at xs i ≡ 0 → false ≡ all_nonzero p m xs
-  nonzero-zero i less e = sym (every-false (λ k. is_nonzero p (at xs k)) m i less (ap (is_nonzero p) e))
+  pub nonzero_zero : (i : ℕ) → i < m → at xs i ≡ 0 → false ≡ all_nonzero p m xs
+  nonzero_zero i less e = sym (every-false (λ k. is_nonzero p (at xs k)) m i less (ap (is_nonzero p) e))
 
-  pub nonzero-short : (i : ℕ) → i < m → length xs ≤ i → false ≡ all_nonzero p m xs
-  nonzero-short i less short = nonzero-zero i less (get_or-eq_default xs 0 {n = i} short)
+  pub nonzero_short : (i : ℕ) → i < m → length xs ≤ i → false ≡ all_nonzero p m xs
+  nonzero_short i less short = nonzero_zero i less (get_or-eq_default xs 0 {n = i} short)
 
-  pub nonzero-all : ((k : ℕ) → k < m → (0 < at xs k) × (at xs k < p)) → true ≡ all_nonzero p m xs
-  nonzero-all good =
+  pub nonzero_all : ((k : ℕ) → k < m → (0 < at xs k) × (at xs k < p)) → true ≡ all_nonzero p m xs
+  nonzero_all good =
       sym
       (every_true (λ k. is_nonzero p (at xs k)) m
       (λ k h. ap₂ ◌&&◌ (lt-ltb 0 (at xs k) (good k h).0) (lt-ltb (at xs k) p (good k h).1)))
 
   -- the test is the statement
-  pub all-nonzero-iff : (all_nonzero p m xs ≡ true) ↔ ((k : ℕ) → k < m → (0 < at xs k) × (at xs k < p))
-  all-nonzero-iff = (
+  pub all-nonzero_iff : (all_nonzero p m xs ≡ true) ↔ ((k : ℕ) → k < m → (0 < at xs k) × (at xs k < p))
+  all-nonzero_iff = (
     (λ e k h.
         let t = every-at (λ k. is_nonzero p (at xs k)) m e k h in
         (ltb-true 0 (at xs k) (and_left (ltb 0 (at xs k)) (ltb (at xs k) p) t), ltb-true (at xs k) p (and_right (ltb 0 (at xs k)) (ltb (at xs k) p) t))),
-    λ good. sym (nonzero-all good),
+    λ good. sym (nonzero_all good),
   )

@@ -59,7 +59,7 @@ module _ (p : ℕ) (c : ℕ → ℕ) where
   fold-reduced v h zero i = h i
   fold-reduced v h (suc j) i = residue-twice p _
 
-  pub fold-once-reduced : (v : Vector) (j : ℕ) → 0 < j → (i : ℕ) → residue p (fold p c j v i) ≡ fold p c j v i
+  pub fold-once_reduced : (v : Vector) (j : ℕ) → 0 < j → (i : ℕ) → residue p (fold p c j v i) ≡ fold p c j v i
   unfolding fold_with add_mod
-  fold-once-reduced v zero l i = absurd (omega arith)
-  fold-once-reduced v (suc j) l i = residue-twice p _
+  fold-once_reduced v zero l i = absurd (omega arith)
+  fold-once_reduced v (suc j) l i = residue-twice p _

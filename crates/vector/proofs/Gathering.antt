@@ -27,17 +27,17 @@ module _ {A : Type 0} (combine : ℕ → A → A → A) (c : ℕ → ℕ) (n : �
     abbrev pub sums_after : ℕ → B
     sums_after t = last_pairs add (fold_with combine c i v) (size n (suc i)) b (t / 2 ^ suc i)
 
-    sums-even : (m k t x : ℕ) → k + m ≡ i → Completes k t → t / 2 ^ k ≡ 2 * x → (g : M) → part g ≡ sums_after t
+    sums_even : (m k t x : ℕ) → k + m ≡ i → Completes k t → t / 2 ^ k ≡ 2 * x → (g : M) → part g ≡ sums_after t
         → part (gathered combine c n v arrive emit m k t g) ≡ sums_after (suc t)
-    sums-even m k t x ek up e g r =
+    sums_even m k t x ek up e g r =
         let top : suc i ≡ suc k + m = omega arith in
         let stays : suc t / 2 ^ suc i ≡ t / 2 ^ suc i = rw top (stays_above (suc k) m t (even_stays k t x up e)) in
         rw (gathered-even combine c n v arrive emit m k t x g e, quiet k (item_before combine c n v k (2 * x)) g, stays) r
 
-    sums-last : (t x : ℕ) → t < 2 ^ n → Completes i t → t / 2 ^ i ≡ suc (2 * x) → (g : M) → part g ≡ sums_after t
+    sums_last : (t x : ℕ) → t < 2 ^ n → Completes i t → t / 2 ^ i ≡ suc (2 * x) → (g : M) → part g ≡ sums_after t
         → part (gathered combine c n v arrive emit zero i t g) ≡ sums_after (suc t)
     unfolding last_pairs
-    sums-last t x ht up e g r =
+    sums_last t x ht up e g r =
         let one_more : suc t / 2 ^ suc i ≡ suc x = omega (arith, half_count (suc t) i) in
         let inside = in_fold n (suc i) t ht (odd_completes i t x up e) in
         let half = half_odd i t x e in
@@ -47,29 +47,29 @@ module _ {A : Type 0} (combine : ℕ → A → A → A) (c : ℕ → ℕ) (n : �
         rw (gathered-last combine c n v arrive emit i t x g e, one_more, even, odd, heard _ _ _, quiet i _ g)
         (ap (add _ _) (rw half at r))
 
-    pub sums-step : (m k : ℕ) → k + m ≡ i → (t : ℕ) → t < 2 ^ n → Completes k t → (g : M) → part g ≡ sums_after t
+    pub sums_step : (m k : ℕ) → k + m ≡ i → (t : ℕ) → t < 2 ^ n → Completes k t → (g : M) → part g ≡ sums_after t
         → part (gathered combine c n v arrive emit m k t g) ≡ sums_after (suc t)
-    sums-step zero k ek t ht up g r =
+    sums_step zero k ek t ht up g r =
         let same : k ≡ i = omega arith in
         rw same (go (rw same at up) (parity (t / 2 ^ i)))
       where
         go : Completes i t → Parity (t / 2 ^ i) → part (gathered combine c n v arrive emit zero i t g) ≡ sums_after (suc t)
-        go up (inl e) = sums-even zero i t e.0 (omega arith) up e.1 g r
-        go up (inr e) = sums-last t e.0 ht up e.1 g r
-    sums-step (suc m) k ek t ht up g r = go (sums-step m (suc k) (omega arith) t ht) (parity (t / 2 ^ k))
+        go up (inl e) = sums_even zero i t e.0 (omega arith) up e.1 g r
+        go up (inr e) = sums_last t e.0 ht up e.1 g r
+    sums_step (suc m) k ek t ht up g r = go (sums_step m (suc k) (omega arith) t ht) (parity (t / 2 ^ k))
       where
         go : (Completes (suc k) t → (g : M) → part g ≡ sums_after t → part (gathered combine c n v arrive emit m (suc k) t g) ≡ sums_after (suc t))
             → Parity (t / 2 ^ k) → part (gathered combine c n v arrive emit (suc m) k t g) ≡ sums_after (suc t)
-        go rest (inl e) = sums-even (suc m) k t e.0 ek up e.1 g r
+        go rest (inl e) = sums_even (suc m) k t e.0 ek up e.1 g r
         go rest (inr e) =
             rw (gathered-up combine c n v arrive emit m k t e.0 g e.1)
             (rest (odd_completes k t e.0 up e.1) (arrive k (item_before combine c n v k (suc (2 * e.0))) g) (quiet k _ g ∙ r))
 
     -- THE SUMS after t items
-    pub sums-law : (g : M) → part g ≡ b → (t : ℕ) → t ≤ 2 ^ n → part (gathered_all combine c n v arrive emit i g t) ≡ sums_after t
+    pub sums_law : (g : M) → part g ≡ b → (t : ℕ) → t ≤ 2 ^ n → part (gathered_all combine c n v arrive emit i g t) ≡ sums_after t
     unfolding gathered_all last_pairs
-    sums-law g e zero h = rw (zero-div (2 ^ suc i)) e
-    sums-law g e (suc t) h = sums-step i 0 (omega arith) t (omega arith) (completes_zero t) _ (sums-law g e t (omega arith))
+    sums_law g e zero h = rw (zero-div (2 ^ suc i)) e
+    sums_law g e (suc t) h = sums_step i 0 (omega arith) t (omega arith) (completes_zero t) _ (sums_law g e t (omega arith))
 
   -- R q g: g holds what the last q items of fold l make
   module _ (l : ℕ) (R : ℕ → M → Type 0)

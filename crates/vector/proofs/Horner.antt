@@ -4,7 +4,7 @@ use Prim.Native.Nat.{ℕ, zero, suc, ◌+◌, ◌-◌, ◌*◌, ◌/◌, ◌^◌
 use native.Mathlib.Nat.{add-zero, mul_assoc, mul-one, zero-mul, pow-suc, pow-zero}
 use native.Mathlib.Omega.{arith}
 use Rattle.algebra.specs.Mod.{residue, add_mod, mul_mod}
-use Rattle.algebra.proofs.Congruence.{cong-add, cong-mul, cong-refl, cong-residue, cong-trans, mul-cong, residue-zero}
+use Rattle.algebra.proofs.Congruence.{cong_add, cong_mul, cong_refl, cong_residue, cong_trans, mul_cong, residue-zero}
 use Rattle.algebra.proofs.Laws.{zero-product, zero-sum}
 use Rattle.vector.specs.Rounds.{size}
 use Rattle.vector.specs.Vector.{Vector, sum}
@@ -41,7 +41,7 @@ evaluate-until p m n v x l h = ap (residue p) (sum-until m n (λ i. v i * x ^ i)
 module _ (p x : ℕ) (v : Vector) (h : ℕ) where
   step_sum : (s item : ℕ) → horner_step p x (residue p s) item ≡ residue p (item + s * x)
   unfolding add_mod
-  step_sum s item = (cong-add (cong-refl item) (cong-trans (mul-cong (residue p s) x) (cong-mul (cong-residue s) (cong-refl x)))).residues
+  step_sum s item = (cong_add (cong_refl item) (cong_trans (mul_cong (residue p s) x) (cong_mul (cong_residue s) (cong_refl x)))).residues
 
   abbrev part : ℕ → Vector
   part q i = v (h - q + i) * x ^ i

@@ -5,7 +5,7 @@ use native.Mathlib.Nat.{zero-add}
 use native.Mathlib.Omega.{arith}
 use borrow.Author.Tests.{le-ltb, lt-ltb}
 use Rattle.algebra.specs.Mod.{residue, add_mod, mul_mod}
-use Rattle.algebra.proofs.Congruence.{Cong, cong-refl, cong-sym, cong-trans, cong-eq, cong-residue, cong-add, cong-mul, add_cong, mul-cong}
+use Rattle.algebra.proofs.Congruence.{Cong, cong_refl, cong_sym, cong_trans, cong_eq, cong_residue, cong_add, cong_mul, add_cong, mul_cong}
 use Rattle.vector.specs.Rounds.{size}
 use Rattle.vector.specs.Vector.{Vector, sum, dot, padded}
 use Rattle.vector.specs.Fold.{fold_once_with, fold_with, combine, fold, end_value}
@@ -25,27 +25,27 @@ exact_claim (suc h) c f g = omega (arith, exact_claim h c f g)
 
 module _ (p : ℕ) where
   pub combine-cong : (c even odd : ℕ) → Cong p (combine p c even odd) (even + c * odd)
-  combine-cong c even odd = cong-trans (add_cong even (mul_mod p c odd)) (cong-add (cong-refl even) (mul-cong c odd))
+  combine-cong c even odd = cong_trans (add_cong even (mul_mod p c odd)) (cong_add (cong_refl even) (mul_cong c odd))
 
   pub even_odd : (h : ℕ) (f g : Vector) → passes p (message_of p h f g) ≡ dot p (2 * h) f g
   unfolding add_mod
   even_odd h f g =
-      (cong-trans (cong-add (cong-residue (even_sum h f g)) (cong-residue (odd_sum h f g)))
-      (cong-eq (sym (sum-halves h (λ i. f i * g i))))).residues
+      (cong_trans (cong_add (cong_residue (even_sum h f g)) (cong_residue (odd_sum h f g)))
+      (cong_eq (sym (sum-halves h (λ i. f i * g i))))).residues
 
   pub claim-next : (h c : ℕ) (f g : Vector)
       → next_claim p (message_of p h f g) c ≡ dot p h (fold_once_with (combine p) c f) (fold_once_with (combine p) c g)
   unfolding add_mod
   claim-next h c f g =
-      (cong-trans
-      (cong-add
-      (cong-trans (cong-residue _)
-      (cong-add (cong-residue (even_sum h f g)) (cong-trans (mul-cong _ c) (cong-mul (cong-residue (cross_sum h f g)) (cong-refl c)))))
-      (cong-trans (mul-cong _ (mul_mod p c c)) (cong-mul (cong-residue (odd_sum h f g)) (mul-cong c c))))
-      (cong-trans (cong-eq (sym (exact_claim h c f g)))
+      (cong_trans
+      (cong_add
+      (cong_trans (cong_residue _)
+      (cong_add (cong_residue (even_sum h f g)) (cong_trans (mul_cong _ c) (cong_mul (cong_residue (cross_sum h f g)) (cong_refl c)))))
+      (cong_trans (mul_cong _ (mul_mod p c c)) (cong_mul (cong_residue (odd_sum h f g)) (mul_cong c c))))
+      (cong_trans (cong_eq (sym (exact_claim h c f g)))
       (sum-cong h _ _
       (λ i l.
-      cong-sym (cong-mul (combine-cong c (f (2 * i)) (f (2 * i + 1))) (combine-cong c (g (2 * i)) (g (2 * i + 1)))))))
+      cong_sym (cong_mul (combine-cong c (f (2 * i)) (f (2 * i + 1))) (combine-cong c (g (2 * i)) (g (2 * i + 1)))))))
       ).residues
 
   -- a message is of the first 2h items

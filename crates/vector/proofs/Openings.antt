@@ -10,11 +10,11 @@ use lib.Dec.{eqb}
 use borrow.Author.Tests.{eq-eqb, ne_eqb}
 use Rattle.algebra.specs.Mod.{base, residue, add_mod, neg_mod, sub_mod, mul_mod, half_one, half_mod, inverse_mod, div_mod}
 use Rattle.algebra.specs.Prime.{Prime}
-use Rattle.algebra.proofs.Congruence.{Cong, cong-refl, cong-sym, cong-trans, cong-eq, cong-add, cong-mul, cong-residue, cong-reduced, add_cong, mul-cong, residue-lt, residue-zero}
-use Rattle.algebra.proofs.Laws.{half_one_lem, add-lt}
+use Rattle.algebra.proofs.Congruence.{Cong, cong_refl, cong_sym, cong_trans, cong_eq, cong_add, cong_mul, cong_residue, cong_reduced, add_cong, mul_cong, residue-lt, residue-zero}
+use Rattle.algebra.proofs.Laws.{half_one_lem, add_lt}
 use Rattle.algebra.proofs.Primes.{by_dec}
-use Rattle.algebra.proofs.Inverse.{inverse-of, cancel-factor}
-use Rattle.algebra.proofs.Ring.{solve, solve-from, solve-by, var, num, add, sub, mul, neg, vars, none, given}
+use Rattle.algebra.proofs.Inverse.{inverse_of, cancel_factor}
+use Rattle.algebra.proofs.Ring.{solve, solve_from, solve_by, var, num, add, sub, mul, neg, vars, none, given}
 use Rattle.vector.specs.Rounds.{size}
 use Rattle.vector.specs.Vector.{Vector, sum}
 use Rattle.vector.specs.Fold.{fold_once_with, fold_with, combine, fold}
@@ -24,8 +24,8 @@ use Rattle.vector.proofs.Rounds.{size-halves}
 use Rattle.vector.proofs.Messages.{combine-cong}
 
 pow_cong : {p a b : ℕ} → Cong p a b → (n : ℕ) → Cong p (a ^ n) (b ^ n)
-pow_cong {p} {a} {b} e zero = cong-eq (pow-zero a ∙ sym (pow-zero b))
-pow_cong {p} {a} {b} e (suc n) = cong-trans (cong-eq (pow-suc a n)) (cong-trans (cong-mul (pow_cong e n) e) (cong-eq (sym (pow-suc b n))))
+pow_cong {p} {a} {b} e zero = cong_eq (pow-zero a ∙ sym (pow-zero b))
+pow_cong {p} {a} {b} e (suc n) = cong_trans (cong_eq (pow-suc a n)) (cong_trans (cong_mul (pow_cong e n) e) (cong_eq (sym (pow-suc b n))))
 
 pow_double : (x i : ℕ) → x ^ (2 * i) ≡ (x * x) ^ i
 pow_double x zero = pow-zero x ∙ sym (pow-zero (x * x))
@@ -54,23 +54,23 @@ split_powers h v x =
 
 module _ (p : ℕ) (h : ℕ) (v : Vector) where
   part-cong : (u : Vector) {y z : ℕ} → Cong p y z → Cong p (sum h (λ i. u i * y ^ i)) (sum h (λ i. u i * z ^ i))
-  part-cong u {y} {z} e = sum-cong h (λ i. u i * y ^ i) (λ i. u i * z ^ i) (λ i l. cong-mul (cong-refl (u i)) (pow_cong e i))
+  part-cong u {y} {z} e = sum-cong h (λ i. u i * y ^ i) (λ i. u i * z ^ i) (λ i l. cong_mul (cong_refl (u i)) (pow_cong e i))
 
   -- a fold at x and at any y that is x² modulo p
   pub evaluate-split : (x y : ℕ) → Cong p (x * x) y → Cong p (evaluate p (2 * h) v x) (even_part h v y + x * odd_part h v y)
   evaluate-split x y e =
-      cong-trans (cong-residue _)
-      (cong-trans (cong-eq (split_powers h v x))
-      (cong-add (part-cong (λ i. v (2 * i)) e) (cong-mul (cong-refl x) (part-cong (λ i. v (2 * i + 1)) e))))
+      cong_trans (cong_residue _)
+      (cong_trans (cong_eq (split_powers h v x))
+      (cong_add (part-cong (λ i. v (2 * i)) e) (cong_mul (cong_refl x) (part-cong (λ i. v (2 * i + 1)) e))))
 
   -- the next fold at y
   pub evaluate-next : (c y : ℕ) → Cong p (evaluate p h (fold_once_with (combine p) c v) y) (even_part h v y + c * odd_part h v y)
   evaluate-next c y =
-      cong-trans (cong-residue _)
-      (cong-trans
+      cong_trans (cong_residue _)
+      (cong_trans
       (sum-cong h _ (λ i. v (2 * i) * y ^ i + v (2 * i + 1) * y ^ i * c)
-      (λ i l. cong-trans (cong-mul (combine-cong p c (v (2 * i)) (v (2 * i + 1))) (cong-refl (y ^ i))) (cong-eq (omega arith))))
-      (cong-eq
+      (λ i l. cong_trans (cong_mul (combine-cong p c (v (2 * i)) (v (2 * i + 1))) (cong_refl (y ^ i))) (cong_eq (omega arith))))
+      (cong_eq
       (sum-plus h (λ i. v (2 * i) * y ^ i) (λ i. v (2 * i + 1) * y ^ i * c)
       ∙ ap (λ s. even_part h v y + s) (sum-times h (λ i. v (2 * i + 1) * y ^ i) c ∙ mul_comm _ c))))
 
@@ -84,11 +84,11 @@ triple_once p b h c v =
     }
 
 module _ {p : ℕ} (prime : Prime p) (odd : p % 2 ≡ 1) (b : ℕ) (nonzero : residue p b ≡ 0 → ⊥) where
-  two-halves : Cong p (add_mod p (half_one p) (half_one p)) 1
-  two-halves = cong-trans (add_cong (half_one p) (half_one p)) (half_one_lem p odd)
+  two_halves : Cong p (add_mod p (half_one p) (half_one p)) 1
+  two_halves = cong_trans (add_cong (half_one p) (half_one p)) (half_one_lem p odd)
 
   inverse : Cong p (mul_mod p b (inverse_mod p b)) 1
-  inverse = cong-eq (inverse-of prime b nonzero)
+  inverse = cong_eq (inverse_of prime b nonzero)
 
   -- E + bO and E - bO give E + cO
   right_of : (c : ℕ) (t : Triple) (even odds : ℕ) → Cong p t.at_point (add_mod p even (mul_mod p b odds)) → Cong p t.at_minus (sub_mod p even (mul_mod p b odds))
@@ -103,32 +103,32 @@ module _ {p : ℕ} (prime : Prime p) (odd : p % 2 ≡ 1) (b : ℕ) (nonzero : re
       let B = var 5 in
       let H = var 6 in
       let I = var 7 in
-      solve-from p (vars (t.at_point ∷ t.at_minus ∷ even ∷ odds ∷ c ∷ b ∷ half_one p ∷ inverse_mod p b ∷ []))
+      solve_from p (vars (t.at_point ∷ t.at_minus ∷ even ∷ odds ∷ c ∷ b ∷ half_one p ∷ inverse_mod p b ∷ []))
       (add (mul (add P M) H) (mul C (mul (mul (sub P M) H) I)))
       (add E (mul C O))
       (given (add H (mul C (mul H I))) P (add E (mul B O)) plus
       (given (sub H (mul C (mul H I))) M (sub E (mul B O)) minus
-      (given (add E (mul C O)) (add H H) (num 1) two-halves
+      (given (add E (mul C O)) (add H H) (num 1) two_halves
       (given (mul (mul C O) (add H H)) (mul B I) (num 1) inverse none))))
       tt
 
-  square-minus : Cong p (neg_mod p b * neg_mod p b) (mul_mod p b b)
-  square-minus =
-      cong-trans (cong-sym (mul-cong (neg_mod p b) (neg_mod p b)))
-      (cong-eq (solve p (vars (b ∷ [])) (mul (neg (var 0)) (neg (var 0))) (mul (var 0) (var 0)) tt))
+  square_minus : Cong p (neg_mod p b * neg_mod p b) (mul_mod p b b)
+  square_minus =
+      cong_trans (cong_sym (mul_cong (neg_mod p b) (neg_mod p b)))
+      (cong_eq (solve p (vars (b ∷ [])) (mul (neg (var 0)) (neg (var 0))) (mul (var 0) (var 0)) tt))
 
   plus-part : (even odds : ℕ) → Cong p (even + b * odds) (add_mod p even (mul_mod p b odds))
-  plus-part even odds = cong-sym (cong-trans (add_cong even (mul_mod p b odds)) (cong-add (cong-refl even) (mul-cong b odds)))
+  plus-part even odds = cong_sym (cong_trans (add_cong even (mul_mod p b odds)) (cong_add (cong_refl even) (mul_cong b odds)))
 
   minus-part : (even odds : ℕ) → Cong p (even + neg_mod p b * odds) (sub_mod p even (mul_mod p b odds))
   minus-part even odds =
-      cong-trans
-      (cong-sym (cong-trans (add_cong even (mul_mod p (neg_mod p b) odds)) (cong-add (cong-refl even) (mul-cong (neg_mod p b) odds))))
-      (cong-eq (solve p (vars (b ∷ even ∷ odds ∷ [])) (add (var 1) (mul (neg (var 0)) (var 2))) (sub (var 1) (mul (var 0) (var 2))) tt))
+      cong_trans
+      (cong_sym (cong_trans (add_cong even (mul_mod p (neg_mod p b) odds)) (cong_add (cong_refl even) (mul_cong (neg_mod p b) odds))))
+      (cong_eq (solve p (vars (b ∷ even ∷ odds ∷ [])) (add (var 1) (mul (neg (var 0)) (var 2))) (sub (var 1) (mul (var 0) (var 2))) tt))
 
   -- the right side is reduced
   right-reduced : (c : ℕ) (t : Triple) → opening_right p c b t < base p
-  right-reduced c t = add-lt p (half_mod p (add_mod p t.at_point t.at_minus)) (mul_mod p c (div_mod p (half_mod p (sub_mod p t.at_point t.at_minus)) b))
+  right-reduced c t = add_lt p (half_mod p (add_mod p t.at_point t.at_minus)) (mul_mod p c (div_mod p (half_mod p (sub_mod p t.at_point t.at_minus)) b))
 
   opens-once : (h c : ℕ) (v : Vector) → opens p c b (triple_once p b h c v) ≡ true
   unfolding opens
@@ -137,15 +137,15 @@ module _ {p : ℕ} (prime : Prime p) (odd : p % 2 ≡ 1) (b : ℕ) (nonzero : re
       let y = mul_mod p b b in
       let even = even_part h v y in
       let odds = odd_part h v y in
-      let plus = cong-trans (evaluate-split p h v b y (cong-sym (mul-cong b b))) (plus-part even odds) in
-      let minus = cong-trans (evaluate-split p h v (neg_mod p b) y square-minus) (minus-part even odds) in
-      let next = cong-trans (evaluate-next p h v c y) (cong-sym (cong-trans (add_cong even (mul_mod p c odds)) (cong-add (cong-refl even) (mul-cong c odds)))) in
-      eq-eqb _ _ (cong-reduced (residue-lt p _) (right-reduced c t) (cong-trans next (cong-sym (right_of c t even odds plus minus))))
+      let plus = cong_trans (evaluate-split p h v b y (cong_sym (mul_cong b b))) (plus-part even odds) in
+      let minus = cong_trans (evaluate-split p h v (neg_mod p b) y square_minus) (minus-part even odds) in
+      let next = cong_trans (evaluate-next p h v c y) (cong_sym (cong_trans (add_cong even (mul_mod p c odds)) (cong_add (cong_refl even) (mul_cong c odds)))) in
+      eq-eqb _ _ (cong_reduced (residue-lt p _) (right-reduced c t) (cong_trans next (cong_sym (right_of c t even odds plus minus))))
 
   -- THE OPENING EQUATION holds for true folds, every k below n
-  pub true-opening : (n : ℕ) (c : ℕ → ℕ) (v : Vector) (k : ℕ) → k < n → opens p (c k) b (triple p n c v b k) ≡ true
+  pub true_opening : (n : ℕ) (c : ℕ → ℕ) (v : Vector) (k : ℕ) → k < n → opens p (c k) b (triple p n c v b k) ≡ true
   unfolding fold_with
-  true-opening n c v k h = rw (size-halves n k h) (opens-once (size n (suc k)) (c k) (fold p c k v))
+  true_opening n c v k h = rw (size-halves n k h) (opens-once (size n (suc k)) (c k) (fold p c k v))
 
   -- 2b times the right side needs no division
   right-times : (c : ℕ) (t : Triple)
@@ -159,21 +159,21 @@ module _ {p : ℕ} (prime : Prime p) (odd : p % 2 ≡ 1) (b : ℕ) (nonzero : re
       let B = var 3 in
       let H = var 4 in
       let I = var 5 in
-      solve-by p (vars (t.at_point ∷ t.at_minus ∷ c ∷ b ∷ half_one p ∷ inverse_mod p b ∷ []))
+      solve_by p (vars (t.at_point ∷ t.at_minus ∷ c ∷ b ∷ half_one p ∷ inverse_mod p b ∷ []))
       (mul (add B B) (add (mul (add P M) H) (mul C (mul (mul (sub P M) H) I))))
       (add (mul B (add P M)) (mul C (sub P M)))
-      (given (add (mul B (add P M)) (mul C (sub P M))) (add H H) (num 1) two-halves
+      (given (add (mul B (add P M)) (mul C (sub P M))) (add H H) (num 1) two_halves
       (given (mul (mul C (sub P M)) (add H H)) (mul B I) (num 1) inverse none))
       tt
 
-  double-nonzero : residue p (add_mod p b b) ≡ 0 → ⊥
-  double-nonzero z = nonzero (zero_of.residues ∙ residue-zero p)
+  double_nonzero : residue p (add_mod p b b) ≡ 0 → ⊥
+  double_nonzero z = nonzero (zero_of.residues ∙ residue-zero p)
     where
       zero_of : Cong p b 0
       zero_of =
-          solve-from p (vars (b ∷ half_one p ∷ [])) (var 0) (num 0)
+          solve_from p (vars (b ∷ half_one p ∷ [])) (var 0) (num 0)
           (given (var 1) (add (var 0) (var 0)) (num 0) (record { residues = z ∙ sym (residue-zero p) })
-          (given (neg (var 0)) (add (var 1) (var 1)) (num 1) two-halves none))
+          (given (neg (var 0)) (add (var 1) (var 1)) (num 1) two_halves none))
           tt
 
   -- THE SAME WITH NO DIVISION: both sides times 2b
@@ -186,7 +186,7 @@ module _ {p : ℕ} (prime : Prime p) (odd : p % 2 ≡ 1) (b : ℕ) (nonzero : re
       let s = t.at_square in
       let r = opening_right p c b t in
       let d = add_mod p b b in
-      let back : mul_mod p d s ≡ mul_mod p d r → s ≡ r = λ e. cong-reduced (omega arith) (right-reduced c t) (cancel-factor prime d s r double-nonzero (cong-eq e)) in
+      let back : mul_mod p d s ≡ mul_mod p d r → s ≡ r = λ e. cong_reduced (omega arith) (right-reduced c t) (cancel_factor prime d s r double_nonzero (cong_eq e)) in
       rw (← right-times c t)
       (by_dec (ℕ_discrete s r) (λ e. eq-eqb s r e ∙ sym (eq-eqb (mul_mod p d s) (mul_mod p d r) (ap (mul_mod p d) e)))
       (λ ne. ne_eqb s r ne ∙ sym (ne_eqb (mul_mod p d s) (mul_mod p d r) (λ e. ne (back e)))))

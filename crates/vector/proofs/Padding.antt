@@ -20,7 +20,7 @@ use Rattle.vector.proofs.Rounds.{size-times}
 use Rattle.vector.proofs.Folds.{fold-equal}
 use Rattle.vector.proofs.Counts.{Parity, parity, Completes, completes_zero, odd_completes}
 use Rattle.vector.proofs.Machine.{item_before, gathered, gathered-even, gathered-last, gathered-up}
-use Rattle.vector.proofs.StackLaw.{machine, gathered_all, stack-law}
+use Rattle.vector.proofs.StackLaw.{machine, gathered_all, stack_law}
 use Rattle.vector.proofs.Passes.{no_message, add_pair}
 
 rest_items : (a d q t : ℕ) → q * a ≤ t → a * (d + q) - t ≤ a * d
@@ -47,28 +47,28 @@ module _ {A : Type 0} (combine : ℕ → A → A → A) (c : ℕ → ℕ) (z : A
       let whole : 2 ^ k * ((s - q) + q) ≡ 2 ^ n = ap (λ x. 2 ^ k * x) (sym e) ∙ size-times n k hk in
       fold-equal combine c z still v (2 ^ n - t) h k (s - q) (rw whole at (rest_items (2 ^ k) (s - q) q t (omega (arith, split t k))))
 
-  equal-from : (n : ℕ) (v : ℕ → A) (t : ℕ) → t ≤ 2 ^ n → ((i : ℕ) → 2 ^ n - t ≤ i → v i ≡ z)
+  equal_from_lem : (n : ℕ) (v : ℕ → A) (t : ℕ) → t ≤ 2 ^ n → ((i : ℕ) → 2 ^ n - t ≤ i → v i ≡ z)
       → (k m : ℕ) → k + m ≤ n → entries_from combine c n v t k m ≡ equal_from z t k m
   unfolding entries_from equal_from
-  equal-from n v t ht h k zero e = rw (last-equal n v t ht h k (omega arith))
-  equal-from n v t ht h k (suc m) e = rw (last-equal n v t ht h k (omega arith), equal-from n v t ht h (suc k) m (omega arith))
+  equal_from_lem n v t ht h k zero e = rw (last-equal n v t ht h k (omega arith))
+  equal_from_lem n v t ht h k (suc m) e = rw (last-equal n v t ht h k (omega arith), equal_from_lem n v t ht h (suc k) m (omega arith))
 
   -- the entries after t items that are all z
   pub entries-equal : (n : ℕ) (v : ℕ → A) (t : ℕ) → t ≤ 2 ^ n → ((i : ℕ) → 2 ^ n - t ≤ i → v i ≡ z)
       → (i : ℕ) → i ≤ n → entries combine c n v t i ≡ equal_from z t 0 i
-  entries-equal n v t ht h i hi = equal-from n v t ht h 0 i (omega arith)
+  entries-equal n v t ht h i hi = equal_from_lem n v t ht h 0 i (omega arith)
 
   module _ (n : ℕ) (v : ℕ → A) {M : Type 0} (arrive : ℕ → A → M → M) (emit : A → A → M → M) (g : M)
       (quiet : (k : ℕ) → arrive k z g ≡ g) (unheard : emit z z g ≡ g)
       (t : ℕ) (room : suc t ≤ 2 ^ n) (h : (i : ℕ) → 2 ^ n - suc t ≤ i → v i ≡ z) where
-    new-equal : (k q : ℕ) → k ≤ n → Completes k t → t / 2 ^ k ≡ q → item_before combine c n v k q ≡ z
-    new-equal k q hk up e = rw (up ∙ ap suc e) at (last-equal n v (suc t) room h k hk)
+    new_equal : (k q : ℕ) → k ≤ n → Completes k t → t / 2 ^ k ≡ q → item_before combine c n v k q ≡ z
+    new_equal k q hk up e = rw (up ∙ ap suc e) at (last-equal n v (suc t) room h k hk)
 
-    old-equal : (k q : ℕ) → k ≤ n → t / 2 ^ k ≡ suc q → item_before combine c n v k q ≡ z
-    old-equal k q hk e = rw e at (last-equal n v t (omega arith) (λ i l. h i (omega arith)) k hk)
+    old_equal : (k q : ℕ) → k ≤ n → t / 2 ^ k ≡ suc q → item_before combine c n v k q ≡ z
+    old_equal k q hk e = rw e at (last-equal n v t (omega arith) (λ i l. h i (omega arith)) k hk)
 
     told-equal : (k q : ℕ) → k ≤ n → Completes k t → t / 2 ^ k ≡ q → arrive k (item_before combine c n v k q) g ≡ g
-    told-equal k q hk up e = rw (new-equal k q hk up e) (quiet k)
+    told-equal k q hk up e = rw (new_equal k q hk up e) (quiet k)
 
     still-step : (m k : ℕ) → k + m ≤ n → Completes k t → gathered combine c n v arrive emit m k t g ≡ g
     still-step zero k l up = go (parity (t / 2 ^ k))
@@ -77,7 +77,7 @@ module _ {A : Type 0} (combine : ℕ → A → A → A) (c : ℕ → ℕ) (z : A
         go (inl e) = gathered-even combine c n v arrive emit zero k t e.0 g e.1 ∙ told-equal k (2 * e.0) (omega arith) up e.1
         go (inr e) =
             gathered-last combine c n v arrive emit k t e.0 g e.1
-            ∙ (rw (told-equal k (suc (2 * e.0)) (omega arith) up e.1, new-equal k (suc (2 * e.0)) (omega arith) up e.1, old-equal k (2 * e.0) (omega arith) e.1) unheard)
+            ∙ (rw (told-equal k (suc (2 * e.0)) (omega arith) up e.1, new_equal k (suc (2 * e.0)) (omega arith) up e.1, old_equal k (2 * e.0) (omega arith) e.1) unheard)
     still-step (suc m) k l up = go (still-step m (suc k) (omega arith)) (parity (t / 2 ^ k))
       where
         go : (Completes (suc k) t → gathered combine c n v arrive emit m (suc k) t g ≡ g) → Parity (t / 2 ^ k) → gathered combine c n v arrive emit (suc m) k t g ≡ g
@@ -99,12 +99,12 @@ module _ {A : Type 0} (combine : ℕ → A → A → A) (c : ℕ → ℕ) (z : A
     -- PADDING IN ONE STEP: what the machine has after taking t items z, one by one
     pub padding-stack : (g : M) (t : ℕ) → t ≤ 2 ^ n → (machine combine arrive emit c i (λ q. z) g t).0 ≡ equal_from z t 0 i
     padding-stack g t l =
-        ap (λ r. r.0) (stack-law combine c n (λ j. z) arrive emit i hi g t l) ∙ entries-equal n (λ j. z) t l (λ j h. refl) i hi
+        ap (λ r. r.0) (stack_law combine c n (λ j. z) arrive emit i hi g t l) ∙ entries-equal n (λ j. z) t l (λ j h. refl) i hi
 
     pub padding-still : (g : M) → ((k : ℕ) → arrive k z g ≡ g) → emit z z g ≡ g
         → (t : ℕ) → t ≤ 2 ^ n → machine combine arrive emit c i (λ q. z) g t ≡ (equal_from z t 0 i, g)
     padding-still g quiet unheard t l =
-        stack-law combine c n (λ j. z) arrive emit i hi g t l
+        stack_law combine c n (λ j. z) arrive emit i hi g t l
         ∙ ap₂ (λ st m. (st, m)) (entries-equal n (λ j. z) t l (λ j h. refl) i hi) (gathered-still (λ j. z) g quiet unheard t l (λ j h. refl))
 
 -- Items L to N - 1 are zero pairs

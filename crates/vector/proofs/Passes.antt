@@ -13,8 +13,8 @@ use Rattle.vector.specs.Message.{Message, message_of, message}
 use Rattle.vector.specs.Stack.{backwards}
 use Rattle.vector.proofs.Sums.{last_sum, last_sum_lem, running-product}
 use Rattle.vector.proofs.Folds.{fold-beside}
-use Rattle.vector.proofs.StackLaw.{machine, gathered_all, stack-law, entries-empty, entries-end}
-use Rattle.vector.proofs.Gathering.{last_pairs, sums-law}
+use Rattle.vector.proofs.StackLaw.{machine, gathered_all, stack_law, entries-empty, entries-end}
+use Rattle.vector.proofs.Gathering.{last_pairs, sums_law}
 
 abbrev pub no_message : Message
 no_message = record { even = 0; cross = 0; odd = 0 }
@@ -55,7 +55,7 @@ module _ (p n : ℕ) (c : ℕ → ℕ) (f g : Vector) {M : Type 0} (arrive : ℕ
   pub pass-sums : (t : ℕ) → t ≤ 2 ^ n
       → part (gathered_all (combine_pair p) c n (beside f g) arrive emit i m t) ≡ last_message p (fold p c i f) (fold p c i g) (size n (suc i)) (t / 2 ^ suc i)
   pass-sums t h =
-      sums-law (combine_pair p) c n (beside f g) arrive emit (add_pair p) part quiet heard i hi no_message m none t h
+      sums_law (combine_pair p) c n (beside f g) arrive emit (add_pair p) part quiet heard i hi no_message m none t h
       ∙ ap (λ v. last_pairs (add_pair p) v (size n (suc i)) no_message (t / 2 ^ suc i)) (fold-beside p c f g i)
       ∙ last-message p (fold p c i f) (fold p c i g) (size n (suc i)) (t / 2 ^ suc i)
 
@@ -66,7 +66,7 @@ module _ (p n : ℕ) (c : ℕ → ℕ) (f g : Vector) {M : Type 0} (arrive : ℕ
 pub round_pass : (p n : ℕ) (c : ℕ → ℕ) (f g : Vector) (i : ℕ) → i < n
     → machine (combine_pair p) (λ k a m. m) (add_pair p) c i (backwards (2 ^ n) (beside f g)) no_message (2 ^ n) ≡ ([], message p n c f g i)
 round_pass p n c f g i h =
-    stack-law (combine_pair p) c n (beside f g) (λ k a m. m) (add_pair p) i (omega arith) no_message (2 ^ n) (omega arith)
+    stack_law (combine_pair p) c n (beside f g) (λ k a m. m) (add_pair p) i (omega arith) no_message (2 ^ n) (omega arith)
     ∙ ap₂ (λ st m. (st, m)) (entries-empty (combine_pair p) c n (beside f g) i h)
     (pass-message p n c f g (λ k a m. m) (add_pair p) (λ m. m) (λ k a m. refl) (λ even odd m. refl) no_message refl i h)
 
@@ -74,4 +74,4 @@ round_pass p n c f g i h =
 pub ends_pass : {A M : Type 0} (combine : ℕ → A → A → A) (arrive : ℕ → A → M → M) (emit : A → A → M → M) (n : ℕ) (c : ℕ → ℕ) (v : ℕ → A) (m : M)
     → (machine combine arrive emit c n (backwards (2 ^ n) v) m (2 ^ n)).0 ≡ (n, fold_with combine c n v 0) ∷ []
 ends_pass combine arrive emit n c v m =
-    ap (λ r. r.0) (stack-law combine c n v arrive emit n (omega arith) m (2 ^ n) (omega arith)) ∙ entries-end combine c n v
+    ap (λ r. r.0) (stack_law combine c n v arrive emit n (omega arith) m (2 ^ n) (omega arith)) ∙ entries-end combine c n v

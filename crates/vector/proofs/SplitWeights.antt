@@ -9,7 +9,7 @@ use lib.Dec.{eqb, ltb}
 use lib.ListN.{set, replicate, length-replicate}
 use lib.Pow.{pow_mono, shr-shr}
 use Rattle.algebra.specs.Mod.{residue, mul_mod}
-use Rattle.algebra.proofs.Laws.{mul_commutes, mul-associates, one_product, mul-residue}
+use Rattle.algebra.proofs.Laws.{mul_commutes, mul_associates, one_product, mul_residue}
 use Rattle.algebra.proofs.Congruence.{residue-twice}
 use Rattle.vector.specs.Vector.{Vector, at, bit, weight}
 use Rattle.vector.specs.Twist.{low_weights}
@@ -48,11 +48,11 @@ module _ (p : ℕ) (v : Vector) where
   factor n i = cond (eqb (bit n i) 1) (v n) 1
 
   exchange : (a b c : ℕ) → mul_mod p (mul_mod p a b) c ≡ mul_mod p (mul_mod p a c) b
-  exchange a b c = mul-associates p a b c ∙ ap (mul_mod p a) (mul_commutes p b c) ∙ sym (mul-associates p a c b)
+  exchange a b c = mul_associates p a b c ∙ ap (mul_mod p a) (mul_commutes p b c) ∙ sym (mul_associates p a c b)
 
   pub weight-split : (n i : ℕ) → weight p v n i ≡ mul_mod p (weight p v n (i / 16 * 16)) (weight p v n (i % 16))
   unfolding weight
-  weight-split zero i = sym (mul-residue p 1 (residue p 1) ∙ one_product p (residue p 1) ∙ residue-twice p 1)
+  weight-split zero i = sym (mul_residue p 1 (residue p 1) ∙ one_product p (residue p 1) ∙ residue-twice p 1)
   weight-split (suc n) i = by (ltb n 4) refl (weight-split n i)
     where
       by : (b : Bool) → ltb n 4 ≡ b → weight p v n i ≡ mul_mod p (weight p v n (i / 16 * 16)) (weight p v n (i % 16))
@@ -60,7 +60,7 @@ module _ (p : ℕ) (v : Vector) where
       by true e rest =
           let low : n < 4 = ltb-true n 4 e in
           ap₂ (mul_mod p) rest (ap (λ b. cond (eqb b 1) (v n) 1) (sym (low_bit n i low)))
-          ∙ mul-associates p (weight p v n (i / 16 * 16)) (weight p v n (i % 16)) (factor n (i % 16))
+          ∙ mul_associates p (weight p v n (i / 16 * 16)) (weight p v n (i % 16)) (factor n (i % 16))
           ∙ ap (λ x. mul_mod p x (weight p v (suc n) (i % 16))) (sym (weight-zero p v n (i / 16 * 16) (high_none n i low)))
       by false e rest =
           let high : 4 ≤ n = ltb-false n 4 e in
@@ -96,13 +96,13 @@ module _ (p : ℕ) (cs : List ℕ) (n first : ℕ) (xs out : List ℕ) (i high h
   W = weight p (at cs) (min n 15)
 
   module _ (kept : ((first + i) % 16 ≡ 0 → ⊥) → high ≡ W ((first + i) / 16 * 16)) (now : high' ≡ cond (eqb ((first + i) % 16) 0) (W (first + i)) high) where
-    upper-now : high' ≡ W ((first + i) / 16 * 16)
-    upper-now = now ∙ upper_is W (first + i) high kept
+    upper_now : high' ≡ W ((first + i) / 16 * 16)
+    upper_now = now ∙ upper_is W (first + i) high kept
 
     pub weights-kept : ((first + (i + 1)) % 16 ≡ 0 → ⊥) → high' ≡ W ((first + (i + 1)) / 16 * 16)
     weights-kept h =
         let same : (first + i) / 16 * 16 ≡ (first + (i + 1)) / 16 * 16 = by h in
-        upper-now ∙ ap W same
+        upper_now ∙ ap W same
       where
         by : ((first + (i + 1)) % 16 ≡ 0 → ⊥) → (first + i) / 16 * 16 ≡ (first + (i + 1)) / 16 * 16
         by h = omega (arith, h)
@@ -110,5 +110,5 @@ module _ (p : ℕ) (cs : List ℕ) (n first : ℕ) (xs out : List ℕ) (i high h
     pub weights-turn : out ≡ overwrite (λ j. W (first + j)) i xs → x ≡ mul_mod p high' (at (low_weights p cs n) ((first + i) % 16))
         → set out i x ≡ overwrite (λ j. W (first + j)) (i + 1) xs
     weights-turn so val =
-        ap₂ (λ ys y. set ys i y) so (val ∙ ap (λ h. mul_mod p h (at (low_weights p cs n) ((first + i) % 16))) upper-now ∙ split_weight_is p cs n (first + i))
+        ap₂ (λ ys y. set ys i y) so (val ∙ ap (λ h. mul_mod p h (at (low_weights p cs n) ((first + i) % 16))) upper_now ∙ split_weight_is p cs n (first + i))
         ∙ overwrite-next (λ j. W (first + j)) xs i

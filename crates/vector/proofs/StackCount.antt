@@ -16,7 +16,7 @@ use Rattle.vector.specs.Fold.{fold_with, combine}
 use Rattle.vector.specs.Stack.{Stack, backwards, entry_on, entries_from, entries, ones, ones_from, levels}
 use Rattle.vector.proofs.Rounds.{half_count}
 use Rattle.vector.proofs.Counts.{Parity, parity}
-use Rattle.vector.proofs.StackLaw.{machine, stream-law}
+use Rattle.vector.proofs.StackLaw.{machine, stream_law}
 use Rattle.vector.proofs.Machine.{entry-even, entry-odd}
 
 pub ones_at_most : (w t : ℕ) → ones w t ≤ w
@@ -93,4 +93,4 @@ module _ {A : Type 0} (combine : ℕ → A → A → A) (c : ℕ → ℕ) (n : �
 pub machine_levels : {A M : Type 0} (combine : ℕ → A → A → A) (arrive : ℕ → A → M → M) (emit : A → A → M → M) (c : ℕ → ℕ) (n : ℕ) (s : ℕ → A) (i : ℕ) → i ≤ n
     → (g : M) (t : ℕ) → t ≤ 2 ^ n → levels (machine combine arrive emit c i s g t).0 ≡ ones_from t 0 i
 machine_levels combine arrive emit c n s i hi g t ht =
-    ap (λ r. levels r.0) (stream-law combine arrive emit c n s i hi g t ht) ∙ entries-levels combine c n (backwards (2 ^ n) s) t i
+    ap (λ r. levels r.0) (stream_law combine arrive emit c n s i hi g t ht) ∙ entries-levels combine c n (backwards (2 ^ n) s) t i

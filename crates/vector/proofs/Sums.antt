@@ -5,7 +5,7 @@ use native.Mathlib.Numerals.{add-one}
 use native.Mathlib.Nat.{sub_self, sub-zero, add-zero}
 use native.Mathlib.Omega.{arith}
 use Rattle.algebra.specs.Mod.{residue, add_mod, mul_mod}
-use Rattle.algebra.proofs.Congruence.{Cong, cong-refl, cong-residue, cong-add, cong-mul, mul-cong}
+use Rattle.algebra.proofs.Congruence.{Cong, cong_refl, cong_residue, cong_add, cong_mul, mul_cong}
 use Rattle.vector.specs.Vector.{Vector, sum, dot}
 
 pub two_suc : (h : ℕ) → 2 * suc h ≡ suc (suc (2 * h))
@@ -76,14 +76,14 @@ last_sum_lem v h = let r = rw (sub_self h) at (last_rest v h h (omega arith)) in
 module _ {p : ℕ} where
   pub sum-cong : (n : ℕ) (u v : Vector) → ((i : ℕ) → i < n → Cong p (u i) (v i)) → Cong p (sum n u) (sum n v)
   unfolding sum
-  sum-cong zero u v h = cong-refl 0
-  sum-cong (suc n) u v h = cong-add (sum-cong n u v (λ i l. h i (omega arith))) (h n (omega arith))
+  sum-cong zero u v h = cong_refl 0
+  sum-cong (suc n) u v h = cong_add (sum-cong n u v (λ i l. h i (omega arith))) (h n (omega arith))
 
   pub dot-cong : (n : ℕ) (f f' g g' : Vector) → ((i : ℕ) → i < n → Cong p (f i) (f' i)) → ((i : ℕ) → i < n → Cong p (g i) (g' i))
       → dot p n f g ≡ dot p n f' g'
-  dot-cong n f f' g g' hf hg = (sum-cong n (λ i. f i * g i) (λ i. f' i * g' i) (λ i l. cong-mul (hf i l) (hg i l))).residues
+  dot-cong n f f' g g' hf hg = (sum-cong n (λ i. f i * g i) (λ i. f' i * g' i) (λ i l. cong_mul (hf i l) (hg i l))).residues
 
 -- one more product on a running sum
 pub running-product : (p x a b : ℕ) → add_mod p (residue p x) (mul_mod p a b) ≡ residue p (x + a * b)
 unfolding add_mod
-running-product p x a b = (cong-add (cong-residue x) (mul-cong a b)).residues
+running-product p x a b = (cong_add (cong_residue x) (mul_cong a b)).residues

@@ -10,8 +10,8 @@ use lib.Dec.{eqb}
 use lib.ListN.{replicate}
 use lib.Pow.{mod-pow-add}
 use Rattle.algebra.specs.Mod.{residue, mul_mod, pow_mod}
-use Rattle.algebra.proofs.Congruence.{cong-mul, cong-refl, cong-residue}
-use Rattle.algebra.proofs.Laws.{mul_commutes, pow-residue, pow-sum}
+use Rattle.algebra.proofs.Congruence.{cong_mul, cong_refl, cong_residue}
+use Rattle.algebra.proofs.Laws.{mul_commutes, pow_residue, pow_sum}
 use Rattle.vector.specs.Vector.{at, bit, weight}
 use Rattle.vector.specs.Twist.{twist_of, twists_of}
 use Rattle.vector.proofs.Weights.{weight-challenges}
@@ -20,10 +20,10 @@ use Rattle.vector.proofs.Overwrite.{overwrite-written}
 module _ (p v : ℕ) where
   pub first-twist : residue p v ≡ twist_of p v 0
   unfolding pow_mod mul_mod
-  first-twist = sym ((cong-mul (cong-refl v) (cong-residue 1)).residues ∙ ap (residue p) (mul-one v))
+  first-twist = sym ((cong_mul (cong_refl v) (cong_residue 1)).residues ∙ ap (residue p) (mul-one v))
 
   pub next-twist : (j : ℕ) → mul_mod p (twist_of p v j) (twist_of p v j) ≡ twist_of p v (j + 1)
-  next-twist j = sym (pow-sum p v (2 ^ j) (2 ^ j)) ∙ ap (pow_mod p v) (sym (ap (λ k. 2 ^ k) (add-one j) ∙ two-pow-succ j))
+  next-twist j = sym (pow_sum p v (2 ^ j) (2 ^ j)) ∙ ap (pow_mod p v) (sym (ap (λ k. 2 ^ k) (add-one j) ∙ two-pow-succ j))
 
   -- one bit of the index
   factor : (b : Bool) (n i : ℕ) → eqb (bit n i) 1 ≡ b
@@ -32,14 +32,14 @@ module _ (p v : ℕ) where
   factor true n i e =
       let one : bit n i ≡ 1 = eqb-true (bit n i) 1 e in
       mul_commutes p (pow_mod p v (i % 2 ^ n)) (twist_of p v n)
-      ∙ sym (pow-sum p v (2 ^ n) (i % 2 ^ n))
+      ∙ sym (pow_sum p v (2 ^ n) (i % 2 ^ n))
       ∙ ap (pow_mod p v)
       (sym
       (ap (λ k. i % 2 ^ k) (sym (one-add n)) ∙ mod-pow-add i 1 n ∙ ap (λ b. b * 2 ^ n + i % 2 ^ n) one
       ∙ ap (λ t. t + i % 2 ^ n) (one-mul (2 ^ n))))
   factor false n i e =
       let none : bit n i ≡ 0 = omega (arith, eqb-false (bit n i) 1 e) in
-      ap (residue p) (mul-one (pow_mod p v (i % 2 ^ n))) ∙ pow-residue p v (i % 2 ^ n)
+      ap (residue p) (mul-one (pow_mod p v (i % 2 ^ n))) ∙ pow_residue p v (i % 2 ^ n)
       ∙ ap (pow_mod p v)
       (sym
       (ap (λ k. i % 2 ^ k) (sym (one-add n)) ∙ mod-pow-add i 1 n ∙ ap (λ b. b * 2 ^ n + i % 2 ^ n) none

@@ -22,7 +22,7 @@ use Rattle.item.specs.Item.{contributes, parts_of}
 use Rattle.vector.proofs.Rounds.{rounds-at-most, rounds-enough}
 use Rattle.vector.proofs.Folds.{fold-challenges}
 use Rattle.vector.proofs.Sums.{sum_same}
-use Rattle.vector.proofs.EndValues.{weighted, weighted-step, end-padded}
+use Rattle.vector.proofs.EndValues.{weighted, weighted-step, end_padded}
 use Rattle.verifier.specs.declared.Verifier.{Verifier}
 use Rattle.verifier.specs.Records.{leaves}
 use Rattle.verifier.specs.WellFormed.{turn_of, well_formed}
@@ -86,9 +86,9 @@ module _ (p : ℕ) (start : Start) (given : ℕ → Given) where
 
     module _ (known : version_kept start.plain start.version ≡ true) (count : count_fits start.items ≡ true)
         (own : start.rounds ≡ rounds_of start.items) where
-      pub open-while : (m : ℕ) → m ≤ start.items → pass_open (state m) ≡ true
+      pub open_while : (m : ℕ) → m ≤ start.items → pass_open (state m) ≡ true
       unfolding pass_open well_formed turn_of fresh_verifier state
-      open-while m h = rw (known, count, eq-eqb start.rounds (rounds_of start.items) own, le-leb m start.items h)
+      open_while m h = rw (known, count, eq-eqb start.rounds (rounds_of start.items) own, le-leb m start.items h)
 
       -- where every item passes its checks, the sums are as above
       module _ (fits : (i : ℕ) → i < start.items → parts_of p start i (given i) ≡ answered (contributes p start (given i))) where
@@ -96,7 +96,7 @@ module _ (p : ℕ) (start : Start) (given : ℕ → Given) where
             → given_items p given (state m) m ≡ answered (takes p (state m) (contributes p start (given m)))
         unfolding fresh_verifier state
         taken m h =
-            give-taken p (state m) (given m) (contributes p start (given m)) (open-while m (omega arith)) (lt-ltb m start.items h)
+            give-taken p (state m) (given m) (contributes p start (given m)) (open_while m (omega arith)) (lt-ltb m start.items h)
             (fits m h)
 
         pub after_items : (m : ℕ) → m ≤ start.items → after_calls (given_items p given) (fresh_verifier start challenges) m ≡ state m
@@ -121,5 +121,5 @@ pub end_of : (p items n : ℕ) → count_fits items ≡ true → n ≡ rounds_of
 end_of p items n count own challenges c agree u U same reduced =
     let enough : items ≤ 2 ^ n = rw own (rounds-enough items (limit items count)) in
     ap (residue p) (sum_same items _ _ (λ i h. ap (λ x. x * weight p (at challenges) n i) (same i h)))
-    ∙ sym (end-padded p (at challenges) n items U enough reduced)
+    ∙ sym (end_padded p (at challenges) n items U enough reduced)
     ∙ fold-challenges (combine p) (at challenges) c (padded items U) n agree 0

@@ -59,9 +59,9 @@ module _ (p : ℕ) where
       let b = heard-step (hears_first p v m k) (m k) in
       record { rounds = b.rounds ∙ a.rounds; most = omega (arith, a.most, b.most) }
 
-  pub none-heard : (v : Verifier) (m : ℕ → Message) → v ≡ hears_first p v m 0
+  pub none_heard : (v : Verifier) (m : ℕ → Message) → v ≡ hears_first p v m 0
   unfolding hears_first
-  none-heard v m = refl
+  none_heard v m = refl
 
   pub one-heard : (v : Verifier) (m : ℕ → Message) (k : ℕ) {w u : Verifier} → w ≡ hears_first p v m k → u ≡ hears_next p w (m k)
       → u ≡ hears_first p v m (k + 1)

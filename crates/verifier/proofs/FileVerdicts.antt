@@ -53,17 +53,17 @@ module _ (p : ℕ) (c : ℕ → ℕ) (file : List ℕ) (n f g : ℕ) where
   pub ends_same : EndsAre file n f g → same ≡ true
   ends_same h = rw (eq-eqb (proof_number file (3 * n)) f h.0, eq-eqb (proof_number file (3 * n + 1)) g h.1)
 
-  with-ends : EndsAre file n f g → (d : Finding) → VerdictSays p c claim (file_message file) n (mul_mod p f g) d → FileSays p c file n f g d
-  with-ends h yes s = (s.0, s.1, h)
-  with-ends h (no k) s =
+  with_ends_lem : EndsAre file n f g → (d : Finding) → VerdictSays p c claim (file_message file) n (mul_mod p f g) d → FileSays p c file n f g d
+  with_ends_lem h yes s = (s.0, s.1, h)
+  with_ends_lem h (no k) s =
       ⊎_elim
       inl
       (λ (l : LastNo p c claim (file_message file) n (mul_mod p f g) k).
       inr (record { last = l.last; all = l.all; fails = λ e x. l.fails e }))
       s
 
-  other-ends : (EndsAre file n f g → ⊥) → FileSays p c file n f g (no (first_failed p c n claim (file_message file)))
-  other-ends h =
+  other_ends : (EndsAre file n f g → ⊥) → FileSays p c file n f g (no (first_failed p c n claim (file_message file)))
+  other_ends h =
       ⊎_elim
       inl
       (λ (a : (first_failed p c n claim (file_message file) ≡ n) × AllPass p c claim (file_message file) n).
@@ -78,9 +78,9 @@ module _ (p : ℕ) (c : ℕ → ℕ) (file : List ℕ) (n f g : ℕ) where
           → FileSays p c file n f g
           (cond b (verdict_of p c n claim (file_message file) (mul_mod p f g)) (no (first_failed p c n claim (file_message file))))
       by true e =
-          with-ends (same_ends e) (verdict_of p c n claim (file_message file) (mul_mod p f g))
+          with_ends_lem (same_ends e) (verdict_of p c n claim (file_message file) (mul_mod p f g))
           (verdict-says p c n claim (file_message file) (mul_mod p f g))
-      by false e = other-ends (λ h. failed e (ends_same h))
+      by false e = other_ends (λ h. failed e (ends_same h))
 
   pub file-verdict-yes : (file_verdict_of p c n file f g ≡ yes) ↔ FileSays p c file n f g yes
   unfolding file_verdict_of

@@ -179,10 +179,10 @@ module _ (v : Verifier) where
     unfolding well_formed
     other_rounds {k} a e h = rw (known, a, ← e, h)
 
-    pub fixed-start : {k : ℕ} → count_fits v.start.items ≡ true → k ≡ rounds_of v.start.items → eqb v.start.rounds k ≡ true
+    pub fixed_start : {k : ℕ} → count_fits v.start.items ≡ true → k ≡ rounds_of v.start.items → eqb v.start.rounds k ≡ true
         → turn_fits v ≡ well_formed v
     unfolding well_formed
-    fixed-start {k} a e h = rw (known, a, ← e, h)
+    fixed_start {k} a e h = rw (known, a, ← e, h)
 
   never : (b : Bool) → cond b false false ≡ false
   never true = refl
@@ -196,17 +196,17 @@ module _ (v : Verifier) where
   unfolding pass_open
   closed-shut h = sym (ap (λ b. cond (well_formed v) (not b) false) h ∙ never (well_formed v))
 
-  pub not-closed : v.closed ≡ false → well_formed v ≡ pass_open v
+  pub not_closed : v.closed ≡ false → well_formed v ≡ pass_open v
   unfolding pass_open
-  not-closed h = sym (ap (λ b. cond (well_formed v) (not b) false) h ∙ always (well_formed v))
+  not_closed h = sym (ap (λ b. cond (well_formed v) (not b) false) h ∙ always (well_formed v))
 
   pub no_rounds : v.start.rounds ≤ 0 → false ≡ has_rounds v
   unfolding has_rounds
   no_rounds h = sym (ap (λ b. cond (well_formed v) b false) (le-ltb 0 v.start.rounds h) ∙ never (well_formed v))
 
-  pub some-rounds : 0 < v.start.rounds → well_formed v ≡ has_rounds v
+  pub some_rounds : 0 < v.start.rounds → well_formed v ≡ has_rounds v
   unfolding has_rounds
-  some-rounds h = sym (ap (λ b. cond (well_formed v) b false) (lt-ltb 0 v.start.rounds h) ∙ always (well_formed v))
+  some_rounds h = sym (ap (λ b. cond (well_formed v) b false) (lt-ltb 0 v.start.rounds h) ∙ always (well_formed v))
 
   pub message-next : v.closed ≡ true → v.failed ≡ false → ltb v.round v.start.rounds ≡ message_turn v
   unfolding message_turn

@@ -55,20 +55,20 @@ module _ (p : ℕ) (v : Verifier) (formed : well_formed v ≡ true) where
   row : (ok : Bool) (k : ℕ) (rest : Outcome Replied) → (ok ≡ true → Kept v rest) → Kept v (require ok k rest)
   row ok k rest pass = require-says (Kept v) ok k rest (λ e. record { kept = formed }) pass
 
-  parts-row : (o : Outcome Item) → ((x : Item) → Kept v (answered (takes p v x))) → Kept v (with_parts o (takes p v))
-  parts-row (answered x) h = h x
-  parts-row (refused k) h = record { kept = formed }
-  parts-row (refused_at k i) h = record { kept = formed }
+  parts_row : (o : Outcome Item) → ((x : Item) → Kept v (answered (takes p v x))) → Kept v (with_parts o (takes p v))
+  parts_row (answered x) h = h x
+  parts_row (refused k) h = record { kept = formed }
+  parts_row (refused_at k i) h = record { kept = formed }
 
-  was-open : pass_open v ≡ true → v.closed ≡ false
+  was_open : pass_open v ≡ true → v.closed ≡ false
   unfolding pass_open
-  was-open h = not_true v.closed (both (well_formed v) (not v.closed) h).1
+  was_open h = not_true v.closed (both (well_formed v) (not v.closed) h).1
 
   taken-kept : pass_open v ≡ true → ltb v.taken v.start.items ≡ true → (x : Item) → Kept v (answered (takes p v x))
   unfolding one_more
   taken-kept o l x =
       let a = parts_of_lem v formed in
-      let e = open_turn v a.turn (was-open o) in
+      let e = open_turn v a.turn (was_open o) in
       let less = ltb-true v.taken v.start.items l in
       let w = one_more p v x.f x.g in
       record {
@@ -78,7 +78,7 @@ module _ (p : ℕ) (v : Verifier) (formed : well_formed v ≡ true) where
               version = a.version;
               count = a.count;
               rounds = a.rounds;
-              turn = sym (turn-open w (was-open o) e.going e.first) ∙ le-leb (v.taken + 1) v.start.items (omega arith);
+              turn = sym (turn-open w (was_open o) e.going e.first) ∙ le-leb (v.taken + 1) v.start.items (omega arith);
             });
       }
 
@@ -86,7 +86,7 @@ module _ (p : ℕ) (v : Verifier) (formed : well_formed v ≡ true) where
   unfolding closed_with
   closes_kept o t claim =
       let a = parts_of_lem v formed in
-      let e = open_turn v a.turn (was-open o) in
+      let e = open_turn v a.turn (was_open o) in
       let z = e.first in
       let w = closed_with v claim in
       record { kept = formed_of w (record { version = a.version; count = a.count; rounds = a.rounds; turn = closed-turn w refl t (omega arith) }) }
@@ -97,7 +97,7 @@ module _ (p : ℕ) (v : Verifier) (formed : well_formed v ≡ true) where
       (row (pass_open v) number.order _
       (λ o.
       row (ltb v.taken v.start.items) number.items _
-      (λ l. parts-row (parts_of p v.start v.taken given) (taken-kept o l)))
+      (λ l. parts_row (parts_of p v.start v.taken given) (taken-kept o l)))
       ).kept
 
   pub close-kept : (total : ℤ) → well_formed (leaves v (close p v total)).verifier ≡ true

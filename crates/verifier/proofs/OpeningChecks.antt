@@ -10,7 +10,7 @@ use borrow.Author.Tests.{lt-ltb, le-ltb}
 use Rattle.verifier.specs.declared.Verifier.{Verifier}
 use Rattle.verifier.specs.Records.{OpeningFinding, holds, fails_f, fails_g}
 use Rattle.verifier.specs.Openings.{first_fault, opens_at, opening_finds}
-use Rattle.verifier.proofs.Faults.{Passes, Fails, fault-cases, passes-all}
+use Rattle.verifier.proofs.Faults.{Passes, Fails, fault_cases, passes-all}
 
 -- the equation holds for j = 1 to n; k is j - 1
 abbrev pub AllHold : (ℕ → Bool) → ℕ → Type 0
@@ -55,20 +55,20 @@ module _ (f g : ℕ → Bool) (n : ℕ) where
   one_of : (test : ℕ → Bool) → Fails test 0 n → ltb (first_fault test 0 n) n ≡ true
   one_of test a = lt-ltb (first_fault test 0 n) n (omega (arith, a.below))
 
-  pick-says : OpeningSays f g n (pick f g n)
+  pick_says : OpeningSays f g n (pick f g n)
   unfolding pick
-  pick-says =
+  pick_says =
       ⊎_elim
       (λ (a : Passes f 0 n).
       ⊎_elim (λ (b : Passes g 0 n). rw (none_of f a, none_of g b) (all_of f a, all_of g b))
       (λ (b : Fails g 0 n). rw (none_of f a, one_of g b) (all_of f a, first_of g b))
-      (fault-cases g n 0))
+      (fault_cases g n 0))
       (λ (a : Fails f 0 n). rw (one_of f a) (first_of f a))
-      (fault-cases f n 0)
+      (fault_cases f n 0)
 
-  pick-holds : AllHold f n → AllHold g n → pick f g n ≡ holds
+  pick_holds : AllHold f n → AllHold g n → pick f g n ≡ holds
   unfolding pick
-  pick-holds a b =
+  pick_holds a b =
       rw (le-ltb (first_fault f 0 n) n (omega (arith, passes-all f n a)), le-ltb (first_fault g 0 n) n (omega (arith, passes-all g n b)))
 
 module _ (p : ℕ) (v : Verifier) (b : ℕ) (values : List ℕ) where
@@ -81,11 +81,11 @@ module _ (p : ℕ) (v : Verifier) (b : ℕ) (values : List ℕ) where
   -- DEMAND 2, THE OPENING CHECK
   pub opening-says : OpeningSays F G v.start.rounds (opening_finds p v b values)
   unfolding opening_finds pick
-  opening-says = pick-says F G v.start.rounds
+  opening-says = pick_says F G v.start.rounds
 
   pub opening-yes : (opening_finds p v b values ≡ holds) ↔ (AllHold F v.start.rounds × AllHold G v.start.rounds)
   unfolding opening_finds pick
   opening-yes = (
     (λ e. rw e at opening-says),
-    λ h. pick-holds F G v.start.rounds h.0 h.1,
+    λ h. pick_holds F G v.start.rounds h.0 h.1,
   )

@@ -23,7 +23,7 @@ use Rattle.vector.specs.Message.{Message, passes}
 use Rattle.vector.specs.Message as vector
 use Rattle.wire.specs.Proof.{proof_size, proof_file, proof_values, write_proof, written_in}
 use Rattle.wire.proofs.ProofOf.{own-file}
-use Rattle.wire.proofs.RoundTrip.{thirds, ReadsAs, good, messages-same, ends_same, write-reads-back}
+use Rattle.wire.proofs.RoundTrip.{thirds, ReadsAs, good, messages-same, ends_same, write_reads_back}
 use Rattle.item.specs.Version.{version_fits}
 use Rattle.item.specs.Mark.{reading_fits}
 use Rattle.item.specs.Start.{count_fits, list_fits}
@@ -106,8 +106,8 @@ module _ (p items version : ℕ) (cs : List ℕ) (readings : ℕ → ℤ) (weigh
   abbrev pub round_message : ℕ → Message
   round_message = vector.message p n (at cs) (reading_vector p items version cs readings weights) (weight_vector p items version cs readings weights)
 
-  true-claims : AllPass p (at cs) (image p total) round_message n × (claim_at p (at cs) (image p total) round_message n ≡ mul_mod p end_f end_g)
-  true-claims =
+  true_claims : AllPass p (at cs) (image p total) round_message n × (claim_at p (at cs) (image p total) round_message n ≡ mul_mod p end_f end_g)
+  true_claims =
       (verdict-yes p (at cs) n (image p total) round_message (mul_mod p end_f end_g)
       ).0
       (ap (λ x. verdict_of p (at cs) n x round_message (mul_mod p end_f end_g)) (plain-claim p items version cs readings weights large known count list fine ranged)
@@ -137,8 +137,8 @@ module _ (p items version : ℕ) (cs : List ℕ) (readings : ℕ → ℤ) (weigh
       ∙ ap answered
       ((plain-file-yes file o
       ).1 (
-        (λ i h. ap (passes p) (same i h) ∙ true-claims.0 i h ∙ sym (claims i (omega arith))),
-        claims n (omega arith) ∙ true-claims.1,
+        (λ i h. ap (passes p) (same i h) ∙ true_claims.0 i h ∙ sym (claims i (omega arith))),
+        claims n (omega arith) ∙ true_claims.1,
         ends_same p file n total ms end_f end_g r,
       ))
 
@@ -170,7 +170,7 @@ module _ (p items version : ℕ) (cs : List ℕ) (readings : ℕ → ℤ) (weigh
   unfolding in_limits
   plain-written-accepts fits limits ms room l buffer long =
       plain-file-accepts _ ms l
-      (write-reads-back p n total ms end_f end_g
+      (write_reads_back p n total ms end_f end_g
       (record {
         fits = fits;
         most = few items count;

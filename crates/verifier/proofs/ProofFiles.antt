@@ -29,7 +29,7 @@ use Rattle.verifier.proofs.Kept.{close-kept}
 use Rattle.verifier.proofs.Answered.{require-answered, answered_same}
 use Rattle.verifier.proofs.Runs.{AllReduced, close-next}
 use Rattle.verifier.proofs.Verdicts.{Closed, message-refused, verdict-found}
-use Rattle.verifier.proofs.Singly.{Done, singly, heard-going, done-compared, agree_same, compared-finds}
+use Rattle.verifier.proofs.Singly.{Done, singly, heard-going, done-compared, agree_same, compared_finds}
 use Rattle.verifier.proofs.FileVerdicts.{EndsAre, FileSays, same_ends, ends_same, file-verdict-says, file-verdict-yes}
 
 -- what an answered call says of the record and of the file
@@ -75,9 +75,9 @@ module _ (p : ℕ) (v : Verifier) (file : List ℕ) {j : Judgement} (a : Answere
   close-answered =
       close-next p v (proof_total file) a.open_pass (eqb-true v.taken v.start.items a.taken) a.plain (le-leb _ _ a.good.limits)
 
-  was-formed : well_formed v ≡ true
+  was_formed : well_formed v ≡ true
   unfolding pass_open
-  was-formed = (both (well_formed v) (not v.closed) a.open_pass).0
+  was_formed = (both (well_formed v) (not v.closed) a.open_pass).0
 
   abbrev closed : Verifier
   closed = closed_with v (image p (proof_total file))
@@ -88,10 +88,10 @@ module _ (p : ℕ) (v : Verifier) (file : List ℕ) {j : Judgement} (a : Answere
   closed-start : Closed closed
   unfolding pass_open closed_with
   closed-start =
-      let was-open = not_true v.closed (both (well_formed v) (not v.closed) a.open_pass).1 in
-      let o = open_turn v (parts_of_lem v was-formed).turn was-open in
+      let was_open = not_true v.closed (both (well_formed v) (not v.closed) a.open_pass).1 in
+      let o = open_turn v (parts_of_lem v was_formed).turn was_open in
       record {
-        formed = sym (ap well_formed closed_same) ∙ close-kept p v was-formed (proof_total file);
+        formed = sym (ap well_formed closed_same) ∙ close-kept p v was_formed (proof_total file);
         closed = refl;
         going = o.going;
         first = o.first;
@@ -111,9 +111,9 @@ module _ (p : ℕ) (v : Verifier) (file : List ℕ) {j : Judgement} (a : Answere
   done = done-compared closed _ (heard-going p closed closed-start file reduced) file
 
   -- SAME AS SINGLY: the close, each message, and then the end values
-  pub as-singly : j.verifier ≡ compares heard_singly file
+  pub as_singly : j.verifier ≡ compares heard_singly file
   unfolding after_file closed_with
-  as-singly =
+  as_singly =
       ap (λ (i : Judgement). i.verifier) a.judged
       ∙ ap (λ w. compares w file)
       (singly p closed closed-start (file_message file) reduced v.start.rounds (omega arith)
@@ -122,7 +122,7 @@ module _ (p : ℕ) (v : Verifier) (file : List ℕ) {j : Judgement} (a : Answere
   compared_same : {b : Bool} → ends_agree v file ≡ b → j.verifier ≡ cond b heard_singly (failed_now heard_singly)
   unfolding compares closed_with ends_agree
   compared_same e =
-      as-singly
+      as_singly
       ∙ ap (λ b. cond b heard_singly (failed_now heard_singly))
       (ap (λ w. ends_agree w file)
       (ap (λ w. after_calls (messages p (file_message file)) w v.start.rounds) closed_same
@@ -163,7 +163,7 @@ module _ (p : ℕ) (v : Verifier) (file : List ℕ) {j : Judgement} (a : Answere
   -- DEMAND 2 FOR A PROOF FILE
   pub file-finds : j.finding ≡ file_verdict_of p (at v.challenges) v.start.rounds file v.fsum v.gsum
   unfolding after_file closed_with file_verdict_of ends_agree
-  file-finds = ap (λ (i : Judgement). i.finding) a.judged ∙ compared-finds p closed closed-start file reduced
+  file-finds = ap (λ (i : Judgement). i.finding) a.judged ∙ compared_finds p closed closed-start file reduced
 
   pub file-says : FileSays p (at v.challenges) file v.start.rounds v.fsum v.gsum j.finding
   file-says = subst (FileSays p (at v.challenges) file v.start.rounds v.fsum v.gsum) (sym file-finds) (file-verdict-says p (at v.challenges) file v.start.rounds v.fsum v.gsum)

@@ -31,7 +31,7 @@ use Rattle.verifier.specs.Starts.{fresh_verifier}
 use Rattle.verifier.specs.Claims.{closed_with, closes}
 use Rattle.verifier.specs.Calls.{pass_open, close, close_claim, all_reduced3, verdict}
 use Rattle.verifier.specs.Trips.{after_calls, given_items, messages, verdict_of}
-use Rattle.verifier.proofs.EndSums.{entered, to_f, to_g, state, open-while, after_items, end_of}
+use Rattle.verifier.proofs.EndSums.{entered, to_f, to_g, state, open_while, after_items, end_of}
 use Rattle.verifier.proofs.Verdicts.{Closed, verdict-after, verdict-same}
 
 -- an answered start has n challenges
@@ -80,7 +80,7 @@ module _ (p : ℕ) (r : Run p) where
   reaches = after_items p r.start r.given r.challenges r.known r.count r.own r.fits L (omega arith)
 
   pub ready-open : pass_open ready ≡ true
-  ready-open = open-while p r.start r.given r.challenges r.known r.count r.own L (omega arith)
+  ready-open = open_while p r.start r.given r.challenges r.known r.count r.own L (omega arith)
 
   closed-start : (claim : ℕ) → Closed (closed_with ready claim)
   unfolding closed_with fresh_verifier state well_formed turn_of

@@ -110,9 +110,9 @@ module _ (v w : Verifier) (g : Going v w v.start.rounds) where
       let t = turn-done w g.closed (λ e. g.place e ∙ sym g.rounds) in
       record { formed = g.formed; closed = g.closed; turn = t.0; over = t.1 }
 
-  failed-formed : well_formed (failed_now w) ≡ true
+  failed_formed : well_formed (failed_now w) ≡ true
   unfolding failed_now
-  failed-formed =
+  failed_formed =
       let a = parts_of_lem w g.formed in
       let f = formed_says w g.formed in
       formed_of (failed_now w)
@@ -127,7 +127,7 @@ module _ (v w : Verifier) (g : Going v w v.start.rounds) where
   unfolding failed_now
   done-failed =
       let t = turn-done (failed_now w) g.closed (λ e. absurd (true≢false e)) in
-      record { formed = failed-formed; closed = g.closed; turn = t.0; over = t.1 }
+      record { formed = failed_formed; closed = g.closed; turn = t.0; over = t.1 }
 
   pub done-compared : (file : List ℕ) → Done (compares w file)
   unfolding compares
@@ -168,13 +168,13 @@ module _ (p : ℕ) (v : Verifier) (start : Closed v) (file : List ℕ) (reduced 
   agree_same = ap (λ w. ends_agree w file) heard-ended
 
   -- as if the end values had been compared after the verdict: no at the first round that failed, or n
-  pub compared-finds :
+  pub compared_finds :
       finds p (compares heard file)
       ≡ cond (ends_agree v file)
       (verdict_of p (at v.challenges) v.start.rounds v.claim (file_message file) (mul_mod p v.fsum v.gsum))
       (no failing)
   unfolding compares
-  compared-finds = ap (λ b. finds p (cond b heard (failed_now heard))) agree_same ∙ by (ends_agree v file)
+  compared_finds = ap (λ b. finds p (cond b heard (failed_now heard))) agree_same ∙ by (ends_agree v file)
     where
       by : (b : Bool)
           → finds p (cond b heard (failed_now heard))

@@ -10,7 +10,7 @@ use Rattle.algebra.specs.Mod.{residue}
 use Rattle.algebra.specs.Prime.{Prime}
 use Rattle.vector.specs.Vector.{Vector, at}
 use Rattle.vector.specs.Opening.{Triple, triple, triple_values, opening}
-use Rattle.vector.proofs.Openings.{true-opening}
+use Rattle.vector.proofs.Openings.{true_opening}
 use Rattle.verifier.specs.declared.Verifier.{Verifier}
 use Rattle.verifier.specs.Records.{holds}
 use Rattle.verifier.specs.Openings.{triple_at, opening_finds}
@@ -63,8 +63,8 @@ module _ (f g : ℕ → Triple) (n : ℕ) where
       let z : n - n ≡ 0 = omega arith in
       past f (triple_values g 0 n) n n 0 (omega arith) ∙ ap (λ m. triple_values f (0 + n) m ++ triple_values g 0 n) z
 
-  triple-of-second : (k : ℕ) → k < n → triple_at both_values (3 * n + 3 * k) ≡ g k
-  triple-of-second k h =
+  triple-of_second : (k : ℕ) → k < n → triple_at both_values (3 * n + 3 * k) ≡ g k
+  triple-of_second k h =
       triple-dropped both_values (3 * n + 3 * k)
       ∙ ap (λ xs. triple_at xs 0) (sym (drop-drop (3 * k) (3 * n) both_values) ∙ ap (drop (3 * k)) (second-part ∙ sym (append-nil (triple_values g 0 n))))
       ∙ sym (triple-dropped (triple_values g 0 n ++ []) (3 * k))
@@ -73,15 +73,15 @@ module _ (f g : ℕ → Triple) (n : ℕ) where
 module _ {p : ℕ} (prime : Prime p) (odd : p % 2 ≡ 1) (b : ℕ) (nonzero : residue p b ≡ 0 → ⊥) (v : Verifier) (c : ℕ → ℕ)
     (agree : (k : ℕ) → k < v.start.rounds → at v.challenges k ≡ c k) (f g : Vector) where
   -- COMPLETENESS OF THE OPENING CHECK
-  pub true-opening-holds : opening_finds p v b (opening p v.start.rounds c f g b) ≡ holds
+  pub true_opening_holds : opening_finds p v b (opening p v.start.rounds c f g b) ≡ holds
   unfolding both_values
-  true-opening-holds =
+  true_opening_holds =
       let n = v.start.rounds in
       let tf = triple p n c f b in
       let tg = triple p n c g b in
       (opening-yes p v b (opening p n c f g b)).1 (
         (λ k h.
             let z : 0 + 3 * k ≡ 3 * k = omega arith in
-            rw (z, agree k h, triple-of tf n (triple_values tg 0 n) k h) (true-opening prime odd b nonzero n c f k h)),
-        λ k h. rw (agree k h, triple-of-second tf tg n k h) (true-opening prime odd b nonzero n c g k h),
+            rw (z, agree k h, triple-of tf n (triple_values tg 0 n) k h) (true_opening prime odd b nonzero n c f k h)),
+        λ k h. rw (agree k h, triple-of_second tf tg n k h) (true_opening prime odd b nonzero n c g k h),
       )

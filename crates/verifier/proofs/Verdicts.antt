@@ -24,7 +24,7 @@ use Rattle.verifier.specs.Openings.{first_fault}
 use Rattle.verifier.specs.Calls.{message_turn, all_reduced3, message, verdict_turn, verdict}
 use Rattle.verifier.specs.Trips.{after_calls, messages, claim_at, message_passes, first_failed, verdict_of}
 use Rattle.verifier.proofs.Invariant.{parts_of_lem, formed_of, closed-taken, closed-turn}
-use Rattle.verifier.proofs.Faults.{Passes, Fails, fault-cases, fault-most, fault_same, passes-all}
+use Rattle.verifier.proofs.Faults.{Passes, Fails, fault_cases, fault_most, fault_same, passes-all}
 
 -- a verifier with another claim, round and failure
 abbrev pub with_claim : Verifier → ℕ → ℕ → Bool → Verifier
@@ -114,9 +114,9 @@ module _ (p : ℕ) (v : Verifier) (start : Closed v) (m : ℕ → Message)
   unfolding hears passed_with claim_at
   passed-step k h t = rw (call-of k h, t, add-one k)
 
-  failed-step : (k : ℕ) → k < n → test k ≡ false → (leaves (heard k) (messages p m (heard k) k)).verifier ≡ stopped k
+  failed_step : (k : ℕ) → k < n → test k ≡ false → (leaves (heard k) (messages p m (heard k) k)).verifier ≡ stopped k
   unfolding hears failed_now
-  failed-step k h t = rw (call-of k h, t)
+  failed_step k h t = rw (call-of k h, t)
 
   stays : (j k : ℕ) → j ≤ n → (leaves (stopped j) (messages p m (stopped j) k)).verifier ≡ stopped j
   stays j k h = rw (message-refused p (stopped j) (m k) (formed (claims j) j true h) (no-turn j))
@@ -139,7 +139,7 @@ module _ (p : ℕ) (v : Verifier) (start : Closed v) (m : ℕ → Message)
   after-no : (j : ℕ) → j < n → ((i : ℕ) → i < j → test i ≡ true) → test j ≡ false → (d : ℕ) → after (suc (j + d)) ≡ stopped j
   after-no j h t e zero =
       let z : j + 0 ≡ j = omega arith in
-      rw z (next j (all-heard j (omega arith) t) (failed-step j h e))
+      rw z (next j (all-heard j (omega arith) t) (failed_step j h e))
   after-no j h t e (suc d) =
       let z : j + suc d ≡ suc (j + d) = omega arith in
       rw z (next (suc (j + d)) (after-no j h t e d) (stays j (suc (j + d)) (omega arith)))
@@ -169,12 +169,12 @@ module _ (p : ℕ) (v : Verifier) (start : Closed v) (m : ℕ → Message)
       ap after same
       ∙ after-no j less (λ i h. a.before i (omega arith) h) a.fails (n - suc j)
       ∙ (rw (lt-ltb (first_fault test 0 n) n less)))
-      (fault-cases test n 0)
+      (fault_cases test n 0)
 
   -- DEMAND 2, THE VERDICT
   pub verdict-after : verdict p (after n) ≡ answered (verdict_of p (at v.challenges) n v.claim m (mul_mod p v.fsum v.gsum))
   unfolding verdict_of product
-  verdict-after = ap (verdict p) ended ∙ by (first_fault test 0 n) (fault-most test n) (ltb (first_fault test 0 n) n) refl
+  verdict-after = ap (verdict p) ended ∙ by (first_fault test 0 n) (fault_most test n) (ltb (first_fault test 0 n) n) refl
     where
       by : (j : ℕ) → j ≤ n → (b : Bool) → ltb j n ≡ b
           → verdict p (with_claim v (claims j) j b) ≡ answered (cond b (no j) (cond (eqb (claims n) product) yes (no n)))
@@ -224,7 +224,7 @@ module _ (p : ℕ) (c : ℕ → ℕ) (n claim : ℕ) (m : ℕ → Message) (prod
         before = λ i h. equation i (a.before i (omega arith) h);
         fails = unequal (first_failed p c n claim m) a.fails;
       }))
-      (fault-cases (message_passes p c claim m) n 0)
+      (fault_cases (message_passes p c claim m) n 0)
 
   -- DEMAND 2, BOTH WAYS: yes where every message meets its equation and the last claim is the product, else the first round that failed,
   -- or n

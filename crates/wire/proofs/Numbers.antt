@@ -45,11 +45,11 @@ module _ (s : List ℕ) (at : ℕ) where
       )
 
   -- four stores are the bytes of the number
-  pub four-stores : (v : ℕ)
+  pub four_stores : (v : ℕ)
       → set (set (set (set s at (v % 256)) (at + 1) (v / 256 % 256)) (at + 2) (v / 65536 % 256)) (at + 3) (v / 16777216 % 256)
       ≡ sets s at (bytes 4 v)
   unfolding bytes
-  four-stores v = simp (unary_clauses, div-div-eq-div-mul)
+  four_stores v = simp (unary_clauses, div-div-eq-div-mul)
 
 -- -1 less a number is its two's complement
 pub minus : (k : ℕ) → negsuc 0 -ℤ pos k ≡ negsuc k

@@ -19,7 +19,7 @@ use Rattle.wire.specs.Proof.{Message, Ends, proof_total, proof_number, proof_siz
 use Rattle.wire.proofs.Codes.{Bytes, num-bytes, bytes_drop, part_small, parted, bits_small, signed-bits, bits-signed}
 use Rattle.wire.proofs.Below.{all_below_lem}
 use Rattle.wire.proofs.WriteRows.{row_written}
-use Rattle.wire.proofs.Writes.{length_file, length-values}
+use Rattle.wire.proofs.Writes.{length_file, length_values}
 use Rattle.wire.proofs.ProofSays.{ProofFrame, GoodProof, proof-said, proof-good}
 use Rattle.wire.proofs.Parts.{round-message, end_values}
 
@@ -107,12 +107,12 @@ module _ (p n : ℕ) (t : ℤ) (ms : List ℕ) (f g : ℕ) (w : Writable p n t m
   unfolding num_at proof_header bytes
   file-number k h =
       ap (λ s. num (take 4 s)) (drop-append-add (proof_header n t) (numbers (proof_values n ms f g)) (4 * k))
-      ∙ at-number (proof_values n ms f g) k (omega (arith, length-values n t ms f g w.room)) (omega (arith, values-below k h, w.fits))
+      ∙ at-number (proof_values n ms f g) k (omega (arith, length_values n t ms f g w.room)) (omega (arith, values-below k h, w.fits))
 
   file-frame : ProofFrame (proof_file n t (proof_values n ms f g))
   unfolding proof_header num_at num bytes
   file-frame =
-      let l = length_file n t (proof_values n ms f g) (length-values n t ms f g w.room) in
+      let l = length_file n t (proof_values n ms f g) (length_values n t ms f g w.room) in
       record {
         mark = record { long = omega (arith, l); first = refl; second = refl; third = refl };
         version = refl;
@@ -141,9 +141,9 @@ module _ (p n : ℕ) (t : ℤ) (ms : List ℕ) (f g : ℕ) (w : Writable p n t m
   file-g = file-number (3 * n + 1) (omega arith) ∙ value-g n ms f g w.room
 
   -- what is written reads back as that proof
-  pub reads-back : ReadsAs p (proof_file n t (proof_values n ms f g)) n t ms f g
+  pub reads_back : ReadsAs p (proof_file n t (proof_values n ms f g)) n t ms f g
   unfolding proof_header bytes
-  reads-back =
+  reads_back =
       record {
         head = proof-said p _ _ file-good;
         rounds = λ r h.
@@ -153,15 +153,15 @@ module _ (p n : ℕ) (t : ℤ) (ms : List ℕ) (f g : ℕ) (w : Writable p n t m
       }
 
   -- so does what write_proof leaves in the first places of a buffer with room for it
-  pub write-reads-back : (buffer : List ℕ) → proof_size n ≤ length buffer
+  pub write_reads_back : (buffer : List ℕ) → proof_size n ≤ length buffer
       → (write_proof p n t ms f g buffer ≡ answered (proof_size n))
       × ReadsAs p (take (proof_size n) (written_in (write_proof p n t ms f g buffer) (proof_file n t (proof_values n ms f g)) buffer)) n t ms f g
   unfolding written_in in_limits
-  write-reads-back buffer h =
+  write_reads_back buffer h =
       let o = row_written p n t ms f g buffer (le-leb _ _ w.most) (le-leb _ _ w.limits) (all_below_lem p (λ k. get_or ms k 0) (3 * n) w.messages) (lt-ltb _ _ w.end_f_lem) (lt-ltb _ _ w.end_g_lem) (le-leb _ _ h) in (
         o,
-        rw (o, take_at (proof_file n t (proof_values n ms f g)) (drop (proof_size n) buffer) (proof_size n) (length_file n t (proof_values n ms f g) (length-values n t ms f g w.room)))
-            reads-back,
+        rw (o, take_at (proof_file n t (proof_values n ms f g)) (drop (proof_size n) buffer) (proof_size n) (length_file n t (proof_values n ms f g) (length_values n t ms f g w.room)))
+            reads_back,
       )
 
 num-dropped : (k a b : ℕ) (s : List ℕ) → num_at k (drop a s) b ≡ num_at k s (a + b)
@@ -222,7 +222,7 @@ module _ (p : ℕ) (file : List ℕ) (n : ℕ) (t : ℤ) (ms : List ℕ) (f g : 
 
   pub reads_only : file ≡ proof_file n t (proof_values n ms f g)
   reads_only =
-      let v = length-values n t ms f g room in
+      let v = length_values n t ms f g room in
       let whole = good p file n t ms f g r in
       let d : length (drop 10 file) ≡ 4 * length (proof_values n ms f g) = length-drop 10 file ∙ omega (arith, whole.frame.size, whole.rounds) in
       header_of p file n t b whole

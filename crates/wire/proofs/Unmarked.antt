@@ -48,9 +48,9 @@ module _ (file : List ℕ) (none : NoMark file) where
   same-items zero i e rest = refl
   same-items (suc n) i e rest = same_item i (omega arith) _ ∙ ap (require_ordinary file i) (same-items n (suc i) (omega arith) rest)
 
-  pub unmarked-log : read_log file ≡ read_ordinary file
+  pub unmarked_log : read_log file ≡ read_ordinary file
   unfolding read_log_within read_ordinary
-  unmarked-log =
+  unmarked_log =
       ap
       (λ its.
       require (marked 76 7 file) number.header

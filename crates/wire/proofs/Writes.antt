@@ -57,15 +57,15 @@ pub length_file : (n : ℕ) (t : ℤ) (xs : List ℕ) → length xs ≡ 3 * n + 
 length_file n t xs e = simp (length-append, length_header, length_numbers, e) (omega arith)
 
 module _ (n : ℕ) (t : ℤ) (ms : List ℕ) (f g : ℕ) (h : 3 * n ≤ length ms) where
-  pub length-values : length (proof_values n ms f g) ≡ 3 * n + 2
-  length-values = simp (length-append, length-take-le (3 * n) ms h) (omega arith)
+  pub length_values : length (proof_values n ms f g) ≡ 3 * n + 2
+  length_values = simp (length-append, length-take-le (3 * n) ms h) (omega arith)
 
-  length-first : length (proof_header n t ++ numbers (take (3 * n) ms)) ≡ 10 + 12 * n
-  length-first = simp (length-append, length_header, length_numbers, length-take-le (3 * n) ms h) (omega arith)
+  length_first : length (proof_header n t ++ numbers (take (3 * n) ms)) ≡ 10 + 12 * n
+  length_first = simp (length-append, length_header, length_numbers, length-take-le (3 * n) ms h) (omega arith)
 
-  length-second : length (proof_header n t ++ numbers (take (3 * n) ms) ++ bytes 4 f) ≡ 14 + 12 * n
+  length_second : length (proof_header n t ++ numbers (take (3 * n) ms) ++ bytes 4 f) ≡ 14 + 12 * n
   unfolding bytes
-  length-second = simp (length-append, length_header, length_numbers, length-take-le (3 * n) ms h) (omega arith)
+  length_second = simp (length-append, length_header, length_numbers, length-take-le (3 * n) ms h) (omega arith)
 
   whole : proof_header n t ++ numbers (take (3 * n) ms) ++ bytes 4 f ++ bytes 4 g ≡ proof_file n t (proof_values n ms f g)
   whole =
@@ -76,8 +76,8 @@ module _ (n : ℕ) (t : ℤ) (ms : List ℕ) (f g : ℕ) (h : 3 * n ≤ length m
       → sets (sets (sets (sets l 0 (proof_header n t)) 10 (numbers (take (3 * n) ms))) (10 + 12 * n) (bytes 4 f)) (14 + 12 * n) (bytes 4 g)
       ≡ proof_file n t (proof_values n ms f g) ++ drop (proof_size n) l
   four_runs l k =
-      rw (run _ _ _ _ (length_header n t), run _ _ _ _ length-first, run _ _ _ _ length-second, whole)
-      (from_first (proof_file n t (proof_values n ms f g)) l (proof_size n) (length_file n t (proof_values n ms f g) length-values) k)
+      rw (run _ _ _ _ (length_header n t), run _ _ _ _ length_first, run _ _ _ _ length_second, whole)
+      (from_first (proof_file n t (proof_values n ms f g)) l (proof_size n) (length_file n t (proof_values n ms f g) length_values) k)
 
   -- through the buffers in between, as the code has them
   pub written : (l a b c d : List ℕ) → proof_size n ≤ length l

@@ -1,26 +1,26 @@
 use Rattle.item.specs.Start.{modulus_of}
-use Rattle.dispatch.proofs.Dispatch.{made-open-pass, made-open-at, made-to-full, made-to-small, made-item, made-close, made-message, made-challenge, made_ends, made-opening, made-write-proof}
+use Rattle.dispatch.proofs.Dispatch.{made-open_pass, made-open_at, made-to_full, made-to_small, made-item, made-close, made-message, made-challenge, made_ends, made-opening, made-write_proof}
 use Rattle.dispatch.proofs.make.Goals as goal
 
 pub returns-in-OpenPass : goal.returns-in-OpenPass
 returns-in-OpenPass c =
     let s = c.args in
-    made-open-pass (modulus_of s.run.start) s.run s.pass s.f.now s.g.now s.file.now c.open_pass.result s.call c.in-OpenPass.is c.open_pass.ensures
+    made-open_pass (modulus_of s.run.start) s.run s.pass s.f.now s.g.now s.file.now c.open_pass.result s.call c.in-OpenPass.is c.open_pass.ensures
 
 pub returns-in-OpenAt : goal.returns-in-OpenAt
 returns-in-OpenAt c =
     let s = c.args in
-    made-open-at (modulus_of s.run.start) s.run s.pass s.f.now s.g.now s.file.now c.open_at.result s.call _ c.in-OpenAt.is c.open_at.ensures
+    made-open_at (modulus_of s.run.start) s.run s.pass s.f.now s.g.now s.file.now c.open_at.result s.call _ c.in-OpenAt.is c.open_at.ensures
 
 pub returns-in-ToFull : goal.returns-in-ToFull
 returns-in-ToFull c =
     let s = c.args in
-    made-to-full (modulus_of s.run.start) s.run s.pass s.f.now s.g.now s.file.now c.to_full.result _ _ s.call c.in-ToFull.is c.to_full.ensures
+    made-to_full (modulus_of s.run.start) s.run s.pass s.f.now s.g.now s.file.now c.to_full.result _ _ s.call c.in-ToFull.is c.to_full.ensures
 
 pub returns-in-ToSmall : goal.returns-in-ToSmall
 returns-in-ToSmall c =
     let s = c.args in
-    made-to-small (modulus_of s.run.start) s.run s.pass s.f.now s.g.now s.file.now c.to_small.result s.call c.in-ToSmall.is c.to_small.ensures
+    made-to_small (modulus_of s.run.start) s.run s.pass s.f.now s.g.now s.file.now c.to_small.result s.call c.in-ToSmall.is c.to_small.ensures
 
 pub returns-in-Give : goal.returns-in-Give
 returns-in-Give c =
@@ -55,4 +55,4 @@ returns-in-Opening c =
 pub returns-in-WriteProof : goal.returns-in-WriteProof
 returns-in-WriteProof c =
     let s = c.args in
-    made-write-proof (modulus_of s.run.start) s.run s.pass s.f.now s.g.now s.file.now c.write_proof.result _ s.call c.in-WriteProof.is c.write_proof.ensures.0 c.write_proof.ensures.1
+    made-write_proof (modulus_of s.run.start) s.run s.pass s.f.now s.g.now s.file.now c.write_proof.result _ s.call c.in-WriteProof.is c.write_proof.ensures.0 c.write_proof.ensures.1

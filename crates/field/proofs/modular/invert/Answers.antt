@@ -4,7 +4,7 @@ use native.Mathlib.Nat.{le_refl, mod-lt}
 use native.Mathlib.Omega.{arith}
 use Rattle.algebra.specs.Mod.{residue, mul_mod, inverse_in, inverse_mod}
 use Rattle.algebra.proofs.Congruence.{residue-small}
-use Rattle.algebra.proofs.Inverse.{inverse-in-small, inverse-lt, inverse-turn}
+use Rattle.algebra.proofs.Inverse.{inverse_in-small, inverse_lt, inverse_turn}
 use Rattle.algebra.proofs.Laws.{one_product}
 use Rattle.field.proofs.modular.invert.Goals as goal
 
@@ -25,7 +25,7 @@ loop-a-preserved c =
     let l = c.loop-a in
     let p = c.args.p in
     ap (λ t. mul_mod p t (inverse_in (p % l.a) p (p % l.a))) (c.mul-t.ensures ∙ ap (mul_mod p l.t) c.neg.ensures)
-    ∙ inverse-turn p l.t l.a (omega arith)
+    ∙ inverse_turn p l.t l.a (omega arith)
     ∙ l.invariant
 
 pub returns : goal.returns
@@ -35,8 +35,8 @@ returns c =
     let s = c.args in
     let small : l.a ≤ 1 = omega arith in
     c.mul.ensures
-    ∙ ap (mul_mod s.p l.t) (sym (inverse-in-small s.p l.a l.a (le_refl l.a) small))
+    ∙ ap (mul_mod s.p l.t) (sym (inverse_in-small s.p l.a l.a (le_refl l.a) small))
     ∙ l.invariant
     ∙ one_product s.p _
     ∙ ap (λ r. residue s.p (inverse_in r s.p r)) c.reduce-a.ensures
-    ∙ residue-small s.p _ (inverse-lt s.p s.x)
+    ∙ residue-small s.p _ (inverse_lt s.p s.x)

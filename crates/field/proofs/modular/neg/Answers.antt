@@ -1,11 +1,11 @@
 use mathlib.Core.Path.{sym, ap, ◌∙◌}
 use Prim.Native.Nat.{◌-◌}
 use native.Mathlib.Omega.{arith}
-use Rattle.field.proofs.Reduction.{neg-zero, neg-other, residue-below}
+use Rattle.field.proofs.Reduction.{neg_zero, neg_other, residue-below}
 use Rattle.field.proofs.modular.neg.Goals as goal
 
 pub returns-then-r-eq0 : goal.returns-then-r-eq0
-returns-then-r-eq0 c = sym (neg-zero _ _ (sym c.reduce-r.ensures ∙ c.if-r-eq0.true))
+returns-then-r-eq0 c = sym (neg_zero _ _ (sym c.reduce-r.ensures ∙ c.if-r-eq0.true))
 
 pub overflow_sub-result : goal.overflow_sub-result
 overflow_sub-result c =
@@ -15,4 +15,4 @@ overflow_sub-result c =
 pub returns : goal.returns
 returns c =
     ap (λ r. c.args.p - r) c.reduce-r.ensures
-    ∙ sym (neg-other _ _ (λ z. c.if-r-eq0.false (c.reduce-r.ensures ∙ z)))
+    ∙ sym (neg_other _ _ (λ z. c.if-r-eq0.false (c.reduce-r.ensures ∙ z)))

@@ -3,8 +3,8 @@ use native.Mathlib.Omega.{arith}
 use borrow.Author.Rules.{rules}
 use Rattle.kernel.specs.declared.Climber.{Climber}
 use Rattle.kernel.specs.Kernel.{climbed, evaluated}
-use Rattle.kernel.proofs.KernelSteps.{top_place, at_last, by-top}
-use Rattle.kernel.proofs.KernelTurns.{goes-up, comes-to-stop}
+use Rattle.kernel.proofs.KernelSteps.{top_place, at_last, by_top}
+use Rattle.kernel.proofs.KernelTurns.{goes_up, comes_to_stop}
 use Rattle.kernel.proofs.evaluate.climb_evaluating.Goals as goal
 
 -- src/evaluate.rt:70:5
@@ -45,8 +45,8 @@ loop-level-preserved c =
     let l = c.loop-level in
     let s = c.args in
     let now : Climber = record { count = l.count; level = l.level; f = l.a; g = l.b } in
-    let may = by-top s.p s.challenges.now s.last s.levels.now s.fvalues.now s.gvalues.now now c.loop-level-test.true ∙ sym c.top_at.ensures ∙ c.if-top_at.true in
-    let up = goes-up s.p s.challenges.now s.last s.at c.requires.2 s.levels.now s.fvalues.now s.gvalues.now l.count l.level l.a l.b _ _ c.arrive.ensures _ _ (top_place _ _ _ (sym c.top_at.ensures ∙ c.if-top_at.true)) may c.add_mul-a.ensures c.add_mul-b.ensures in
+    let may = by_top s.p s.challenges.now s.last s.levels.now s.fvalues.now s.gvalues.now now c.loop-level-test.true ∙ sym c.top_at.ensures ∙ c.if-top_at.true in
+    let up = goes_up s.p s.challenges.now s.last s.at c.requires.2 s.levels.now s.fvalues.now s.gvalues.now l.count l.level l.a l.b _ _ c.arrive.ensures _ _ (top_place _ _ _ (sym c.top_at.ensures ∙ c.if-top_at.true)) may c.add_mul-a.ensures c.add_mul-b.ensures in
     (omega (arith, l.invariant.0), omega (arith, c.loop-level-test.true), up.0 ∙ l.invariant.2, up.1 ∙ l.invariant.3)
 
 -- src/evaluate.rt:45:1
@@ -57,7 +57,7 @@ returns-after-loop-level c =
     let s = c.args in
     let now : Climber = record { count = l.count; level = l.level; f = l.a; g = l.b } in
     let end = at_last s.p s.challenges.now s.last s.levels.now s.fvalues.now s.gvalues.now now c.loop-level-test.false in
-    let stop = comes-to-stop s.p s.challenges.now s.last s.at c.requires.2 s.levels.now s.fvalues.now s.gvalues.now l.count l.level l.a l.b _ _ c.arrive.ensures end in
+    let stop = comes_to_stop s.p s.challenges.now s.last s.at c.requires.2 s.levels.now s.fvalues.now s.gvalues.now l.count l.level l.a l.b _ _ c.arrive.ensures end in
     (stop.0 ∙ l.invariant.2, stop.1 ∙ l.invariant.3)
 
 -- src/evaluate.rt:45:1
@@ -67,6 +67,6 @@ returns-else-top_at c =
     let l = c.loop-level in
     let s = c.args in
     let now : Climber = record { count = l.count; level = l.level; f = l.a; g = l.b } in
-    let end = by-top s.p s.challenges.now s.last s.levels.now s.fvalues.now s.gvalues.now now c.loop-level-test.true ∙ sym c.top_at.ensures ∙ c.if-top_at.false in
-    let stop = comes-to-stop s.p s.challenges.now s.last s.at c.requires.2 s.levels.now s.fvalues.now s.gvalues.now l.count l.level l.a l.b _ _ c.arrive.ensures end in
+    let end = by_top s.p s.challenges.now s.last s.levels.now s.fvalues.now s.gvalues.now now c.loop-level-test.true ∙ sym c.top_at.ensures ∙ c.if-top_at.false in
+    let stop = comes_to_stop s.p s.challenges.now s.last s.at c.requires.2 s.levels.now s.fvalues.now s.gvalues.now l.count l.level l.a l.b _ _ c.arrive.ensures end in
     (stop.0 ∙ l.invariant.2, stop.1 ∙ l.invariant.3)

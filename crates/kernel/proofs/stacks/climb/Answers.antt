@@ -3,7 +3,7 @@ use native.Mathlib.Omega.{arith}
 use borrow.Author.Rules.{rules}
 use Rattle.kernel.specs.declared.Climber.{Climber}
 use Rattle.kernel.specs.Kernel.{climbed}
-use Rattle.kernel.proofs.KernelSteps.{top_place, stays, rises, at_last, by-top}
+use Rattle.kernel.proofs.KernelSteps.{top_place, stays, rises, at_last, by_top}
 use Rattle.kernel.proofs.stacks.climb.Goals as goal
 
 pub loop-level-init : goal.loop-level-init
@@ -32,7 +32,7 @@ loop-level-preserved c =
     let l = c.loop-level in
     let s = c.args in
     let now : Climber = record { count = l.count; level = l.level; f = l.a; g = l.b } in
-    let may = by-top s.p s.challenges.now s.last s.levels.now s.fvalues.now s.gvalues.now now c.loop-level-test.true ∙ sym c.top_at.ensures ∙ c.if-top_at.true in (
+    let may = by_top s.p s.challenges.now s.last s.levels.now s.fvalues.now s.gvalues.now now c.loop-level-test.true ∙ sym c.top_at.ensures ∙ c.if-top_at.true in (
       omega arith,
       simp (c.add_mul-b.ensures, c.add_mul-a.ensures)
           (sym (rises s.p s.challenges.now s.last s.levels.now s.fvalues.now s.gvalues.now l.count now (top_place _ _ _ (sym c.top_at.ensures ∙ c.if-top_at.true)) may) ∙ l.invariant.1),
@@ -54,4 +54,4 @@ returns-else-top_at c =
     let s = c.args in
     let now : Climber = record { count = l.count; level = l.level; f = l.a; g = l.b } in
     sym (stays s.p s.challenges.now s.last s.levels.now s.fvalues.now s.gvalues.now l.count now
-    (by-top s.p s.challenges.now s.last s.levels.now s.fvalues.now s.gvalues.now now c.loop-level-test.true ∙ sym c.top_at.ensures ∙ c.if-top_at.false)) ∙ l.invariant.1
+    (by_top s.p s.challenges.now s.last s.levels.now s.fvalues.now s.gvalues.now now c.loop-level-test.true ∙ sym c.top_at.ensures ∙ c.if-top_at.false)) ∙ l.invariant.1

@@ -2,7 +2,7 @@ use mathlib.Core.Path.{◌≡◌, refl, sym, ap, ◌∙◌}
 use native.Mathlib.Omega.{arith}
 use borrow.Author.Tests.{le-ltb, lt-ltb}
 use Rattle.kernel.specs.Kernel.{padding_from, padding_below}
-use Rattle.kernel.proofs.KernelSteps.{pads-one, pads-none}
+use Rattle.kernel.proofs.KernelSteps.{pads_one, pads_none}
 use Rattle.kernel.proofs.start.padding_below.Goals as goal
 
 -- src/start.rt:56:9
@@ -30,7 +30,7 @@ loop-level-preserved-then-taken-level-eq1 c =
       omega arith,
       omega arith,
       omega arith,
-      ap (padding_from _ _) c.push_zero-k.ensures ∙ sym (pads-one _ l.level l.k c.loop-level-test.true c.if-taken-level-eq1.true) ∙ l.invariant.3,
+      ap (padding_from _ _) c.push_zero-k.ensures ∙ sym (pads_one _ l.level l.k c.loop-level-test.true c.if-taken-level-eq1.true) ∙ l.invariant.3,
     )
 
 -- src/start.rt:59:5
@@ -40,7 +40,7 @@ loop-level-preserved c =
       omega arith,
       omega arith,
       omega arith,
-      sym (pads-none _ l.level l.k c.loop-level-test.true c.if-taken-level-eq1.false) ∙ l.invariant.3,
+      sym (pads_none _ l.level l.k c.loop-level-test.true c.if-taken-level-eq1.false) ∙ l.invariant.3,
     )
 
 -- src/start.rt:51:1

@@ -6,7 +6,7 @@ use Rattle.pass.specs.Lent.{good_in, lent_in}
 use Rattle.prover.specs.Records.{leaves}
 use Rattle.prover.specs.Full.{ends_turn, ends_given, ends_call}
 use Rattle.prover.proofs.FullFacts.{both-there}
-use Rattle.prover.proofs.FullOutcomes.{good-long, read-turn, read-refused, read-given}
+use Rattle.prover.proofs.FullOutcomes.{good-long, read_turn, read_refused, read_given}
 use Rattle.prover.proofs.Run.ends.Goals as goal
 
 pub returns-in_default : goal.returns-in_default
@@ -18,7 +18,7 @@ returns-in_default c =
     let g = s.g.now in
     let turn = (ap (λ w. full_turn w s.self.mode next.Ends s.self.next) (sym c.well_formed-well.ensures) ∙ sym c.full_next.ensures) ∙ ap passed c.in_default.is in
     let same = ap (λ p. leaves s.self s.pass f g (ends_call p s.self s.pass f g)) c.modulus_of-p.ensures in
-    rw c.refuse.ensures (sym (read-turn P s.self s.pass f g (ends_turn P s.self s.pass) (ends_given s.self s.pass f g) turn) ∙ same)
+    rw c.refuse.ensures (sym (read_turn P s.self s.pass f g (ends_turn P s.self s.pass) (ends_given s.self s.pass f g) turn) ∙ same)
 
 pub give_ends-requires : goal.give_ends-requires
 give_ends-requires c =
@@ -40,7 +40,7 @@ returns-in-Good c =
     let turn = (ap (λ w. full_turn w s.self.mode next.Ends s.self.next) (sym c.well_formed-well.ensures) ∙ sym c.full_next.ensures) ∙ ap passed c.in-Passed.is in
     let same = ap (λ p. leaves s.self s.pass f g (ends_call p s.self s.pass f g)) c.modulus_of-p.ensures in
     let good = ap (λ w. good_in P w f g) (sym c.stage_of.ensures) ∙ sym c.both_good.ensures in
-    c.give_ends.ensures ∙ sym (read-given P s.self s.pass f g (ends_turn P s.self s.pass) (ends_given s.self s.pass f g) turn (good ∙ ap lent_in c.in-Good.is)) ∙ same
+    c.give_ends.ensures ∙ sym (read_given P s.self s.pass f g (ends_turn P s.self s.pass) (ends_given s.self s.pass f g) turn (good ∙ ap lent_in c.in-Good.is)) ∙ same
 
 pub returns-in-Refused : goal.returns-in-Refused
 unfolding ends_call
@@ -52,4 +52,4 @@ returns-in-Refused c =
     let turn = (ap (λ w. full_turn w s.self.mode next.Ends s.self.next) (sym c.well_formed-well.ensures) ∙ sym c.full_next.ensures) ∙ ap passed c.in-Passed.is in
     let same = ap (λ p. leaves s.self s.pass f g (ends_call p s.self s.pass f g)) c.modulus_of-p.ensures in
     let good = ap (λ w. good_in P w f g) (sym c.stage_of.ensures) ∙ sym c.both_good.ensures in
-    rw c.refuse-in-Refused.ensures (sym (read-refused P s.self s.pass f g (ends_turn P s.self s.pass) (ends_given s.self s.pass f g) turn _ (good ∙ ap lent_in c.in-Refused.is)) ∙ same)
+    rw c.refuse-in-Refused.ensures (sym (read_refused P s.self s.pass f g (ends_turn P s.self s.pass) (ends_given s.self s.pass f g) turn _ (good ∙ ap lent_in c.in-Refused.is)) ∙ same)

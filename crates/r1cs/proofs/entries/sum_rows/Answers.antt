@@ -4,20 +4,20 @@ use native.Mathlib.Omega.{arith}
 use lib.ListN.{length, length-set}
 use Rattle.vector.specs.Vector.{at}
 use Rattle.vector.proofs.Overwrite.{overwrite-length}
-use Rattle.r1cs.proofs.RowSums.{entry-step, all-added, none-added}
-use Rattle.r1cs.proofs.EntryFound.{entry_read, entry-not-missing, row_below, column_below}
+use Rattle.r1cs.proofs.RowSums.{entry-step, all-added, none_added}
+use Rattle.r1cs.proofs.EntryFound.{entry_read, entry-not_missing, row_below, column_below}
 use Rattle.r1cs.proofs.entries.sum_rows.Goals as goal
 
 pub loop-k-init : goal.loop-k-init
 loop-k-init c =
     let s = c.args in
-    (omega arith, refl, none-added s.p s.size s.matrix.now (at s.z.now) s.out.now c.clear.new.out c.clear.ensures)
+    (omega arith, refl, none_added s.p s.size s.matrix.now (at s.z.now) s.out.now c.clear.new.out c.clear.ensures)
 
 pub shape_of-out-in_default : goal.shape_of-out-in_default
-shape_of-out-in_default c = absurd (entry-not-missing c.args.matrix.now c.loop-k.k (omega (arith, c.requires.long)) c.matrix_entry.result c.matrix_entry.ensures c.in_default.is)
+shape_of-out-in_default c = absurd (entry-not_missing c.args.matrix.now c.loop-k.k (omega (arith, c.requires.long)) c.matrix_entry.result c.matrix_entry.ensures c.in_default.is)
 
 pub returns-in_default : goal.returns-in_default
-returns-in_default c = absurd (entry-not-missing c.args.matrix.now c.loop-k.k (omega (arith, c.requires.long)) c.matrix_entry.result c.matrix_entry.ensures c.in_default.is)
+returns-in_default c = absurd (entry-not_missing c.args.matrix.now c.loop-k.k (omega (arith, c.requires.long)) c.matrix_entry.result c.matrix_entry.ensures c.in_default.is)
 
 pub add_entry-requires : goal.add_entry-requires
 add_entry-requires c =

@@ -4,13 +4,13 @@ use lib.Dec.{ltb}
 use Rattle.vector.specs.Vector.{at}
 use mathlib.Core.Bool.{◌&&◌}
 use Rattle.vector.specs.Slice.{every, is_nonzero}
-use Rattle.vector.proofs.Every.{every-none, every_more, and_assoc, nonzero-short}
+use Rattle.vector.proofs.Every.{every-none, every_more, and_assoc, nonzero_short}
 use lib.ListN.{length}
 use Rattle.vector.proofs.slice.all_nonzero.Goals as goal
 
 -- src/slice.rt:111:9
 pub returns-then-v-m : goal.returns-then-v-m
-returns-then-v-m c = let s = c.args in nonzero-short s.p s.m s.v.now (length s.v.now) c.if-v-m.true (omega arith)
+returns-then-v-m c = let s = c.args in nonzero_short s.p s.m s.v.now (length s.v.now) c.if-v-m.true (omega arith)
 
 -- src/slice.rt:115:5
 pub loop-i-init : goal.loop-i-init

@@ -5,7 +5,7 @@ use lib.ListN.{length}
 use Rattle.vector.specs.Vector.{at}
 use Rattle.vector.specs.Slice.{message_slice}
 use Rattle.vector.proofs.Guards.{first_short, second_short, both-have}
-use Rattle.vector.proofs.Accumulate.{sum-none, add-even, add-forth, add_back, add_cross, add-odd}
+use Rattle.vector.proofs.Accumulate.{sum-none, add_even, add_forth, add_back, add_cross, add_odd}
 use Rattle.vector.proofs.slice.message.Goals as goal
 
 -- src/slice.rt:34:9
@@ -34,10 +34,10 @@ loop-k-preserved c =
     let f = at s.f.now in
     let g = at s.g.now in (
       omega arith,
-      c.add_mul-even.ensures ∙ add-even s.p l.k f g l.even l.invariant.1,
-      c.add_mul-cross.ensures ∙ add-forth s.p l.k f g l.cross l.invariant.2,
+      c.add_mul-even.ensures ∙ add_even s.p l.k f g l.even l.invariant.1,
+      c.add_mul-cross.ensures ∙ add_forth s.p l.k f g l.cross l.invariant.2,
       c.add_mul-back.ensures ∙ add_back s.p l.k f g l.back l.invariant.3,
-      c.add_mul-odd.ensures ∙ add-odd s.p l.k f g l.odd l.invariant.4,
+      c.add_mul-odd.ensures ∙ add_odd s.p l.k f g l.odd l.invariant.4,
     )
 
 -- src/slice.rt:26:1

@@ -1,5 +1,5 @@
 use mathlib.Core.Path.{◌∙◌}
-use Rattle.verifier.proofs.Invariant.{told, untold, other_version, other_count, other_rounds, fixed-start}
+use Rattle.verifier.proofs.Invariant.{told, untold, other_version, other_count, other_rounds, fixed_start}
 use Rattle.verifier.proofs.formed.returned.Goals as goal
 
 pub returns-in_default : goal.returns-in_default
@@ -16,4 +16,4 @@ pub returns : goal.returns
 returns c =
     c.pass_if-2.ensures
     ∙ c.turn_fits.ensures
-    ∙ fixed-start c.args.v (told c.in-Passed.is c.version_kept.ensures) (told c.in-Passed-count_fits.is c.count_fits.ensures) c.rounds_of.ensures (told c.in-Passed-pass_if.is c.pass_if.ensures)
+    ∙ fixed_start c.args.v (told c.in-Passed.is c.version_kept.ensures) (told c.in-Passed-count_fits.is c.count_fits.ensures) c.rounds_of.ensures (told c.in-Passed-pass_if.is c.pass_if.ensures)

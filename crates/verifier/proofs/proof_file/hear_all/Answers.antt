@@ -1,11 +1,11 @@
 use mathlib.Core.Path.{◌≡◌, ap, ◌∙◌}
 use native.Mathlib.Omega.{arith}
 use Rattle.verifier.specs.ProofFile.{file_message, hears_first}
-use Rattle.verifier.proofs.FileFacts.{heard-first, none-heard, one-heard}
+use Rattle.verifier.proofs.FileFacts.{heard-first, none_heard, one-heard}
 use Rattle.verifier.proofs.proof_file.hear_all.Goals as goal
 
 pub loop-k-init : goal.loop-k-init
-loop-k-init c = (omega arith, none-heard c.args.p c.args.v (file_message c.args.file.now))
+loop-k-init c = (omega arith, none_heard c.args.p c.args.v (file_message c.args.file.now))
 
 pub hear_next-heard-requires : goal.hear_next-heard-requires
 hear_next-heard-requires c =
