@@ -1,4 +1,4 @@
-// Lines of output. The same file stands in replay and in replay_files.
+// Lines of output. The same file stands in replay and in replay_files: a library must not name what it prints with.
 use records::Said;
 use records::parts::within;
 use std::io;

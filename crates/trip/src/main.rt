@@ -1,5 +1,6 @@
-#![tactic(auto)]
 // Document 01's program: proves the trip of trip.rvl with the challenges and the point of trip.rvc, and has the verifier judge it.
+#![tactic(auto)]
+
 mod arguments;
 mod input;
 mod modes;
