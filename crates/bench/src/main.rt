@@ -6,8 +6,9 @@ mod log;
 mod proving;
 mod verifying;
 
+use proving::Session;
 use records::Record;
-use records::parts::within_bytes;
+use records::parts::first;
 use std::io;
 use std::io::{ErrorKind, Read, Write};
 
@@ -44,24 +45,26 @@ fn bench<W: Write>(
 }
 
 fn repeats(r: Record, block: &mut [u8], f: &mut [u32], g: &mut [u32]) -> u64 {
-    let mut sum: u64 = 0;
-    for turn in (0..r.b).rev() {
-        sum = sum.wrapping_add(repeat(r, turn, block, f, g));
-    }
-    sum
+    (0..r.b).rev().fold(0, |sum: u64, turn| {
+        sum.wrapping_add(repeat(r, turn, block, f, g))
+    })
 }
 
 // The log differs from turn to turn, so that nothing can be kept.
 fn repeat(r: Record, turn: u32, block: &mut [u8], f: &mut [u32], g: &mut [u32]) -> u64 {
     log::mark(block, turn);
-    let n = within_bytes(4 * (r.a as usize), block);
-    phase(r.op, r.a, &block[..n], f, g)
+    phase(r.op, r.a, first(4 * (r.a as usize), block), f, g)
 }
 
 fn phase(kind: u32, items: u32, block: &[u8], f: &mut [u32], g: &mut [u32]) -> u64 {
-    match kind {
-        0 => proving::prove(items, block, false, f, g),
-        1 => proving::prove(items, block, true, f, g),
-        _ => verifying::end_values(items, block),
+    if kind > 1 {
+        return verifying::end_values(items, block);
     }
+    let mut session = Session {
+        block,
+        full: kind == 1,
+        f,
+        g,
+    };
+    session.prove(items)
 }

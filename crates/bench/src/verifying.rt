@@ -2,13 +2,13 @@
 ghost use Rattle.std.specs.Prelude.{◌≡◌, length};
 
 use super::log;
-use records::parts::within;
+use records::parts::first;
 use verifier::Verifier;
 
 pub(crate) fn end_values(items: u32, block: &[u8]) -> u64 {
     let challenges = challenges();
-    let n = within(vector::sizes::rounds_of(items) as usize, &challenges);
-    let v = Verifier::start_plain(items, 1, &challenges[..n]).verifier;
+    let rounds = vector::sizes::rounds_of(items) as usize;
+    let v = Verifier::start_plain(items, 1, first(rounds, &challenges)).verifier;
     let taken = v.items(block).verifier;
     (taken.fsum as u64) + (taken.gsum as u64)
 }

@@ -17,7 +17,8 @@ use Rattle.vector.proofs.Horner.{evaluate-same}
 use Rattle.item.specs.declared.Given.TheVariants.{Reading}
 use Rattle.item.specs.Item.{contributes, reading_number}
 use Rattle.wire.specs.Header.{version_of}
-use Rattle.wire.specs.Log.{Head, log_count, reading_of, weight_of, read_log}
+use Rattle.wire.specs.declared.log.Head.{Head}
+use Rattle.wire.specs.Log.{log_count, reading_of, weight_of, read_log}
 use Rattle.wire.proofs.LogSays.{GoodLog, items-found}
 use Rattle.runs.specs.Trip.{Trip, vector_f}
 use Rattle.runs.proofs.CloseLaws.{residue-below}

@@ -37,7 +37,7 @@ use Rattle.phase.specs.Level.{level_at}
 use Rattle.phase.specs.Order.{round_or_ends, round_fits, kind_fits}
 use Rattle.prover.specs.declared.Run.{Run}
 use Rattle.pass.specs.declared.Pass.{Pass}
-use Rattle.prover.specs.declared.Answer.TheVariants as answer
+use Rattle.prover.specs.declared.Reply.TheVariants as answer
 use Rattle.prover.specs.Reply as reply
 use Rattle.prover.specs.Reply.{answer_in}
 use Rattle.prover.specs.Records.{answered_step}

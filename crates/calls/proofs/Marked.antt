@@ -14,7 +14,8 @@ use Rattle.algebra.specs.Mod.{mul_mod}
 use Rattle.field.specs.Total.{limit, in_limits}
 use Rattle.vector.specs.Vector.{at, weight}
 use Rattle.wire.specs.Header.{version_of}
-use Rattle.wire.specs.Log.{Head, log_count, reading_of, weight_of, read_log}
+use Rattle.wire.specs.declared.log.Head.{Head}
+use Rattle.wire.specs.Log.{log_count, reading_of, weight_of, read_log}
 use Rattle.wire.specs.Proof.{proof_size}
 use Rattle.item.specs.declared.Given.{Given}
 use Rattle.item.specs.declared.Given.TheVariants.{Reading, Numbers}

@@ -22,7 +22,7 @@ use Rattle.phase.specs.Order.{round_fits, kind_fits}
 use Rattle.prover.specs.declared.Run.{Run}
 use Rattle.pass.specs.declared.Pass.{Pass}
 use Rattle.prover.specs.declared.Step.{Step}
-use Rattle.prover.specs.declared.Answer.TheVariants as answer
+use Rattle.prover.specs.declared.Reply.TheVariants as answer
 use Rattle.prover.specs.Reply.{answer_in}
 use Rattle.prover.specs.Reply as reply
 use Rattle.pass.specs.Values.{no_values}

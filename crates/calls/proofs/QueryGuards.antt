@@ -14,7 +14,8 @@ use Rattle.refusal.specs.Outcome.{Outcome, answered, require, require_at}
 use Rattle.field.specs.Integer.{image}
 use Rattle.field.specs.Total.{in_limits}
 use Rattle.wire.specs.Header.{marked, version_of}
-use Rattle.wire.specs.Proof.{Head, proof_rounds, proof_total, proof_number, all_below, read_proof, read_proof_of, proof_size}
+use Rattle.wire.specs.declared.proof.Head.{Head}
+use Rattle.wire.specs.Proof.{proof_rounds, proof_total, proof_number, all_below, read_proof, read_proof_of, proof_size}
 use Rattle.vector.specs.Slice.{is_nonzero, all_reduced}
 use Rattle.verifier.specs.declared.Verifier.{Verifier}
 use Rattle.verifier.specs.WellFormed.{well_formed}

@@ -24,7 +24,7 @@ use Rattle.phase.specs.Cases.{waits}
 use Rattle.phase.specs.Level.{level_at}
 use Rattle.prover.specs.declared.Run.{Run}
 use Rattle.pass.specs.declared.Pass.{Pass}
-use Rattle.prover.specs.declared.Answer.TheVariants as answer
+use Rattle.prover.specs.declared.Reply.TheVariants as answer
 use Rattle.prover.specs.Reply as reply
 use Rattle.prover.specs.Reply.{answer_in}
 use Rattle.pass.specs.Pass.{kernel_of}

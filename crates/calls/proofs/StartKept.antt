@@ -24,7 +24,7 @@ use Rattle.phase.specs.declared.Kind.TheVariants.{Shut, Asked, Change}
 use Rattle.prover.specs.declared.Run.{Run}
 use Rattle.pass.specs.declared.Pass.{Pass}
 use Rattle.prover.specs.declared.Step.{Step}
-use Rattle.prover.specs.declared.Answer.TheVariants as answer
+use Rattle.prover.specs.declared.Reply.TheVariants as answer
 use Rattle.prover.specs.Records.{Out, out, leaves, answered_step}
 use Rattle.pass.specs.Open.{no_points, points_of}
 use Rattle.prover.specs.Open.{may_open, may_open_at, opened, open_kernel, padded_kernel, open_call, open_at_call}
@@ -51,7 +51,8 @@ use Rattle.verifier.specs.WellFormed.{well_formed}
 use Rattle.verifier.specs.Calls as calls
 use Rattle.verifier.specs.Calls.{with_parts, give, close, close_claim, all_reduced3, message}
 use Rattle.verifier.specs.ProofFile.{file_message, hears_next, hears_first, ends_agree, compares, after_file, Judgement, judges, read_total, proof, leaves_judged}
-use Rattle.wire.specs.Proof.{Head, read_proof_of}
+use Rattle.wire.specs.declared.proof.Head.{Head}
+use Rattle.wire.specs.Proof.{read_proof_of}
 use lib.IntN.{ℤ}
 use Rattle.calls.specs.declared.Call.{Call}
 use Rattle.calls.specs.declared.Call.TheVariants as call

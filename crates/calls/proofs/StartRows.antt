@@ -12,7 +12,8 @@ use lib.ListN.{length}
 use lib.Pow.{pow_pos, pow_mono}
 use borrow.Author.Tests.{leb-true, ltb-true, eqb-true}
 use Rattle.refusal.specs.Outcome.{Outcome, answered, refused, refused_at, require, require_all, and_then}
-use Rattle.wire.specs.Log.{Head, read_log}
+use Rattle.wire.specs.declared.log.Head.{Head}
+use Rattle.wire.specs.Log.{read_log}
 use Rattle.vector.specs.Rounds.{rounds_of}
 use Rattle.vector.specs.Slice.{is_nonzero, all_nonzero}
 use Rattle.vector.proofs.Rounds.{rounds_power}

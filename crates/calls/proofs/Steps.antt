@@ -126,11 +126,11 @@ module _ (p : ℕ) (a : State) (past : Notes) (few : a.start.rounds ≤ 15) (s :
   R = run_of a past
 
   close-so : (l : Lent) (t : Option Refusal) → table p a call.Close l ≡ t
-      → keeping_step l (leaves_step R s (decided t (closing p R s s.kind))) ≡ settled R s l t (keeping_step l (close_step p R s a.turn.next s.kind))
+      → keeping l (leaves_step R s (decided t (closing p R s s.kind))) ≡ settled R s l t (keeping_step l (close_step p R s a.turn.next s.kind))
   unfolding table
   close-so l none e =
       let q = (row-passed (is_open a.pass.kind) 10 _ e).0 in
-      ap (λ o. keeping_step l (leaves_step R s o))
+      ap (λ o. keeping l (leaves_step R s o))
       (finishes p R s a.turn.mode a.turn.next s.kind (subst (λ k. kind_fits k a.turn.mode a.turn.next ≡ true) (sym kind) fits)
       (ap is_open kind ∙ q) refl)
   close-so l (some (k, none)) e = refl
@@ -154,7 +154,7 @@ module _ (p : ℕ) (a : State) (past : Notes) (few : a.start.rounds ≤ 15) (s :
     write_so l = like_row _ _ 10 _ _ _ write_turn (file-rows l.file)
 
     write_settled : (l : Lent) (t : Option Refusal) (o : Outcome ℕ) → o ≡ decided t (answered (proof_size a.start.rounds))
-        → keeping_step (record { f = l.f; g = l.g; file = written_in o (run_proof R) l.file }) (written_step R s o)
+        → keeping (record { f = l.f; g = l.g; file = written_in o (run_proof R) l.file }) (written_step R s o)
         ≡ settled R s l t (does p R s call.WriteProof l)
     unfolding written_in
     write_settled l none o e = rw e
@@ -169,7 +169,7 @@ module _ (p : ℕ) (a : State) (past : Notes) (few : a.start.rounds ≤ 15) (s :
     steps call.ToFull l = ap (λ o. leaving l (leaves R s l.f l.g o)) (to_full_decided p a past few s wf l) ∙ leaving-so R s l (table p a call.ToFull l) _
     steps call.ToSmall l = ap (λ o. keeping l (leaves R s [] [] o)) (to_small_decided p a past few s wf l) ∙ keeps R s l (table p a call.ToSmall l) _
     steps (call.Give x) l = ap (λ o. leaving l (leaves R s l.f l.g o)) (item-decided p a past few s wf kind count x l) ∙ leaving-so R s l (table p a (call.Give x) l) _
-    steps call.Close l = ap (λ o. keeping_step l (leaves_step R s o)) (close-decided p a past few s wf kind count sums l) ∙ close-so l (table p a call.Close l) refl
+    steps call.Close l = ap (λ o. keeping l (leaves_step R s o)) (close-decided p a past few s wf kind count sums l) ∙ close-so l (table p a call.Close l) refl
     steps call.Message l = ap (λ o. leaving l (leaves R s l.f l.g o)) (message-decided p a past few s wf l) ∙ leaving-so R s l (table p a call.Message l) _
     steps (call.Challenge c) l = ap (λ o. leaving l (leaves R s l.f l.g o)) (challenge-decided p a past few s wf c l) ∙ leaving-so R s l (table p a (call.Challenge c) l) _
     steps call.Ends l = ap (λ o. leaving l (leaves R s l.f l.g o)) (ends_decided p a past few s wf l) ∙ leaving-so R s l (table p a call.Ends l) _

@@ -3,7 +3,8 @@ use Rattle.std.specs.Prelude.{ℕ, zero, suc, ◌≤◌, ◌<◌, ◌≡◌, tru
 use Rattle.std.proofs.Math.Option.{Option, none, some}
 use Rattle.refusal.specs.Limit.{max_items, max_rounds, max_logs}
 use Rattle.refusal.specs.Outcome.{Outcome, answered, refused, refused_at}
-use Rattle.wire.specs.Log.{Head, read_log}
+use Rattle.wire.specs.declared.log.Head.{Head}
+use Rattle.wire.specs.Log.{read_log}
 use Rattle.vector.specs.Rounds.{rounds_of}
 use Rattle.vector.specs.Slice.{is_nonzero, all_nonzero}
 use Rattle.item.specs.declared.Start.{Start}

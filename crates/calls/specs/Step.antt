@@ -5,7 +5,7 @@ use Rattle.wire.specs.Proof.{written_in}
 use Rattle.prover.specs.declared.Run.{Run}
 use Rattle.pass.specs.declared.Pass.{Pass}
 use Rattle.prover.specs.Reply.{Reply}
-use Rattle.prover.specs.Records.{Out, out, leaves}
+use Rattle.prover.specs.Records.{Out, leaves}
 use Rattle.prover.specs.Open.{open_call, open_at_call}
 use Rattle.prover.specs.Change.{to_full_call, to_small_call}
 use Rattle.prover.specs.Calls.{give_call}
@@ -52,7 +52,7 @@ leaving l o =
 abbrev pub writing : ℕ → Run → Pass → Lent → Result
 writing p r s l =
     keeping (record { f = l.f; g = l.g; file = written_in (write_call p r s l.file) (run_proof r) l.file })
-    (out (written_step r s (write_call p r s l.file)) [] [])
+    (written_step r s (write_call p r s l.file))
 
 unfoldable pub step : ℕ → Run → Pass → Call → Lent → Result
 step p r s call.OpenPass l = keeping l (leaves r s [] [] (open_call p r s))
@@ -60,7 +60,7 @@ step p r s (call.OpenAt b) l = keeping l (leaves r s [] [] (open_at_call p r s b
 step p r s call.ToFull l = leaving l (leaves r s l.f l.g (to_full_call p r s l.f l.g))
 step p r s call.ToSmall l = keeping l (leaves r s [] [] (to_small_call p r s))
 step p r s (call.Give x) l = leaving l (leaves r s l.f l.g (give_call p r s x l.f l.g))
-step p r s call.Close l = keeping l (out (leaves_step r s (close_call p r s)) [] [])
+step p r s call.Close l = keeping l (leaves_step r s (close_call p r s))
 step p r s call.Message l = leaving l (leaves r s l.f l.g (message_call p r s l.f l.g))
 step p r s (call.Challenge c) l = leaving l (leaves r s l.f l.g (challenge_call p r s c l.f l.g))
 step p r s call.Ends l = leaving l (leaves r s l.f l.g (ends_call p r s l.f l.g))

@@ -5,7 +5,7 @@ pub mod query;
 
 use item::Given;
 
-#[derive(Clone, Copy)]
+#[derive(Clone, Copy, Debug, PartialEq, Eq)]
 pub enum Call {
     OpenPass,
     OpenAt(u32),

@@ -1,7 +1,7 @@
 // Calls of a verifier as data.
 use item::Given;
 
-#[derive(Clone, Copy)]
+#[derive(Clone, Copy, Debug, PartialEq, Eq)]
 pub enum Query {
     Give(Given),
     Close(i64),

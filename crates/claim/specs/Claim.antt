@@ -1,11 +1,9 @@
 -- The claim, the messages and the verdict: document 01, "The gateway"; and the sum of a batch: document 02, (a).
-use Rattle.std.specs.Prelude.{ℕ, Bool, cond, ◌&&◌, List, eqb, length}
+use Rattle.std.specs.Prelude.{ℕ, Bool, cond, ◌&&◌, List, eqb, length, Option, Some, None}
 use Rattle.algebra.specs.Mod.{mul_mod}
 use Rattle.vector.specs.Vector.{at}
 use Rattle.vector.specs.Opening.{evaluate}
 use Rattle.vector.specs.Message.{Message, passes, next_claim}
-use Rattle.claim.specs.declared.Heard.{Heard}
-use Rattle.claim.specs.declared.Heard.TheVariants.{Passed, Failed}
 use Rattle.claim.specs.declared.Finding.{Finding}
 use Rattle.claim.specs.declared.Finding.TheVariants.{Yes, No}
 
@@ -16,9 +14,9 @@ message_of3 even cross odd = record { even = even; cross = cross; odd = odd }
 abbrev pub next_of : ℕ → ℕ → ℕ → ℕ → ℕ → ℕ
 next_of p c even cross odd = next_claim p (message_of3 even cross odd) c
 
--- "A message passes if even + odd = claim"
-abbrev pub heard_of : ℕ → ℕ → ℕ → Message → Heard
-heard_of p claim c m = cond (eqb (passes p m) claim) (Passed (next_claim p m c)) Failed
+-- "A message passes if even + odd = claim": then the next claim
+abbrev pub heard_of : ℕ → ℕ → ℕ → Message → Option ℕ
+heard_of p claim c m = cond (eqb (passes p m) claim) (Some (next_claim p m c)) None
 
 -- "End values in the proof file must equal its own"
 abbrev pub own_ends : ℕ → ℕ → ℕ → ℕ → Bool

@@ -5,14 +5,8 @@
 ghost use Rattle.std.specs.Prelude.{◌≡◌};
 ghost use Rattle.claim.specs.Claim.{message_of3, next_of, heard_of, own_ends, found_of, sum_holds};
 
-#[derive(Clone, Copy)]
-pub enum Heard {
-    // The message passed, and this is the next claim.
-    Passed(u32),
-    Failed,
-}
-
-#[derive(Clone, Copy)]
+// No Result: `found_of` and the clauses of the verifier name these cases, and a no is no error.
+#[derive(Clone, Copy, Debug, PartialEq, Eq)]
 pub enum Finding {
     Yes,
     No(u32),
@@ -27,24 +21,21 @@ pub fn next_claim(p: u32, c: u32, even: u32, cross: u32, odd: u32) -> u32
     field::modular::add_mul(p, linear, odd, square)
 }
 
-// A message of the round whose challenge is c.
-pub fn hear(p: u32, claim: u32, c: u32, even: u32, cross: u32, odd: u32) -> Heard
+// The next claim, after a message of the round whose challenge is c; None where the message fails.
+pub fn hear(p: u32, claim: u32, c: u32, even: u32, cross: u32, odd: u32) -> Option<u32>
     ensures { result ≡ heard_of p claim c (message_of3 even cross odd) }
 {
     if field::modular::add(p, even, odd) != claim {
-        return Heard::Failed;
+        return None;
     }
-    Heard::Passed(next_claim(p, c, even, cross, odd))
+    Some(next_claim(p, c, even, cross, odd))
 }
 
 // The end values of a proof file are the verifier's own.
 pub fn ends_own(f: u32, g: u32, own_f: u32, own_g: u32) -> bool
     ensures { result ≡ own_ends f g own_f own_g }
 {
-    if f != own_f {
-        return false;
-    }
-    g == own_g
+    f == own_f && g == own_g
 }
 
 // The verdict after the last message, or after the one that failed in this round.
@@ -61,9 +52,9 @@ pub fn find(p: u32, rounds: u32, failed: bool, round: u32, claim: u32, f: u32, g
 }
 
 // A batch's value at the point is the sum of z^i times log i's value.
+#[tactic(auto, unfolding(vector::specs::Slice::evaluate_slice))]
 pub fn sum_holds(p: u32, z: u32, value: u32, logs: &[u32]) -> bool
     ensures { result ≡ sum_holds p z value logs.now }
 {
-    let sum = vector::slice::evaluate(p, logs, logs.len(), z);
-    sum == value
+    vector::slice::evaluate(p, logs, logs.len(), z) == value
 }

@@ -1,14 +1,13 @@
 // The logs of three compartments, of equal n and unequal L, and what they are together.
-use batch::{LogValue, combined_item, log_value, start_batch};
+use batch::{combined_item, log_value, start_batch};
 use prover::Step;
+use refusal::Refusal;
 
 pub(crate) const LOGS: u32 = 3;
 
 pub(crate) const Z: u32 = 3;
 
-pub(crate) const FIRST: u32 = 2;
-
-pub(crate) const SECOND: u32 = 3;
+pub(crate) const CHALLENGES: [u32; 2] = [2, 3];
 
 pub(crate) const POINT: u32 = 2;
 
@@ -32,36 +31,15 @@ pub(crate) const SINGLE: [u8; 11] = [82, 86, 76, 1, 0, 1, 0, 5, 0, 10, 0];
 
 // Item i of the combined vector.
 pub(crate) fn item(i: u32) -> u32 {
-    let frozen = FROZEN;
-    let chilled = CHILLED;
-    let dry = DRY;
-    let a = &frozen[..];
-    let none = &a[..0];
+    let none = &FROZEN[..0];
     combined_item(
-        LOGS,
-        a,
-        &chilled[..],
-        &dry[..],
-        none,
-        none,
-        none,
-        none,
-        none,
-        Z,
-        i,
+        LOGS, &FROZEN, &CHILLED, &DRY, none, none, none, none, none, Z, i,
     )
 }
 
-// The run of so many logs of three that are handed in.
-pub(crate) fn begin_with<'a>(
-    count: u32,
-    first: &'a [u8],
-    second: &'a [u8],
-    third: &'a [u8],
-    z: u32,
-) -> Step {
-    let challenges = [FIRST, SECOND];
-    let none = &first[..0];
+// The run of so many of the logs that are handed in.
+pub(crate) fn begin(count: u32, [first, second, third]: [&[u8]; 3], z: u32) -> Step {
+    let none = &FROZEN[..0];
     start_batch(
         count,
         first,
@@ -73,23 +51,15 @@ pub(crate) fn begin_with<'a>(
         none,
         none,
         z,
-        &challenges,
+        &CHALLENGES,
     )
 }
 
-// The run of so many of the three logs.
-pub(crate) fn begin(count: u32, z: u32) -> Step {
-    let frozen = FROZEN;
-    let chilled = CHILLED;
-    let dry = DRY;
-    begin_with(count, &frozen[..], &chilled[..], &dry[..], z)
-}
-
-// A log's value at the point; 0 where it is refused.
-pub(crate) fn value(log: &[u8]) -> u32 {
-    match log_value(log, POINT) {
-        LogValue::Value(x) => x,
-        LogValue::Refused(_k) => 0,
-        LogValue::RefusedAt(_k, _i) => 0,
-    }
+// The logs' values at the point.
+pub(crate) fn values() -> Result<[u32; 3], Refusal> {
+    Ok([
+        log_value(&FROZEN, POINT)?,
+        log_value(&CHILLED, POINT)?,
+        log_value(&DRY, POINT)?,
+    ])
 }

@@ -1,54 +1,70 @@
 // The run of the batch, in small mode and in full mode.
-use super::logs;
-use prover::{Answer, Step};
+use super::failure::Failure;
+use super::logs::{self, CHILLED, DRY, FROZEN, LOGS, POINT, Z};
+use prover::{Reply, Step};
 
-fn given(s: Step, i: u32, f: &mut [u32; 4], g: &mut [u32; 4]) -> Step {
-    let run = s.run;
-    let pass = s.pass;
-    run.field_item(pass, logs::item(i), 0, f, g)
+// With the buffers that are lent to its calls.
+#[derive(Clone, Copy)]
+pub(crate) struct Batch {
+    step: Step,
+    f: [u32; 4],
+    g: [u32; 4],
 }
 
-// A pass that is open, from the last item down.
-fn streamed(s: Step, f: &mut [u32; 4], g: &mut [u32; 4]) -> Step {
-    let s = given(s, 3, f, g);
-    let s = given(s, 2, f, g);
-    let s = given(s, 1, f, g);
-    let s = given(s, 0, f, g);
-    let run = s.run;
-    let pass = s.pass;
-    run.close(pass)
-}
+impl Batch {
+    pub(crate) fn begin() -> Batch {
+        Batch {
+            step: logs::begin(LOGS, [&FROZEN, &CHILLED, &DRY], Z),
+            f: [0; 4],
+            g: [0; 4],
+        }
+    }
 
-pub(crate) fn opened_small(s: Step, f: &mut [u32; 4], g: &mut [u32; 4]) -> Step {
-    let run = s.run;
-    let pass = s.pass;
-    streamed(run.open_at(pass, logs::POINT), f, g)
-}
+    // By a pass in small mode.
+    pub(crate) fn open_small(&mut self) -> Result<[u32; 6], Failure> {
+        self.step = self.step.run.open_at(self.step.pass, POINT);
+        self.give_items();
+        self.values()
+    }
 
-pub(crate) fn changed(s: Step, f: &mut [u32; 4], g: &mut [u32; 4]) -> Step {
-    let run = s.run;
-    let pass = s.pass;
-    streamed(run.to_full(pass, f, g), f, g)
-}
+    // From the buffers in full mode.
+    pub(crate) fn open_full(&mut self) -> Result<[u32; 6], Failure> {
+        self.step = self
+            .step
+            .run
+            .opening(self.step.pass, POINT, &self.f, &self.g);
+        self.values()
+    }
 
-pub(crate) fn returned(s: Step) -> Step {
-    let run = s.run;
-    let pass = s.pass;
-    run.to_small(pass)
-}
+    pub(crate) fn change_to_full(&mut self) {
+        self.step = self
+            .step
+            .run
+            .to_full(self.step.pass, &mut self.f, &mut self.g);
+        self.give_items();
+    }
 
-pub(crate) fn opened_full(s: Step, f: &mut [u32; 4], g: &mut [u32; 4]) -> Step {
-    let run = s.run;
-    let pass = s.pass;
-    run.opening(pass, logs::POINT, f, g)
-}
+    pub(crate) fn return_to_small(&mut self) {
+        self.step = self.step.run.to_small(self.step.pass);
+    }
 
-// The six values of the combined vector; zeros where there is no opening.
-pub(crate) fn values(s: Step) -> [u32; 6] {
-    let answer = s.answer;
-    let Answer::Opening = answer else {
-        return [0; 6];
-    };
-    let v = s.values;
-    [v[0], v[1], v[2], v[3], v[4], v[5]]
+    // The six of the combined vector that an opening answers.
+    fn values(&self) -> Result<[u32; 6], Failure> {
+        let Reply::Opening = self.step.answer? else {
+            return Err(Failure::Other);
+        };
+        let [a, b, c, d, e, f, ..] = self.step.values;
+        Ok([a, b, c, d, e, f])
+    }
+
+    // A pass that is open, from the last item down, and its close.
+    fn give_items(&mut self) {
+        for i in (0..4).rev() {
+            self.step = self
+                .step
+                .run
+                .field_item(self.step.pass, logs::item(i), 0, &mut self.f, &mut self.g);
+        }
+        self.step = self.step.run.close(self.step.pass);
+    }
 }

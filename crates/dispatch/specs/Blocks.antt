@@ -9,11 +9,11 @@ use Rattle.records.specs.Slots.{slot_in}
 
 -- 26, 43: "the bytes of slot a .. as a block"
 abbrev pub slot_block : Slots → ℕ → Block
-slot_block s k = of_bytes (slot_in k s.sizes s.bytes)
+slot_block s k = of_bytes (slot_in k s)
 
 -- 27, 44: "the first a numbers of the scratch list, and the next b of it"
 abbrev pub parts_block : Lists → ℕ → ℕ → Block
-parts_block l a b = of_numbers (take a (numbers_in l.held l.scratch)) (take b (drop a (numbers_in l.held l.scratch)))
+parts_block l a b = of_numbers (take a (numbers_in l)) (take b (drop a (numbers_in l)))
 
 -- "26, 43 | items", and not "27, 44 | field_items"
 abbrev pub names_slot : Record → Bool
@@ -25,4 +25,4 @@ block_named l s r = cond (names_slot r) (slot_block s r.a) (parts_block l r.a r.
 
 -- "`tool bad` if a > 7"; "`tool bad` if it has fewer than a + b"
 abbrev pub block_fits : Lists → Record → Bool
-block_fits l r = cond (names_slot r) (leb r.a 7) (leb (r.a + r.b) (length (numbers_in l.held l.scratch)))
+block_fits l r = cond (names_slot r) (leb r.a 7) (leb (r.a + r.b) (length (numbers_in l)))

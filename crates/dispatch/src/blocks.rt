@@ -13,43 +13,44 @@ use super::query::{Heard, stepped};
 use pass::Pass;
 use prover::{Run, Step};
 use records::Record;
-use records::lists::{Lists, has, part};
+use records::lists::Lists;
 use records::parts::within;
-use records::slots::{Slots, slot};
+use records::slots::Slots;
 use verifier::Verifier;
 
 // A slot, not parts of the scratch list.
 fn names_slot(r: Record) -> bool
     ensures { result ≡ names_slot r }
 {
-    if r.op == 26 {
-        return true;
-    }
-    r.op == 43
+    matches!(r.op, 26 | 43)
 }
 
 // Whether the slot, or so many numbers, are there.
-pub fn fits(l: Lists, r: Record) -> bool
-    ensures { result ≡ block_fits l r }
+pub fn fits(l: &Lists, r: Record) -> bool
+    ensures { result ≡ block_fits l.now r }
 {
     if names_slot(r) {
         return r.a <= 7;
     }
-    let scratch = l.scratch;
-    has(l.held, &scratch, r.a, r.b)
+    l.has(r.a, r.b)
 }
 
-fn to_run(run: Run, pass: Pass, l: Lists, s: Slots, r: Record, f: &mut [u32], g: &mut [u32]) -> Step
-    ensures { out result f.new g.new ≡ leaves run pass f.old g.old (items_call (modulus_of run.start) run pass (block_named l s r) f.old g.old) }
+fn to_run(
+    run: Run,
+    pass: Pass,
+    l: &Lists,
+    s: &Slots,
+    r: Record,
+    f: &mut [u32],
+    g: &mut [u32],
+) -> Step
+    ensures { out result f.new g.new ≡ leaves run pass f.old g.old (items_call (modulus_of run.start) run pass (block_named l.now s.now r) f.old g.old) }
 {
     if names_slot(r) {
-        let bytes = s.bytes;
-        let sizes = s.sizes;
-        return run.items(pass, slot(&bytes, &sizes, r.a), f, g);
+        return run.items(pass, s.slot(r.a), f, g);
     }
-    let scratch = l.scratch;
-    let a = part(l.held, &scratch, 0, r.a);
-    let b = part(l.held, &scratch, r.a, r.b);
+    let a = l.part(0, r.a);
+    let b = l.part(r.a, r.b);
     run.field_items(pass, a, b, f, g)
 }
 
@@ -57,13 +58,13 @@ fn to_run(run: Run, pass: Pass, l: Lists, s: Slots, r: Record, f: &mut [u32], g:
 pub fn to_run_within(
     run: Run,
     pass: Pass,
-    l: Lists,
-    s: Slots,
+    l: &Lists,
+    s: &Slots,
     r: Record,
     f: &mut [u32],
     g: &mut [u32],
 ) -> Step
-    ensures { (out result (take l.flent f.new) (take l.glent g.new) ≡ leaves run pass (take l.flent f.old) (take l.glent g.old) (items_call (modulus_of run.start) run pass (block_named l s r) (take l.flent f.old) (take l.glent g.old))) × (drop l.flent f.new ≡ drop l.flent f.old) × (drop l.glent g.new ≡ drop l.glent g.old) }
+    ensures { (out result (take l.now.flent f.new) (take l.now.glent g.new) ≡ leaves run pass (take l.now.flent f.old) (take l.now.glent g.old) (items_call (modulus_of run.start) run pass (block_named l.now s.now r) (take l.now.flent f.old) (take l.now.glent g.old))) × (drop l.now.flent f.new ≡ drop l.now.flent f.old) × (drop l.now.glent g.new ≡ drop l.now.glent g.old) }
 {
     let n = within(l.flent, f);
     let m = within(l.glent, g);
@@ -71,16 +72,13 @@ pub fn to_run_within(
 }
 
 // To a verifier.
-pub fn to_verifier(verifier: Verifier, l: Lists, s: Slots, r: Record) -> Heard
-    ensures { heard_in result ≡ replying (heard.leaves verifier (items (modulus_of verifier.start) verifier (block_named l s r))) }
+pub fn to_verifier(verifier: Verifier, l: &Lists, s: &Slots, r: Record) -> Heard
+    ensures { heard_in result ≡ replying (heard.leaves verifier (items (modulus_of verifier.start) verifier (block_named l.now s.now r))) }
 {
     if names_slot(r) {
-        let bytes = s.bytes;
-        let sizes = s.sizes;
-        return stepped(verifier.items(slot(&bytes, &sizes, r.a)));
+        return stepped(verifier.items(s.slot(r.a)));
     }
-    let scratch = l.scratch;
-    let a = part(l.held, &scratch, 0, r.a);
-    let b = part(l.held, &scratch, r.a, r.b);
+    let a = l.part(0, r.a);
+    let b = l.part(r.a, r.b);
     stepped(verifier.field_items(a, b))
 }

@@ -29,6 +29,7 @@ fn give(run: Run, pass: Pass, given: Given, f: &mut [u32], g: &mut [u32]) -> Ste
 }
 
 // Makes a call of a run. The two buffers and the file are lent; a call that has no use for one leaves it.
+#[tactic(auto, unfolding(calls::specs::Step::step))]
 pub fn make(run: Run, pass: Pass, call: Call, f: &mut [u32], g: &mut [u32], file: &mut [u8]) -> Step
     ensures { result_of result f.new g.new file.new ≡ step (modulus_of run.start) run pass call (lending f.old g.old file.old) }
 {

@@ -11,7 +11,7 @@ use calls::Call;
 use calls::query::Query;
 use pass::Pass;
 use prover::{Run, Step};
-use records::parts::{first_bytes, within, within_bytes};
+use records::parts::{first, within};
 use verifier::Verifier;
 
 pub fn make_within(
@@ -29,7 +29,7 @@ pub fn make_within(
 {
     let n = within(flent, f);
     let m = within(glent, g);
-    let k = within_bytes(size, file);
+    let k = within(size, file);
     super::make(run, pass, call, &mut f[..n], &mut g[..m], &mut file[..k])
 }
 
@@ -43,5 +43,5 @@ pub fn ask_within(
 ) -> Heard
     ensures { heard_in result ≡ ask (modulus_of verifier.start) verifier query (record { file = take size file.now; values = values.now; logs = logs.now }) }
 {
-    super::query::ask(verifier, query, first_bytes(size, file), values, logs)
+    super::query::ask(verifier, query, first(size, file), values, logs)
 }

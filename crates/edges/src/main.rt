@@ -1,19 +1,21 @@
 // Document 01's edges, worked out by the proved calls: one line for each, marked * if it is in the starred table, else -; then n of every L.
 #![tactic(auto)]
 
+mod answers;
 mod calls;
+mod failure;
 mod limits;
 mod numbers;
-mod output;
 mod rounds;
 mod trip;
 
-use std::io;
+use failure::Failure;
 
-fn main(rt: HostRuntime) -> io::Result<()> {
+fn main(rt: HostRuntime) -> Result<(), Failure> {
     let mut out = rt.stdout();
     trip::lines(&mut out)?;
     numbers::lines(&mut out)?;
     limits::lines(&mut out)?;
-    rounds::lines(&mut out)
+    rounds::lines(&mut out)?;
+    Ok(())
 }

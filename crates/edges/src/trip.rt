@@ -1,115 +1,75 @@
 // Document 01's trip: readings -180, -175, 40; weights 10, 20, 5; challenges 2, 3; point 2.
+use super::answers;
 use super::calls::{challenged, closed, given, opened, opened_at};
-use super::output::{number, other, text, three};
-use prover::{Answer, Run, Step};
-use std::io;
-use std::io::Write;
+use super::failure::Failure;
+use prover::{Run, Step};
+use std::io::{self, Write};
+use vector::Message;
 use verifier::Verifier;
 
-const FIRST: u32 = 2;
+const ITEMS: [(i32, u16); 3] = [(-180, 10), (-175, 20), (40, 5)];
 
-const SECOND: u32 = 3;
+const CHALLENGES: [u32; 2] = [2, 3];
 
 const POINT: u32 = 2;
 
-pub(crate) fn lines<W: Write>(out: &mut W) -> io::Result<()> {
+pub(crate) fn lines<W: Write>(out: &mut W) -> Result<(), Failure> {
+    let [first_challenge, second_challenge] = CHALLENGES;
     let total = passed(opened(Run::start_plain(3, 1)));
     let first = passed(opened(total));
-    message(out, 0, first)?;
-    let second = passed(opened(challenged(first, FIRST)));
-    message(out, 1, second)?;
-    claims(out, second.run)?;
-    let ended = passed(opened(challenged(second, SECOND)));
-    ends(out, ended)?;
-    openings(out, passed(opened_at(ended, POINT)))
+    let second = passed(opened(challenged(first, first_challenge)));
+    let messages = [answers::message(&first)?, answers::message(&second)?];
+    for (round, message) in messages.iter().enumerate() {
+        let Message { even, cross, odd } = message;
+        writeln!(out, "* message {round} {even} {cross} {odd}")?;
+    }
+    claims(out, total.run.total, &messages)?;
+    let ended = passed(opened(challenged(second, second_challenge)));
+    let (f, g) = answers::ends(&ended)?;
+    writeln!(out, "* ends {f} {g}")?;
+    let values = passed(opened_at(ended, POINT)).values;
+    opening(out, 'f', &values[..6])?;
+    opening(out, 'g', &values[6..12])?;
+    Ok(())
 }
 
 // The items from the last down, and the close.
-fn passed(s: Step) -> Step {
-    let s = given(s, 40, 5);
-    let s = given(s, -175, 20);
-    let s = given(s, -180, 10);
-    closed(s)
-}
-
-fn message<W: Write>(out: &mut W, round: u32, s: Step) -> io::Result<()> {
-    text(out, b"* message")?;
-    number(out, round)?;
-    let answer = s.answer;
-    if let Answer::Message(even, cross, odd) = answer {
-        three(out, even, cross, odd)?;
-    } else {
-        other(out)?;
+fn passed(opened: Step) -> Step {
+    let mut step = opened;
+    for &(reading, weight) in ITEMS.iter().rev() {
+        step = given(step, reading, weight);
     }
-    text(out, b"\n")
+    closed(step)
 }
 
 // The verifier's claim at its start and after each message of the run.
-fn claims<W: Write>(out: &mut W, run: Run) -> io::Result<()> {
-    let v = closed_with(run.total);
-    claim(out, 0, v)?;
-    let m = run.messages;
-    let v = heard(v, m[0], m[1], m[2]);
-    claim(out, 1, v)?;
-    let v = heard(v, m[3], m[4], m[5]);
-    claim(out, 2, v)
-}
-
-fn claim<W: Write>(out: &mut W, round: u32, v: Verifier) -> io::Result<()> {
-    text(out, b"* claim")?;
-    number(out, round)?;
-    number(out, v.claim)?;
-    text(out, b"\n")
+fn claims<W: Write>(out: &mut W, total: i64, messages: &[Message; 2]) -> io::Result<()> {
+    let mut verifier = closed_with(total);
+    writeln!(out, "* claim 0 {}", verifier.claim)?;
+    for (round, message) in (1..3).zip(messages.iter()) {
+        verifier = verifier
+            .message(message.even, message.cross, message.odd)
+            .verifier;
+        writeln!(out, "* claim {round} {}", verifier.claim)?;
+    }
+    Ok(())
 }
 
 // A verifier that has the items, first to last, and the total.
 fn closed_with(total: i64) -> Verifier {
-    let challenges = [FIRST, SECOND];
-    let v = Verifier::start_plain(3, 1, &challenges).verifier;
-    let v = taken(v, -180, 10);
-    let v = taken(v, -175, 20);
-    let v = taken(v, 40, 5);
-    v.close(total).verifier
-}
-
-fn taken(v: Verifier, reading: i32, weight: u16) -> Verifier {
-    v.item(reading, weight).verifier
-}
-
-fn heard(v: Verifier, even: u32, cross: u32, odd: u32) -> Verifier {
-    v.message(even, cross, odd).verifier
-}
-
-fn ends<W: Write>(out: &mut W, s: Step) -> io::Result<()> {
-    text(out, b"* ends")?;
-    let answer = s.answer;
-    if let Answer::Ends(f, g) = answer {
-        number(out, f)?;
-        number(out, g)?;
-    } else {
-        other(out)?;
+    let mut verifier = Verifier::start_plain(3, 1, &CHALLENGES).verifier;
+    for (reading, weight) in ITEMS {
+        verifier = verifier.item(reading, weight).verifier;
     }
-    text(out, b"\n")
+    verifier.close(total).verifier
 }
 
-fn openings<W: Write>(out: &mut W, s: Step) -> io::Result<()> {
-    let v = s.values;
-    opening(out, b"* open f", 1, v[0], v[1], v[2])?;
-    opening(out, b"* open f", 2, v[3], v[4], v[5])?;
-    opening(out, b"* open g", 1, v[6], v[7], v[8])?;
-    opening(out, b"* open g", 2, v[9], v[10], v[11])
-}
-
-fn opening<W: Write>(
-    out: &mut W,
-    label: &[u8],
-    j: u32,
-    point: u32,
-    minus: u32,
-    square: u32,
-) -> io::Result<()> {
-    text(out, label)?;
-    number(out, j)?;
-    three(out, point, minus, square)?;
-    text(out, b"\n")
+// The values of one vector: three for each round.
+fn opening<W: Write>(out: &mut W, vector: char, values: &[u32]) -> io::Result<()> {
+    for (j, triple) in (1..3).zip(values.chunks_exact(3)) {
+        if let [point, minus, square] = triple {
+            writeln!(out, "* open {vector} {j} {point} {minus} {square}")?;
+        }
+    }
+    Ok(())
 }

@@ -11,15 +11,11 @@ pub mod integer;
 pub mod modular;
 pub mod total;
 
-#[derive(Clone, Copy)]
+use std::ops::{Add, Mul, Neg, Sub};
+
+#[derive(Clone, Copy, Debug, PartialEq, Eq, Hash)]
 pub struct Field {
     value: u32,
-}
-
-#[derive(Clone, Copy)]
-pub enum Checked {
-    Number(Field),
-    Unreduced,
 }
 
 impl Field {
@@ -29,38 +25,32 @@ impl Field {
 
     pub const ONE: Field = Field { value: 1 };
 
-    pub fn new(x: u32) -> Checked
+    // None for a number of the modulus or more.
+    pub fn new(x: u32) -> Option<Field>
         ensures { result ≡ checked 2147483647 x }
     {
         Field::new_in(Field::MODULUS, x)
     }
 
     // A number handed in to a call whose modulus is p.
-    #[tactic(auto, unfolding(crate::specs::Number::checked))]
-    pub fn new_in(p: u32, x: u32) -> Checked
+    pub fn new_in(p: u32, x: u32) -> Option<Field>
         ensures { result ≡ checked p x }
     {
         if x < p {
-            Checked::Number(Field { value: x })
+            Some(Field { value: x })
         } else {
-            Checked::Unreduced
+            None
         }
     }
 
     // A challenge, a twist, v or a point: from 1 to p - 1.
-    pub fn nonzero_in(p: u32, x: u32) -> Checked
+    pub fn nonzero_in(p: u32, x: u32) -> Option<Field>
         ensures { result ≡ checked_nonzero p x }
     {
         if x == 0 {
-            return Checked::Unreduced;
+            return None;
         }
         Field::new_in(p, x)
-    }
-
-    pub fn to_u32(self) -> u32
-        ensures { result ≡ self.value }
-    {
-        self.value
     }
 
     // A reading as its image modulo P: by its sign wherever it is less than P in absolute value, so over either version's range.
@@ -78,38 +68,6 @@ impl Field {
         }
     }
 
-    pub fn add(self, other: Field) -> Field
-        ensures { result.value ≡ add_mod 2147483647 self.value other.value }
-    {
-        Field {
-            value: modular::add(Field::MODULUS, self.value, other.value),
-        }
-    }
-
-    pub fn sub(self, other: Field) -> Field
-        ensures { result.value ≡ sub_mod 2147483647 self.value other.value }
-    {
-        Field {
-            value: modular::sub(Field::MODULUS, self.value, other.value),
-        }
-    }
-
-    pub fn neg(self) -> Field
-        ensures { result.value ≡ neg_mod 2147483647 self.value }
-    {
-        Field {
-            value: modular::neg(Field::MODULUS, self.value),
-        }
-    }
-
-    pub fn mul(self, other: Field) -> Field
-        ensures { result.value ≡ mul_mod 2147483647 self.value other.value }
-    {
-        Field {
-            value: modular::mul(Field::MODULUS, self.value, other.value),
-        }
-    }
-
     pub fn half(self) -> Field
         ensures { result.value ≡ half_mod 2147483647 self.value }
     {
@@ -124,6 +82,62 @@ impl Field {
         Field {
             value: modular::invert(Field::MODULUS, self.value),
         }
+    }
+}
+
+impl Add for Field {
+    type Output = Field;
+
+    ghost add_gives = { λ a b r. r.value ≡ add_mod 2147483647 a.value b.value };
+
+    fn add(self, other: Field) -> Field {
+        Field {
+            value: modular::add(Field::MODULUS, self.value, other.value),
+        }
+    }
+}
+
+impl Sub for Field {
+    type Output = Field;
+
+    ghost sub_gives = { λ a b r. r.value ≡ sub_mod 2147483647 a.value b.value };
+
+    fn sub(self, other: Field) -> Field {
+        Field {
+            value: modular::sub(Field::MODULUS, self.value, other.value),
+        }
+    }
+}
+
+impl Mul for Field {
+    type Output = Field;
+
+    ghost mul_gives = { λ a b r. r.value ≡ mul_mod 2147483647 a.value b.value };
+
+    fn mul(self, other: Field) -> Field {
+        Field {
+            value: modular::mul(Field::MODULUS, self.value, other.value),
+        }
+    }
+}
+
+impl Neg for Field {
+    type Output = Field;
+
+    ghost neg_gives = { λ a r. r.value ≡ neg_mod 2147483647 a.value };
+
+    fn neg(self) -> Field {
+        Field {
+            value: modular::neg(Field::MODULUS, self.value),
+        }
+    }
+}
+
+impl From<Field> for u32 {
+    ghost from_gives = { λ a r. r ≡ a.value };
+
+    fn from(number: Field) -> u32 {
+        number.value
     }
 }
 

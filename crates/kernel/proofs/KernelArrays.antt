@@ -11,7 +11,7 @@ use lib.Seq.{get_or-set_same, get_or-set_other}
 use borrow.Author.Tests.{le-ltb}
 use Rattle.kernel.specs.declared.Evals.{Evals}
 use Rattle.kernel.specs.declared.Kernel.{Kernel}
-use Rattle.kernel.specs.declared.Sums.{Sums}
+use Rattle.vector.specs.declared.Message.{Message as Sums}
 use Rattle.kernel.specs.declared.Climber.{Climber}
 use Rattle.kernel.specs.Kernel.{stacks_in, kernel_with, pushed}
 use Rattle.kernel.specs.KernelView.{stack_view, stack_f, stack_g, pairs_view, stack_pairs, Sixteen, Paired}

@@ -5,17 +5,16 @@ use mathlib.Core.List.{List}
 use Prim.Native.Nat.{ℕ, zero, suc, ◌+◌, ◌-◌, ◌≤◌, ◌<◌}
 use native.Mathlib.Numerals.{sub-one}
 use native.Mathlib.Omega.{arith}
-use lib.Dec.{eqb}
-use lib.ListN.{length, get_or, set, length-set}
+use lib.ListN.{get_or}
 use Rattle.vector.specs.Vector.{Vector}
 use Rattle.vector.specs.Fold.{combine}
 use Rattle.kernel.specs.declared.Points.{Points}
 use Rattle.kernel.specs.declared.Evals.{Evals}
 use Rattle.kernel.specs.declared.Kernel.{Kernel}
-use Rattle.kernel.specs.declared.Sums.{Sums}
+use Rattle.vector.specs.declared.Message.{Message as Sums}
 use Rattle.kernel.specs.declared.Climber.{Climber}
-use Rattle.kernel.specs.Kernel.{StackArrays, stacks_in, sums_in, kernel_with, evals_of, stepped, arrived, no_points, raised, may_rise, climb_from, evaluated_from, climber₀, climbed, evaluated, settled, sums_after, fits, climber_in, settled_in, sums_with, evals_in, entered, streamed}
-use Rattle.kernel.specs.Change.{left, place_after, put_in, Placed, placed_of, placed_at, placed, placed_all}
+use Rattle.kernel.specs.Kernel.{StackArrays, stacks_in, sums_in, kernel_with, stepped, arrived, raised, may_rise, climb_from, evaluated_from, climber₀, climbed, evaluated, settled, sums_after, fits, climber_in, settled_in, sums_with, evals_in, entered, streamed}
+use Rattle.kernel.specs.Change.{left, put_in, Placed, placed_of, placed_at, placed, placed_all}
 use Rattle.kernel.proofs.KernelSteps.{stays, rises, evaluation_stays, evaluation_rises, fits-so}
 
 -- a kernel with as many entries of g as of f is its parts
@@ -37,27 +36,11 @@ kernel_parts k e =
     })
     (sym e)
 
-pub evals_same : (a a' b b' c c' d d' e e' f f' : List ℕ) → a ≡ a' → b ≡ b' → c ≡ c' → d ≡ d' → e ≡ e' → f ≡ f'
-    → evals_of a b c d e f ≡ evals_of a' b' c' d' e' f'
-evals_same a a' b b' c c' d d' e e' f f' ea eb ec ed ee ef =
-    ap₂ (λ x y. evals_of x y c d e f) ea eb ∙ ap₂ (λ x y. evals_of a' b' x y e f) ec ed ∙ ap₂ (λ x y. evals_of a' b' c' d' x y) ee ef
-
-pub put_length : (size last t level value : ℕ) (xs : List ℕ) → length (put_in size last t level value xs) ≡ length xs
-put_length size last t level value xs = go (eqb level last)
-  where
-    go : (b : Bool) → length (cond b (set xs (place_after size last t) value) xs) ≡ length xs
-    go true = length-set xs (place_after size last t) value
-    go false = refl
-
--- A PAIR THAT IS EVALUATED goes up, or stops
-module _ (p : ℕ) (cs : List ℕ) (last : ℕ) (at : Points) (on : at.on ≡ true) (ls fv gv : List ℕ) (count level a b : ℕ) (e e' : Evals)
-    (step : e' ≡ stepped p at e level a b) where
+-- A PAIR goes up, or stops
+module _ (p : ℕ) (cs : List ℕ) (last : ℕ) (at : Points) (ls fv gv : List ℕ) (count level a b : ℕ) (e e' : Evals)
+    (step : e' ≡ arrived p at e level a b) where
   abbrev now : Climber
   now = record { count = count; level = level; f = a; g = b }
-
-  arrived-on : e' ≡ arrived p at e level a b
-  unfolding arrived
-  arrived-on = step ∙ ap (λ x. cond x (stepped p at e level a b) e) (sym on)
 
   pub goes_up : (a' b' : ℕ) → 0 < count → may_rise p cs last ls fv gv (record { count = count; level = level; f = a; g = b }) ≡ true
       → a' ≡ combine p (get_or cs level 0) a (get_or fv (count - 1) 0) → b' ≡ combine p (get_or cs level 0) b (get_or gv (count - 1) 0)
@@ -69,7 +52,7 @@ module _ (p : ℕ) (cs : List ℕ) (last : ℕ) (at : Points) (on : at.on ≡ tr
       let same : ◌≡◌ {A = Climber} (record { count = count - 1; level = level + 1; f = a'; g = b' }) (raised p cs last ls fv gv now) =
       ap₂ (λ x y. record { count = count - 1; level = level + 1; f = x; g = y }) ea eb in (
         ap (climb_from p cs last ls fv gv (count - 1)) same ∙ sym (rises p cs last ls fv gv count now some may),
-        ap₂ (evaluated_from p cs last ls fv gv at (count - 1)) same arrived-on ∙ sym (evaluation_rises p cs last ls fv gv at count now e some may),
+        ap₂ (evaluated_from p cs last ls fv gv at (count - 1)) same step ∙ sym (evaluation_rises p cs last ls fv gv at count now e some may),
       )
 
   pub comes_to_stop : may_rise p cs last ls fv gv (record { count = count; level = level; f = a; g = b }) ≡ false
@@ -77,7 +60,7 @@ module _ (p : ℕ) (cs : List ℕ) (last : ℕ) (at : Points) (on : at.on ≡ tr
       (old ≡ climb_from p cs last ls fv gv count old) × (e' ≡ evaluated_from p cs last ls fv gv at count old e))
   comes_to_stop stop = (
     sym (stays p cs last ls fv gv count now stop),
-    arrived-on ∙ sym (evaluation_stays p cs last ls fv gv at count now e stop),
+    step ∙ sym (evaluation_stays p cs last ls fv gv at count now e stop),
   )
 
 -- A PASS THAT DOES NOT EVALUATE leaves the evaluations as they are
@@ -101,32 +84,6 @@ module _ (p : ℕ) (at : Points) (off : at.on ≡ false) where
     pub evaluated-off : (count f g : ℕ) (e : Evals) → evaluated p cs last at ls fv gv count f g e ≡ e
     unfolding evaluated
     evaluated-off count f g e = from-off count (climber₀ count f g) e
-
-  pub entered-off : (cs : List ℕ) (last : ℕ) (k : Kernel) (f g : ℕ) → (entered p cs last at k f g).evals ≡ k.evals
-  unfolding entered
-  entered-off cs last k f g = go (fits last k)
-    where
-      go : (b : Bool)
-          → (cond b (kernel_with (settled_in last k (climber_in p cs last k f g)) (sums_with p last k (climber_in p cs last k f g)) (evals_in p cs last at k f g)) k).evals ≡ k.evals
-      go true = evaluated-off cs last k.flevels k.fvalues k.gvalues k.fcount f g k.evals
-      go false = refl
-
--- with whatever points
-off_same : (p : ℕ) (at at' : Points) → at.on ≡ false → at'.on ≡ false → (cs : List ℕ) (last : ℕ) (k : Kernel) (f g : ℕ)
-    → entered p cs last at k f g ≡ entered p cs last at' k f g
-unfolding entered
-off_same p at at' off off' cs last k f g =
-    ap (λ e. cond (fits last k) (kernel_with (settled_in last k (climber_in p cs last k f g)) (sums_with p last k (climber_in p cs last k f g)) e) k)
-    (evaluated-off p at off cs last k.flevels k.fvalues k.gvalues k.fcount f g k.evals
-    ∙ sym (evaluated-off p at' off' cs last k.flevels k.fvalues k.gvalues k.fcount f g k.evals))
-
-pub streamed-off : (p : ℕ) (at : Points) → at.on ≡ false → (cs : List ℕ) (last : ℕ) (f g : Vector) (m : ℕ) (k : Kernel)
-    → streamed p cs last no_points f g m k ≡ streamed p cs last at f g m k
-unfolding streamed
-streamed-off p at off cs last f g zero k = refl
-streamed-off p at off cs last f g (suc m) k =
-    streamed-off p at off cs last f g m (entered p cs last no_points k (f m) (g m))
-    ∙ ap (streamed p cs last at f g m) (off_same p no_points at refl off cs last k (f m) (g m))
 
 -- WHERE NOTHING FITS nothing enters
 module _ (p : ℕ) (cs : List ℕ) (last : ℕ) where

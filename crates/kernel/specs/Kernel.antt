@@ -6,7 +6,7 @@ use Rattle.vector.specs.Fold.{combine}
 use Rattle.kernel.specs.declared.Points.{Points}
 use Rattle.kernel.specs.declared.Evals.{Evals}
 use Rattle.kernel.specs.declared.Kernel.{Kernel}
-use Rattle.kernel.specs.declared.Sums.{Sums}
+use Rattle.vector.specs.declared.Message.{Message as Sums}
 use Rattle.kernel.specs.declared.Climber.{Climber}
 
 -- The two stacks, in arrays.

@@ -1,35 +1,22 @@
 // The pairs of a change pass: each writes the places that it completes.
 ghost use Rattle.std.specs.Prelude.{◌≡◌, ◌≤◌};
 ghost use Rattle.kernel.specs.Kernel.{stacks_in};
-ghost use Rattle.kernel.specs.Change.{left, place_after, put_in};
+ghost use Rattle.kernel.specs.Change.{left_in, place_after, put_in};
 
-use super::Climber;
+use super::stacks::push;
+use super::{Climber, Kernel};
 use vector::slice::write;
 
 // A pair at the last level is an item of the current fold, and goes; any other is pushed.
-pub(crate) fn leave(
-    last: u32,
-    flevels: &mut [u32; 16],
-    fvalues: &mut [u32; 16],
-    glevels: &mut [u32; 16],
-    gvalues: &mut [u32; 16],
-    c: Climber,
-) -> usize
+#[tactic(auto, unfolding(crate::specs::Change::left))]
+pub(crate) fn leave(last: u32, k: &mut Kernel, c: Climber) -> usize
     requires { c.count ≤ 16 }
-    ensures { stacks_in flevels.new fvalues.new glevels.new gvalues.new result ≡ left last flevels.old fvalues.old glevels.old gvalues.old c }
+    ensures { stacks_in k.new.flevels k.new.fvalues k.new.glevels k.new.gvalues result ≡ left_in last k.old c }
 {
-    let at = c.count;
     if c.level == last {
-        return at;
+        return c.count;
     }
-    if at > 15 {
-        return at;
-    }
-    flevels[at] = c.level;
-    fvalues[at] = c.f;
-    glevels[at] = c.level;
-    gvalues[at] = c.g;
-    at + 1
+    push(k, c)
 }
 
 fn place_after(size: usize, last: u32, t: usize) -> usize

@@ -7,15 +7,17 @@ ghost use Rattle.kernel.specs.Kernel.{no_points, pairs_in, streamed};
 ghost use Rattle.kernel.specs.Change.{placed_of, placed_all};
 
 use change::{leave, put};
-use evaluate::climb_evaluating;
-use stacks::{climb, pairs, settle, stacks_fit};
+use climb::climb;
+use stacks::{pairs, settle, stacks_fit};
+use vector::Message;
 
 mod change;
+mod climb;
 mod evaluate;
 mod stacks;
 pub mod start;
 
-// The points of an opening pass: b, -b, b squared. Any other pass evaluates nothing.
+// The points of an opening pass: b, -b, b squared. Any other pass evaluates nothing. No Option: `arrived` and the passes' clauses read `on`.
 #[derive(Clone, Copy)]
 pub struct Points {
     pub on: bool,
@@ -50,13 +52,6 @@ pub struct Kernel {
     pub evals: Evals,
 }
 
-#[derive(Clone, Copy)]
-pub struct Sums {
-    pub even: u32,
-    pub cross: u32,
-    pub odd: u32,
-}
-
 // How far a pair climbed: how many entries are left below it, its level and its values.
 #[derive(Clone, Copy)]
 pub struct Climber {
@@ -69,8 +64,16 @@ pub struct Climber {
 #[derive(Clone, Copy)]
 pub struct Settled {
     pub count: usize,
-    pub sums: Sums,
+    pub sums: Message,
 }
+
+// A pass that evaluates nothing.
+const NO_POINTS: Points = Points {
+    on: false,
+    point: 0,
+    minus: 0,
+    square: 0,
+};
 
 // The pairs of two slices enter, "from last item to first".
 pub fn enter_all(
@@ -83,59 +86,7 @@ pub fn enter_all(
 ) -> Kernel
     ensures { result ≡ streamed p challenges last no_points (item f.now) (item g.now) (pairs_in f.now g.now) k }
 {
-    if stacks_fit(last, k.fcount, k.gcount) {} else {
-        return k;
-    }
-    let mut flevels = k.flevels;
-    let mut fvalues = k.fvalues;
-    let mut glevels = k.glevels;
-    let mut gvalues = k.gvalues;
-    let evals = k.evals;
-    let mut count = k.fcount;
-    let mut sums = Sums {
-        even: k.even,
-        cross: k.cross,
-        odd: k.odd,
-    };
-    let mut i = pairs(f, g);
-    while i > 0 {
-        i -= 1;
-        let c = climb(
-            p,
-            &challenges,
-            last,
-            &flevels,
-            &fvalues,
-            &gvalues,
-            count,
-            f[i],
-            g[i],
-        );
-        let s = settle(
-            p,
-            last,
-            &mut flevels,
-            &mut fvalues,
-            &mut glevels,
-            &mut gvalues,
-            sums,
-            c,
-        );
-        count = s.count;
-        sums = s.sums;
-    }
-    Kernel {
-        flevels,
-        fvalues,
-        fcount: count,
-        glevels,
-        gvalues,
-        gcount: count,
-        even: sums.even,
-        cross: sums.cross,
-        odd: sums.odd,
-        evals,
-    }
+    enter::<false>(p, &challenges, last, NO_POINTS, k, f, g)
 }
 
 // The pairs of any pass that was asked for; an opening's are evaluated as well.
@@ -150,84 +101,57 @@ pub fn evaluate_all(
 ) -> Kernel
     ensures { result ≡ streamed p challenges last at (item f.now) (item g.now) (pairs_in f.now g.now) k }
 {
-    if at.on {} else {
-        return enter_all(p, challenges, last, k, f, g);
+    if at.on {
+        enter::<true>(p, &challenges, last, at, k, f, g)
+    } else {
+        enter::<false>(p, &challenges, last, at, k, f, g)
     }
-    if stacks_fit(last, k.fcount, k.gcount) {} else {
+}
+
+// The one loop of both. Whether it evaluates is known when it is compiled, so that no other pass pays for it.
+fn enter<const EVALUATING: bool>(
+    p: u32,
+    challenges: &[u32; 15],
+    last: u32,
+    at: Points,
+    k: Kernel,
+    f: &[u32],
+    g: &[u32],
+) -> Kernel
+    requires { at.on ≡ EVALUATING }
+    ensures { result ≡ streamed p challenges.now last at (item f.now) (item g.now) (pairs_in f.now g.now) k }
+{
+    if !stacks_fit(last, k.fcount, k.gcount) {
         return k;
     }
-    let mut flevels = k.flevels;
-    let mut fvalues = k.fvalues;
-    let mut glevels = k.glevels;
-    let mut gvalues = k.gvalues;
-    let evals = k.evals;
-    let mut fpoint = evals.fpoint;
-    let mut fminus = evals.fminus;
-    let mut fsquare = evals.fsquare;
-    let mut gpoint = evals.gpoint;
-    let mut gminus = evals.gminus;
-    let mut gsquare = evals.gsquare;
+    let mut stacks = k;
+    let mut evals = k.evals;
     let mut count = k.fcount;
-    let mut sums = Sums {
+    let mut sums = Message {
         even: k.even,
         cross: k.cross,
         odd: k.odd,
     };
-    let mut i = pairs(f, g);
-    while i > 0 {
-        i -= 1;
-        let c = climb_evaluating(
-            p,
-            &challenges,
-            last,
-            at,
-            &flevels,
-            &fvalues,
-            &gvalues,
-            &mut fpoint,
-            &mut fminus,
-            &mut fsquare,
-            &mut gpoint,
-            &mut gminus,
-            &mut gsquare,
-            count,
-            f[i],
-            g[i],
+    for i in (0..pairs(f, g)).rev() {
+        let c = climb::<EVALUATING>(
+            p, challenges, last, at, &stacks, count, f[i], g[i], &mut evals,
         );
-        let s = settle(
-            p,
-            last,
-            &mut flevels,
-            &mut fvalues,
-            &mut glevels,
-            &mut gvalues,
-            sums,
-            c,
-        );
+        let s = settle(p, last, &mut stacks, sums, c);
         count = s.count;
         sums = s.sums;
     }
     Kernel {
-        flevels,
-        fvalues,
         fcount: count,
-        glevels,
-        gvalues,
         gcount: count,
         even: sums.even,
         cross: sums.cross,
         odd: sums.odd,
-        evals: Evals {
-            fpoint,
-            fminus,
-            fsquare,
-            gpoint,
-            gminus,
-            gsquare,
-        },
+        evals,
+        ..stacks
     }
 }
 
+// A loop of its own: what `enter` sums, this writes to two lent buffers, and a closure over four loans would be no plainer.
 // The pairs of a change pass that writes a fold of this size, after so many pairs: each place by the pair that completes it.
 pub fn place_all(
     p: u32,
@@ -243,51 +167,36 @@ pub fn place_all(
 ) -> Kernel
     ensures { placed_of result f.new g.new ≡ placed_all p challenges last size (item a.now) (item b.now) (pairs_in a.now b.now) taken (placed_of k f.old g.old) }
 {
-    if stacks_fit(last, k.fcount, k.gcount) {} else {
+    if !stacks_fit(last, k.fcount, k.gcount) {
         return k;
     }
-    let mut flevels = k.flevels;
-    let mut fvalues = k.fvalues;
-    let mut glevels = k.glevels;
-    let mut gvalues = k.gvalues;
-    let evals = k.evals;
+    let mut stacks = k;
+    let mut evals = k.evals;
     let mut count = k.fcount;
     let mut t = taken as usize;
-    let mut i = pairs(a, b);
-    while i > 0 {
-        i -= 1;
-        let c = climb(
+    for i in (0..pairs(a, b)).rev() {
+        let c = climb::<false>(
             p,
             &challenges,
             last,
-            &flevels,
-            &fvalues,
-            &gvalues,
+            NO_POINTS,
+            &stacks,
             count,
             a[i],
             b[i],
+            &mut evals,
         );
         put(size as usize, last, t, c, f, g);
-        count = leave(
-            last,
-            &mut flevels,
-            &mut fvalues,
-            &mut glevels,
-            &mut gvalues,
-            c,
-        );
+        count = leave(last, &mut stacks, c);
         t += 1;
     }
     Kernel {
-        flevels,
-        fvalues,
         fcount: count,
-        glevels,
-        gvalues,
         gcount: count,
         even: k.even,
         cross: k.cross,
         odd: k.odd,
         evals,
+        ..stacks
     }
 }

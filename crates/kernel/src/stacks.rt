@@ -1,99 +1,49 @@
 // The two stacks in arrays. The levels of f are the control; those of g are written alike.
 ghost use Rattle.std.specs.Prelude.{◌≡◌, ◌≤◌, ◌<◌, ◌^◌};
-ghost use Rattle.kernel.specs.Kernel.{stacks_fit, pairs_in, top_at, climbed, summed, meets_at, settled, sums_after, stacks_in};
+ghost use Rattle.kernel.specs.Kernel.{stacks_fit, pairs_in, top_at, summed, meets_at, sums_after, settled_in, pushed, stacks_in};
 
-use super::{Climber, Settled, Sums};
+use super::{Climber, Kernel, Settled};
 use field::modular;
+use vector::Message;
 
+#[tactic(auto, unfolding(crate::specs::Kernel::stacks_fit))]
 pub(crate) fn stacks_fit(last: u32, fcount: usize, gcount: usize) -> bool
     ensures { result ≡ stacks_fit last fcount gcount }
 {
-    if last > refusal::MAX_ROUNDS {
-        return false;
-    }
-    if fcount > 16 {
-        return false;
-    }
-    gcount == fcount
+    last <= refusal::MAX_ROUNDS && fcount <= 16 && gcount == fcount
 }
 
 // As many pairs as both slices have places.
 pub(crate) fn pairs(f: &[u32], g: &[u32]) -> usize
     ensures { (result ≡ pairs_in f.now g.now) × (result < 2 ^ 63) }
 {
-    let m = f.len();
-    let n = g.len();
-    if n < m {
-        return n;
-    }
-    m
+    usize::min(f.len(), g.len())
 }
 
 // Whether a stack, cut to its first entries, has a top of the level.
+#[tactic(auto, unfolding(crate::specs::Kernel::top_at))]
 pub(crate) fn top_at(levels: &[u32; 16], count: usize, level: u32) -> bool
     requires { count ≤ 16 }
     ensures { result ≡ top_at levels.now count level }
 {
-    if count < 1 {
-        return false;
-    }
-    levels[count - 1] == level
-}
-
-// While the top has the pair's level, below the last: the pair takes both tops in and goes up.
-pub(crate) fn climb(
-    p: u32,
-    challenges: &[u32; 15],
-    last: u32,
-    levels: &[u32; 16],
-    fvalues: &[u32; 16],
-    gvalues: &[u32; 16],
-    first: usize,
-    f: u32,
-    g: u32,
-) -> Climber
-    requires { (last ≤ 15) × (first ≤ 16) }
-    ensures { result ≡ climbed p challenges.now last levels.now fvalues.now gvalues.now first f g }
-{
-    let mut count = first;
-    let mut level: u32 = 0;
-    let mut a = f;
-    let mut b = g;
-    while level < last {
-        if top_at(levels, count, level) {} else {
-            break;
-        }
-        let at = level as usize;
-        let c = challenges[at];
-        count -= 1;
-        a = modular::add_mul(p, a, c, fvalues[count]);
-        b = modular::add_mul(p, b, c, gvalues[count]);
-        level += 1;
-    }
-    Climber {
-        count,
-        level,
-        f: a,
-        g: b,
-    }
+    count > 0 && levels[count - 1] == level
 }
 
 // Whether the climber is at the last level and meets a pair there.
+#[tactic(auto, unfolding(crate::specs::Kernel::meets_at))]
 fn meets(last: u32, levels: &[u32; 16], c: Climber) -> bool
     requires { c.count ≤ 16 }
     ensures { result ≡ meets_at last levels.now c }
 {
-    if c.level == last {
-        return top_at(levels, c.count, last);
-    }
-    false
+    c.level == last && top_at(levels, c.count, last)
 }
 
 // Two pairs have met at the last level: the climber is item 2i, f and g are item 2i + 1.
-fn meet(p: u32, s: Sums, c: Climber, f: u32, g: u32) -> Sums
+#[tactic(auto, unfolding(crate::specs::Kernel::summed))]
+fn meet(p: u32, s: Message, c: Climber, f: u32, g: u32) -> Message
     ensures { result ≡ summed p s c f g }
 {
-    Sums {
+    Message {
         even: modular::add_mul(p, s.even, c.f, c.g),
         cross: modular::add_mul(p, modular::add_mul(p, s.cross, c.f, g), f, c.g),
         odd: modular::add_mul(p, s.odd, f, g),
@@ -101,36 +51,36 @@ fn meet(p: u32, s: Sums, c: Climber, f: u32, g: u32) -> Sums
 }
 
 // Pairs that meet at the last level make their products and go; any other is pushed. No pass meets a full stack.
-pub(crate) fn settle(
-    p: u32,
-    last: u32,
-    flevels: &mut [u32; 16],
-    fvalues: &mut [u32; 16],
-    glevels: &mut [u32; 16],
-    gvalues: &mut [u32; 16],
-    s: Sums,
-    c: Climber,
-) -> Settled
+#[tactic(auto, using(crate::proofs::KernelSteps::meet_place), unfolding(crate::specs::Kernel::settled, crate::specs::Kernel::sums_after))]
+pub(crate) fn settle(p: u32, last: u32, k: &mut Kernel, s: Message, c: Climber) -> Settled
     requires { c.count ≤ 16 }
-    ensures { (stacks_in flevels.new fvalues.new glevels.new gvalues.new result.count ≡ settled flevels.old fvalues.old glevels.old gvalues.old last c) × (result.sums ≡ sums_after p last flevels.old fvalues.old gvalues.old s c) }
+    ensures { (stacks_in k.new.flevels k.new.fvalues k.new.glevels k.new.gvalues result.count ≡ settled_in last k.old c) × (result.sums ≡ sums_after p last k.old.flevels k.old.fvalues k.old.gvalues s c) }
 {
-    let at = c.count;
-    if meets(last, flevels, c) {
-        let count = at - 1;
+    if meets(last, &k.flevels, c) {
+        let count = c.count - 1;
         return Settled {
             count,
-            sums: meet(p, s, c, fvalues[count], gvalues[count]),
+            sums: meet(p, s, c, k.fvalues[count], k.gvalues[count]),
         };
     }
-    if at > 15 {
-        return Settled { count: at, sums: s };
-    }
-    flevels[at] = c.level;
-    fvalues[at] = c.f;
-    glevels[at] = c.level;
-    gvalues[at] = c.g;
     Settled {
-        count: at + 1,
+        count: push(k, c),
         sums: s,
     }
+}
+
+// A pair waits on top for the next of its level.
+pub(crate) fn push(k: &mut Kernel, c: Climber) -> usize
+    requires { c.count ≤ 16 }
+    ensures { stacks_in k.new.flevels k.new.fvalues k.new.glevels k.new.gvalues result ≡ pushed k.old.flevels k.old.fvalues k.old.glevels k.old.gvalues c }
+{
+    let at = c.count;
+    if at > 15 {
+        return at;
+    }
+    k.flevels[at] = c.level;
+    k.fvalues[at] = c.f;
+    k.glevels[at] = c.level;
+    k.gvalues[at] = c.g;
+    at + 1
 }

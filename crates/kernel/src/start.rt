@@ -47,6 +47,7 @@ fn push_zero(k: Kernel, level: u32) -> Kernel
 }
 
 // The padding in one step, in stacks of so many levels: what so many zero pairs leave, an entry of value zero for each binary one.
+#[tactic(auto, using(crate::proofs::KernelSteps::pads_one, crate::proofs::KernelSteps::pads_none), unfolding(crate::specs::Kernel::padding_below, crate::specs::Kernel::padding_from))]
 pub fn padding_below(taken: u32, height: u32) -> Kernel
     ensures { result ≡ padding_below taken height }
 {
@@ -54,9 +55,7 @@ pub fn padding_below(taken: u32, height: u32) -> Kernel
     if height > 16 {
         return k;
     }
-    let mut level = height;
-    while level > 0 {
-        level -= 1;
+    for level in (0..height).rev() {
         if (taken >> level) % 2 == 1 {
             k = push_zero(k, level);
         }
@@ -65,6 +64,7 @@ pub fn padding_below(taken: u32, height: u32) -> Kernel
 }
 
 // Of a pass that folds to a level: the stacks keep that level too.
+#[tactic(auto, unfolding(crate::specs::Kernel::padding_below))]
 pub fn padding(taken: u32, last: u32) -> Kernel
     ensures { result ≡ padding_kernel taken last }
 {

@@ -41,10 +41,10 @@ module _ (t : ℕ → Triple) where
       (ap (λ rest. (t k).at_point ∷ (t k).at_minus ∷ (t k).at_square ∷ rest) (triples_last (suc k) m))
 
   -- one more triple stored
-  pub triple-stored : (values : List ℕ) (from j : ℕ)
+  pub triple_stored : (values : List ℕ) (from j : ℕ)
       → set (set (set (sets values from (triple_values t 0 j)) (from + 3 * j) (t j).at_point) (from + 3 * j + 1) (t j).at_minus) (from + 3 * j + 2) (t j).at_square
       ≡ sets values from (triple_values t 0 (j + 1))
-  triple-stored values from j =
+  triple_stored values from j =
       let first : from + 3 * j ≡ from + length (triple_values t 0 j) = ap (λ n. from + n) (sym (triples_length 0 j)) in
       let second : from + 3 * j + 1 ≡ suc (from + length (triple_values t 0 j)) = omega arith in
       let third : from + 3 * j + 2 ≡ suc (suc (from + length (triple_values t 0 j))) = omega arith in

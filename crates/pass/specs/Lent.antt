@@ -11,8 +11,6 @@ use Rattle.phase.specs.declared.Kind.{Kind}
 use Rattle.phase.specs.declared.Kind.TheVariants.{Change}
 use Rattle.phase.specs.Cases.{is_small, is_change}
 use Rattle.pass.specs.declared.Stage.{Stage}
-use Rattle.pass.specs.declared.lent.Lent.{Lent}
-use Rattle.pass.specs.declared.lent.Lent.TheVariants as lent
 use Rattle.pass.specs.Stage.{level_in, size_in, padding_in}
 use Rattle.pass.specs.Values.{no_values, in_ninety}
 
@@ -31,11 +29,6 @@ reduced_in p w f g = cond (all_reduced p (size_in w) f) (all_reduced p (size_in 
 -- "A full-mode call reads as many first places as the current fold is long": they are there (9) and are field numbers (16)
 abbrev pub good_in : ℕ → Stage → List ℕ → List ℕ → Outcome (Unit {0})
 good_in p w f g = require (long_in w (length f) (length g)) number.buffer (require (reduced_in p w f g) number.vector (answered tt))
-
--- the code's answers in these terms
-abbrev pub lent_in : Lent → Outcome (Unit {0})
-lent_in lent.Good = answered tt
-lent_in (lent.Refused k) = refused k
 
 -- what good places become, and what they are where they are refused
 abbrev pub where_good : Outcome (Unit {0}) → List ℕ → List ℕ → List ℕ

@@ -1,27 +1,13 @@
 // An item of a pass.
 ghost use Rattle.std.specs.Prelude.{◌≡◌, ◌<◌, ◌≤◌};
-ghost use Rattle.item.specs.Item.{enters_as};
 ghost use Rattle.kernel.specs.Kernel.{entered};
 ghost use Rattle.kernel.specs.Change.{placed_of, placed};
 ghost use Rattle.pass.specs.Take.{running, summed_item, one_more, moved, takes_in, taken_in, fits_in};
 
 use super::{Pass, Stage, kernels};
-use item::{Item, Start};
+use item::Item;
 use kernel::{Kernel, Points};
-use phase::{Next, cases, levels};
-
-// The number that enters f.
-fn twisted(p: u32, start: Start, index: u32, f: u32) -> u32
-    requires { start.rounds ≤ 15 }
-    ensures { result ≡ enters_as p start index f }
-{
-    if start.plain {
-        return f;
-    }
-    let twists = start.twists;
-    let weight = vector::weight::weight_of(p, twists, start.rounds, index);
-    field::modular::mul(p, f, weight)
-}
+use phase::{Kind, Next, levels};
 
 // The running product of a twisted run's total; a plain total needs none.
 fn running(p: u32, plain: bool, dot: u32, f: u32, g: u32) -> u32
@@ -34,6 +20,7 @@ fn running(p: u32, plain: bool, dot: u32, f: u32, g: u32) -> u32
 }
 
 // An item of a pass for the total.
+#[tactic(auto, unfolding(crate::specs::Take::summed_item))]
 fn sum(p: u32, plain: bool, pass: Pass, x: Item, f: u32) -> Pass
     requires { pass.taken < 32768 }
     ensures { result ≡ summed_item p plain pass x f }
@@ -49,6 +36,7 @@ fn sum(p: u32, plain: bool, pass: Pass, x: Item, f: u32) -> Pass
 }
 
 // A pair of a pass that was asked for enters the stacks.
+#[tactic(auto, unfolding(kernel::specs::Kernel::streamed))]
 fn enter(
     p: u32,
     challenges: [u32; 15],
@@ -66,6 +54,7 @@ fn enter(
 }
 
 // A pair of a change pass: "each place by the call that completes its value".
+#[tactic(auto, unfolding(kernel::specs::Change::placed_all))]
 fn place(
     p: u32,
     challenges: [u32; 15],
@@ -96,36 +85,33 @@ fn one_more(pass: Pass) -> Pass
 }
 
 // n items more are within a run's limits and wanted.
+#[tactic(auto, unfolding(crate::specs::Take::fits_in))]
 pub(crate) fn wanted(stage: Stage, taken: u32, n: usize) -> bool
     requires { n < 18446744069414584320 }
     ensures { result ≡ fits_in stage taken n }
 {
     let start = stage.start;
-    if start.rounds > refusal::MAX_ROUNDS {
-        return false;
-    }
-    if start.items > refusal::MAX_ITEMS {
-        return false;
-    }
-    (taken as usize) + n <= (start.items as usize)
+    start.rounds <= refusal::MAX_ROUNDS
+        && start.items <= refusal::MAX_ITEMS
+        && (taken as usize) + n <= (start.items as usize)
 }
 
+#[tactic(auto, using(crate::proofs::Facts::padding_few))]
 fn take_fitting(p: u32, stage: Stage, pass: Pass, x: Item, f: &mut [u32], g: &mut [u32]) -> Pass
     requires { (stage.start.rounds ≤ 15) × (stage.start.items ≤ 32768) × (pass.taken < stage.start.items) }
     ensures { moved result f.new g.new ≡ takes_in p stage pass x f.old g.old }
 {
     let start = stage.start;
-    let a = twisted(p, start, start.items - 1 - pass.taken, x.f);
-    let next = stage.next;
-    if cases::waits(Next::Total, next) {
+    let a = item::enters_as(p, start, start.items - 1 - pass.taken, x.f);
+    if stage.next == Next::Total {
         return sum(p, start.plain, pass, x, a);
     }
     let challenges = stage.challenges;
     let kind = pass.kind;
-    let level = levels::level_of(start.rounds, stage.round, next, kind);
+    let level = levels::level_of(start.rounds, stage.round, stage.next, kind);
     let k = kernels::kernel_of(pass);
-    if cases::is_change(kind) {
-        let size = levels::fold_size(start.rounds, stage.round, next);
+    if kind == Kind::Change {
+        let size = levels::fold_size(start.rounds, stage.round, stage.next);
         let taken = levels::padding_of(start.items, start.rounds) + pass.taken;
         let after = place(p, challenges, level, size, taken, k, a, x.g, f, g);
         return kernels::with_kernel(one_more(pass), after);
@@ -136,6 +122,7 @@ fn take_fitting(p: u32, stage: Stage, pass: Pass, x: Item, f: &mut [u32], g: &mu
 }
 
 // An item whose checks passed.
+#[tactic(auto, using(crate::proofs::Facts::fitting))]
 pub fn take(p: u32, stage: Stage, pass: Pass, x: Item, f: &mut [u32], g: &mut [u32]) -> Pass
     ensures { moved result f.new g.new ≡ taken_in p stage pass x f.old g.old }
 {

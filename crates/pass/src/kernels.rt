@@ -8,21 +8,29 @@ use kernel::Kernel;
 pub fn kernel_of(pass: Pass) -> Kernel
     ensures { result ≡ kernel_of pass }
 {
-    let flevels = pass.flevels;
-    let fvalues = pass.fvalues;
-    let glevels = pass.glevels;
-    let gvalues = pass.gvalues;
-    let evals = pass.evals;
+    let Pass {
+        flevels,
+        fvalues,
+        fcount,
+        glevels,
+        gvalues,
+        gcount,
+        even,
+        cross,
+        odd,
+        evals,
+        ..
+    } = pass;
     Kernel {
         flevels,
         fvalues,
-        fcount: pass.fcount,
+        fcount,
         glevels,
         gvalues,
-        gcount: pass.gcount,
-        even: pass.even,
-        cross: pass.cross,
-        odd: pass.odd,
+        gcount,
+        even,
+        cross,
+        odd,
         evals,
     }
 }
@@ -30,21 +38,28 @@ pub fn kernel_of(pass: Pass) -> Kernel
 pub fn with_kernel(pass: Pass, k: Kernel) -> Pass
     ensures { result ≡ with_kernel pass k }
 {
-    let flevels = k.flevels;
-    let fvalues = k.fvalues;
-    let glevels = k.glevels;
-    let gvalues = k.gvalues;
-    let evals = k.evals;
+    let Kernel {
+        flevels,
+        fvalues,
+        fcount,
+        glevels,
+        gvalues,
+        gcount,
+        even,
+        cross,
+        odd,
+        evals,
+    } = k;
     Pass {
         flevels,
         fvalues,
-        fcount: k.fcount,
+        fcount,
         glevels,
         gvalues,
-        gcount: k.gcount,
-        even: k.even,
-        cross: k.cross,
-        odd: k.odd,
+        gcount,
+        even,
+        cross,
+        odd,
         evals,
         ..pass
     }

@@ -35,7 +35,7 @@ pub struct Pass {
 }
 
 // What a pass reads of its run.
-#[derive(Clone, Copy)]
+#[derive(Clone, Copy, Debug, PartialEq, Eq)]
 pub struct Stage {
     pub start: Start,
     pub challenges: [u32; 15],

@@ -5,16 +5,23 @@ ghost use Rattle.pass.specs.Open.{new_pass, no_points, empty_pass, points_of, pa
 use super::{Pass, Stage};
 use field::modular;
 use kernel::{Kernel, Points};
-use phase::{Kind, Next, cases, levels};
+use phase::{Kind, Next, levels};
 
 fn new_pass(kind: Kind, points: Points, k: Kernel) -> Pass
     ensures { result ≡ new_pass kind points k }
 {
-    let flevels = k.flevels;
-    let fvalues = k.fvalues;
-    let glevels = k.glevels;
-    let gvalues = k.gvalues;
-    let evals = k.evals;
+    let Kernel {
+        flevels,
+        fvalues,
+        fcount,
+        glevels,
+        gvalues,
+        gcount,
+        even,
+        cross,
+        odd,
+        evals,
+    } = k;
     Pass {
         kind,
         taken: 0,
@@ -23,13 +30,13 @@ fn new_pass(kind: Kind, points: Points, k: Kernel) -> Pass
         points,
         flevels,
         fvalues,
-        fcount: k.fcount,
+        fcount,
         glevels,
         gvalues,
-        gcount: k.gcount,
-        even: k.even,
-        cross: k.cross,
-        odd: k.odd,
+        gcount,
+        even,
+        cross,
+        odd,
         evals,
     }
 }
@@ -71,9 +78,8 @@ fn padded(stage: Stage) -> Kernel
     ensures { result ≡ padded_in stage }
 {
     let start = stage.start;
-    let next = stage.next;
     let padding = levels::padding_of(start.items, start.rounds);
-    let level = levels::level_of(start.rounds, stage.round, next, Kind::Asked);
+    let level = levels::level_of(start.rounds, stage.round, stage.next, Kind::Asked);
     kernel::start::padding(padding, level)
 }
 
@@ -81,8 +87,7 @@ fn padded(stage: Stage) -> Kernel
 fn open_kernel(stage: Stage) -> Kernel
     ensures { result ≡ open_in stage }
 {
-    let next = stage.next;
-    if cases::waits(Next::Total, next) {
+    if stage.next == Next::Total {
         return kernel::start::empty();
     }
     padded(stage)
@@ -107,8 +112,7 @@ pub fn change(stage: Stage) -> Pass
     ensures { result ≡ change_in stage }
 {
     let start = stage.start;
-    let next = stage.next;
-    let level = levels::level_of(start.rounds, stage.round, next, Kind::Change);
+    let level = levels::level_of(start.rounds, stage.round, stage.next, Kind::Change);
     let padding = levels::padding_of(start.items, start.rounds);
     let k = kernel::start::padding_below(padding, level);
     new_pass(Kind::Change, no_points(), k)

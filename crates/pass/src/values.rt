@@ -7,6 +7,7 @@ ghost use Rattle.pass.specs.Values.{triple_in, values_of};
 use kernel::Evals;
 
 // The values of one vector, three for each round, from a place on.
+#[tactic(auto, unfolding(vector::specs::Opening::triple_values))]
 fn triples(
     values: [u32; 90],
     from: usize,
@@ -19,17 +20,16 @@ fn triples(
     ensures { result ≡ sets values from (triple_values (triple_in point minus square) 0 rounds) }
 {
     let mut out = values;
-    let mut j: usize = 0;
-    while j < rounds {
+    for j in 0..rounds {
         out[from + 3 * j] = point[j];
         out[from + 3 * j + 1] = minus[j];
         out[from + 3 * j + 2] = square[j + 1];
-        j += 1;
     }
     out
 }
 
 // f before g.
+#[tactic(auto, unfolding(crate::specs::Values::values_of))]
 pub fn values_of(evals: Evals, rounds: u32) -> [u32; 90]
     ensures { result ≡ values_of evals rounds }
 {

@@ -10,9 +10,11 @@ pub fn level_of(rounds: u32, round: u32, next: Next, kind: Kind) -> u32
 {
     match next {
         Next::Total => 0,
+        // An arm each: an edit has the message's alone.
         Next::Message => round,
         Next::Challenge => round,
         Next::Ends => rounds,
+        // Shut and Change too: an edit of each has to be refused.
         Next::Openings => match kind {
             Kind::Shut => 0,
             Kind::Asked => rounds,
@@ -33,8 +35,5 @@ pub fn padding_of(items: u32, rounds: u32) -> u32
     ensures { result ≡ padding_of items rounds }
 {
     let size = vector::sizes::size_of(rounds, 0);
-    if size < items {
-        return 0;
-    }
-    size - items
+    size.saturating_sub(items)
 }

@@ -1,13 +1,12 @@
 // The phase of a run: its mode, what is next and the kind of its pass; what may open, close and change; the level.
 #![tactic(auto)]
 
-pub mod cases;
 pub mod folds;
 pub mod levels;
 pub mod order;
 pub mod turns;
 
-#[derive(Clone, Copy)]
+#[derive(Clone, Copy, Debug, PartialEq, Eq)]
 pub enum Mode {
     // Streaming: each answer takes a pass.
     Small,
@@ -16,7 +15,7 @@ pub enum Mode {
 }
 
 // What is next in the run. The round is the number of challenges taken.
-#[derive(Clone, Copy)]
+#[derive(Clone, Copy, Debug, PartialEq, Eq)]
 pub enum Next {
     Total,
     Message,
@@ -25,7 +24,7 @@ pub enum Next {
     Openings,
 }
 
-#[derive(Clone, Copy)]
+#[derive(Clone, Copy, Debug, PartialEq, Eq)]
 pub enum Kind {
     // No pass is open.
     Shut,

@@ -1,11 +1,8 @@
 // What comes next, and what may open, close and change.
 ghost use Rattle.std.specs.Prelude.{◌≡◌, eqb, ltb};
-ghost use Rattle.refusal.specs.Check.{passed};
 ghost use Rattle.phase.specs.Order.{round_or_ends, round_fits, pass_next, change_next, kind_fits, open_next, change_at, openings_at};
 
-use super::cases::{is_small, waits};
 use super::{Kind, Mode, Next};
-use refusal::{Check, pass_if};
 
 // After the total, and after a challenge.
 pub fn round_or_ends(round: u32, rounds: u32) -> Next
@@ -23,10 +20,8 @@ pub fn round_fits(next: Next, round: u32, rounds: u32) -> bool
 {
     match next {
         Next::Total => round == 0,
-        Next::Message => round < rounds,
-        Next::Challenge => round < rounds,
-        Next::Ends => round == rounds,
-        Next::Openings => round == rounds,
+        Next::Message | Next::Challenge => round < rounds,
+        Next::Ends | Next::Openings => round == rounds,
     }
 }
 
@@ -34,26 +29,14 @@ pub fn round_fits(next: Next, round: u32, rounds: u32) -> bool
 fn pass_next(next: Next) -> bool
     ensures { result ≡ pass_next next }
 {
-    match next {
-        Next::Total => true,
-        Next::Message => true,
-        Next::Challenge => false,
-        Next::Ends => true,
-        Next::Openings => true,
-    }
+    next != Next::Challenge
 }
 
 // Where a change may be open.
 fn change_next(next: Next) -> bool
     ensures { result ≡ change_next next }
 {
-    match next {
-        Next::Total => false,
-        Next::Message => true,
-        Next::Challenge => false,
-        Next::Ends => true,
-        Next::Openings => true,
-    }
+    matches!(next, Next::Message | Next::Ends | Next::Openings)
 }
 
 // A pass is open in small mode only.
@@ -62,16 +45,8 @@ pub fn kind_fits(kind: Kind, mode: Mode, next: Next) -> bool
 {
     match kind {
         Kind::Shut => true,
-        Kind::Asked => if is_small(mode) {
-            pass_next(next)
-        } else {
-            false
-        },
-        Kind::Change => if is_small(mode) {
-            change_next(next)
-        } else {
-            false
-        },
+        Kind::Asked => mode == Mode::Small && pass_next(next),
+        Kind::Change => mode == Mode::Small && change_next(next),
     }
 }
 
@@ -79,23 +54,15 @@ pub fn kind_fits(kind: Kind, mode: Mode, next: Next) -> bool
 pub fn open_next(next: Next) -> bool
     ensures { result ≡ open_next next }
 {
-    match next {
-        Next::Total => true,
-        Next::Message => true,
-        Next::Challenge => false,
-        Next::Ends => true,
-        Next::Openings => false,
-    }
+    matches!(next, Next::Total | Next::Message | Next::Ends)
 }
 
 pub fn change_at(next: Next, rounds: u32) -> bool
     ensures { result ≡ change_at next rounds }
 {
     match next {
-        Next::Total => false,
-        Next::Message => true,
-        Next::Challenge => false,
-        Next::Ends => true,
+        Next::Total | Next::Challenge => false,
+        Next::Message | Next::Ends => true,
         Next::Openings => 0 < rounds,
     }
 }
@@ -104,22 +71,19 @@ pub fn change_at(next: Next, rounds: u32) -> bool
 pub fn openings_at(next: Next, rounds: u32) -> bool
     ensures { result ≡ openings_at next rounds }
 {
-    if waits(Next::Openings, next) {
-        return 0 < rounds;
-    }
-    false
+    next == Next::Openings && 0 < rounds
 }
 
 // 8: an item is wanted.
-pub fn item_wanted(taken: u32, items: u32) -> Check
-    ensures { passed result ≡ ltb taken items }
+pub fn item_wanted(taken: u32, items: u32) -> bool
+    ensures { result ≡ ltb taken items }
 {
-    pass_if(taken < items)
+    taken < items
 }
 
 // 8: no item is wanting.
-pub fn all_taken(taken: u32, items: u32) -> Check
-    ensures { passed result ≡ eqb taken items }
+pub fn all_taken(taken: u32, items: u32) -> bool
+    ensures { result ≡ eqb taken items }
 {
-    pass_if(taken == items)
+    taken == items
 }

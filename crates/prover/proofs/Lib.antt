@@ -1,3 +1,4 @@
+pub mod Branches
 pub mod Facts
 pub mod Outcomes
 pub mod BlockLaws
@@ -13,3 +14,4 @@ pub mod ReturnLaws
 pub mod FullOutcomes
 pub mod FullLaws
 pub mod OpeningLaws
+pub mod Rows

@@ -1,30 +1,21 @@
 -- What a start gives, by what its tests say.
 use mathlib.Core.Path.{◌≡◌, ap, ◌∙◌}
-use mathlib.Core.Bool.{Bool, true, false, cond}
+use mathlib.Core.Bool.{Bool, true}
 use mathlib.Core.List.{List}
 use Prim.Native.Nat.{ℕ}
-use lib.Dec.{ltb}
 use Rattle.refusal.specs.Number as number
-use Rattle.refusal.specs.Outcome.{Outcome, answered, refused, require}
+use Rattle.refusal.specs.Outcome.{Outcome, answered, require}
 use Rattle.field.specs.Number.{is_nonzero}
 use Rattle.vector.specs.Rounds.{rounds_of}
 use Rattle.item.specs.Version.{version_fits}
-use Rattle.item.specs.Start.{count_fits, rounds_fit, list_fits, plain_start, twisted_start, untwisted_start, rule_start, rule_or_none, no_start}
+use Rattle.item.specs.Start.{count_fits, rounds_fit, list_fits, plain_start, twisted_start, untwisted_start, rule_start}
 use Rattle.prover.specs.declared.Run.{Run}
 use Rattle.prover.specs.Records.{Out}
-use Rattle.prover.specs.Start.{fresh_run, openings_run, started, start_plain, start_twisted, start_rule, start_openings}
+use Rattle.prover.specs.Start.{fresh_run, openings_run, started, start_plain, start_twisted, start_rule}
 
 module _ (items version : ℕ) where
   abbrev pub plain_run : Run
   plain_run = fresh_run (plain_start items version)
-
-  pub plain-version : version_fits version ≡ false → start_plain items version ≡ refused number.version
-  unfolding start_plain
-  plain-version v = rw v
-
-  pub plain-count : version_fits version ≡ true → count_fits items ≡ false → start_plain items version ≡ refused number.count
-  unfolding start_plain
-  plain-count v a = rw (v, a)
 
   pub plain-answered : version_fits version ≡ true → count_fits items ≡ true → start_plain items version ≡ answered (started plain_run)
   unfolding start_plain
@@ -37,17 +28,10 @@ module _ (p items : ℕ) (twists : List ℕ) where
   abbrev twisted_row : Bool → Outcome Out
   twisted_row t = require t number.argument (answered (started twisted_run))
 
-  pub twisted-count : count_fits items ≡ false → start_twisted p items twists ≡ refused number.count
-  unfolding start_twisted
-  twisted-count a = ap (λ t. require t number.count (twisted_row (list_fits p (rounds_of items) twists))) a
-
   module _ (a : count_fits items ≡ true) where
     twisted-counted : start_twisted p items twists ≡ twisted_row (list_fits p (rounds_of items) twists)
     unfolding start_twisted
     twisted-counted = ap (λ t. require t number.count (twisted_row (list_fits p (rounds_of items) twists))) a
-
-    pub twisted-argument : list_fits p (rounds_of items) twists ≡ false → start_twisted p items twists ≡ refused number.argument
-    twisted-argument b = twisted-counted ∙ ap twisted_row b
 
     pub twisted-answered : list_fits p (rounds_of items) twists ≡ true → start_twisted p items twists ≡ answered (started twisted_run)
     twisted-answered b = twisted-counted ∙ ap twisted_row b
@@ -59,43 +43,14 @@ module _ (p rounds v : ℕ) where
   abbrev rule_row : Bool → Outcome Out
   rule_row t = require t number.argument (answered (started rule_run))
 
-  pub rule_count : rounds_fit rounds ≡ false → start_rule p rounds v ≡ refused number.count
-  unfolding start_rule
-  rule_count a = ap (λ t. require t number.count (rule_row (is_nonzero p v))) a
-
   module _ (a : rounds_fit rounds ≡ true) where
     rule-counted : start_rule p rounds v ≡ rule_row (is_nonzero p v)
     unfolding start_rule
     rule-counted = ap (λ t. require t number.count (rule_row (is_nonzero p v))) a
 
-    pub rule-argument : is_nonzero p v ≡ false → start_rule p rounds v ≡ refused number.argument
-    rule-argument b = rule-counted ∙ ap rule_row b
-
     pub rule-answered : is_nonzero p v ≡ true → start_rule p rounds v ≡ answered (started rule_run)
     rule-answered b = rule-counted ∙ ap rule_row b
-
-    pub rule_fits : rule_or_none p rounds v ≡ rule_start p rounds v
-    rule_fits = ap (λ t. cond t (rule_start p rounds v) no_start) a
 
 module _ (p items : ℕ) (challenges : List ℕ) where
   abbrev pub opens_run : Run
   opens_run = openings_run (untwisted_start items) challenges
-
-  pub openings-count : count_fits items ≡ false → start_openings p items challenges ≡ refused number.count
-  unfolding start_openings
-  openings-count a = rw a
-
-  module _ (a : count_fits items ≡ true) where
-    pub openings-none : ltb 0 (rounds_of items) ≡ false → start_openings p items challenges ≡ refused number.order
-    unfolding start_openings
-    openings-none b = rw (a, b)
-
-    pub openings-argument : ltb 0 (rounds_of items) ≡ true → list_fits p (rounds_of items) challenges ≡ false
-        → start_openings p items challenges ≡ refused number.argument
-    unfolding start_openings
-    openings-argument b e = rw (a, b, e)
-
-    pub openings-answered : ltb 0 (rounds_of items) ≡ true → list_fits p (rounds_of items) challenges ≡ true
-        → start_openings p items challenges ≡ answered (started opens_run)
-    unfolding start_openings
-    openings-answered b e = rw (a, b, e)

@@ -8,7 +8,7 @@ use Rattle.pass.specs.Open.{change_in}
 use Rattle.pass.specs.Lent.{padded_lent}
 use Rattle.prover.specs.declared.Run.{Run}
 use Rattle.pass.specs.declared.Pass.{Pass}
-use Rattle.prover.specs.declared.Answer.TheVariants as answer
+use Rattle.prover.specs.declared.Reply.TheVariants as answer
 use Rattle.prover.specs.Records.{Out, out, answered_step}
 use Rattle.prover.specs.Level.{stage_of}
 use Rattle.prover.specs.Calls.{both_long}

@@ -1,5 +1,5 @@
 -- The close of a pass: in small mode each answer comes with it.
-use Rattle.std.specs.Prelude.{ℕ, ◌+◌, ◌*◌, Bool, cond, List, eqb, ℤ, get_or, set}
+use Rattle.std.specs.Prelude.{ℕ, ◌+◌, ◌*◌, Bool, cond, List, [], eqb, ℤ, get_or, set, Ok}
 use Rattle.refusal.specs.Number as number
 use Rattle.refusal.specs.Outcome.{Outcome, answered, refused, refused_at, require}
 use Rattle.field.specs.Integer.{image}
@@ -13,8 +13,8 @@ use Rattle.phase.specs.Order.{round_or_ends}
 use Rattle.prover.specs.declared.Run.{Run}
 use Rattle.pass.specs.declared.Pass.{Pass}
 use Rattle.prover.specs.declared.Step.{Step}
-use Rattle.prover.specs.declared.Answer.TheVariants as answer
-use Rattle.prover.specs.Records.{answered_step, refused_step, refused_at_step}
+use Rattle.prover.specs.declared.Reply.TheVariants as answer
+use Rattle.prover.specs.Records.{Out, out, answered_step, unchanged}
 use Rattle.prover.specs.Calls.{pass_open}
 use Rattle.pass.specs.Open.{empty_pass}
 use Rattle.pass.specs.Formed.{total_within}
@@ -99,7 +99,7 @@ message_step r s =
 
 -- the run stays where it is: "for as many points as wanted"
 abbrev pub opening_step : Run → Pass → Step
-opening_step r s = record { run = r; pass = shut_pass; answer = answer.Opening; values = values_of s.evals r.start.rounds }
+opening_step r s = record { run = r; pass = shut_pass; answer = Ok answer.Opening; values = values_of s.evals r.start.rounds }
 
 -- what a pass that is whole answers
 abbrev pub finished : ℕ → Run → Pass → Next → Outcome Step
@@ -121,7 +121,7 @@ close_call p r s =
     (require (eqb s.taken r.start.items) number.items (require (total_fits p r s) number.total (closing p r s s.kind)))
 
 -- a call with no buffers
-abbrev pub leaves_step : Run → Pass → Outcome Step → Step
-leaves_step r s (answered o) = o
-leaves_step r s (refused k) = refused_step r s k
-leaves_step r s (refused_at k i) = refused_at_step r s k i
+abbrev pub leaves_step : Run → Pass → Outcome Step → Out
+leaves_step r s (answered o) = out o [] []
+leaves_step r s (refused k) = unchanged r s [] [] (refused k)
+leaves_step r s (refused_at k i) = unchanged r s [] [] (refused_at k i)

@@ -10,7 +10,7 @@ use Rattle.phase.specs.Turn.{pass_turn, point_turn}
 use Rattle.pass.specs.Open.{no_points, points_of, new_pass, padded_in, open_in}
 use Rattle.prover.specs.declared.Run.{Run}
 use Rattle.pass.specs.declared.Pass.{Pass}
-use Rattle.prover.specs.declared.Answer.TheVariants as answer
+use Rattle.prover.specs.declared.Reply.TheVariants as answer
 use Rattle.prover.specs.Records.{Out, out, answered_step}
 use Rattle.prover.specs.Level.{stage_of}
 use Rattle.prover.specs.WellFormed.{well_formed}

@@ -1,12 +1,12 @@
 -- The records of a run, what a call hands back, and that a refusal changes nothing.
-use Rattle.std.specs.Prelude.{ℕ, List}
+use Rattle.std.specs.Prelude.{ℕ, List, Result, Ok, Err}
+use Rattle.refusal.specs.declared.Refusal.{Refusal}
 use Rattle.refusal.specs.Outcome.{Outcome, answered, refused, refused_at}
 use Rattle.pass.specs.Values.{no_values}
 use Rattle.prover.specs.declared.Run.{Run}
 use Rattle.pass.specs.declared.Pass.{Pass}
 use Rattle.prover.specs.declared.Step.{Step}
-use Rattle.prover.specs.declared.Answer.{Answer}
-use Rattle.prover.specs.declared.Answer.TheVariants as answer
+use Rattle.prover.specs.declared.Reply as code
 use Rattle.prover.specs.Reply.{Reply, answer_in}
 
 -- what a call hands back, with the two lent buffers as it leaves them
@@ -21,17 +21,22 @@ pub record Out : Type 0 where
 abbrev pub out : Step → List ℕ → List ℕ → Out
 out s f g = record { run = s.run; pass = s.pass; answer = answer_in s.answer; values = s.values; f = f; g = g }
 
-abbrev pub answered_step : Run → Pass → Answer → Step
-answered_step r s a = record { run = r; pass = s; answer = a; values = no_values }
+-- with no values beside the answer
+abbrev pub step_with : Run → Pass → Result code.Reply Refusal → Step
+step_with r s a = record { run = r; pass = s; answer = a; values = no_values }
 
-abbrev pub refused_step : Run → Pass → ℕ → Step
-refused_step r s k = answered_step r s (answer.Refused k)
+abbrev pub answered_step : Run → Pass → code.Reply → Step
+answered_step r s a = step_with r s (Ok a)
 
-abbrev pub refused_at_step : Run → Pass → ℕ → ℕ → Step
-refused_at_step r s k i = answered_step r s (answer.RefusedAt k i)
+abbrev pub refused_step : Run → Pass → Refusal → Step
+refused_step r s e = step_with r s (Err e)
+
+-- what a call was given, beside its answer
+abbrev pub unchanged : Run → Pass → List ℕ → List ℕ → Outcome Reply → Out
+unchanged r s f g a = record { run = r; pass = s; answer = a; values = no_values; f = f; g = g }
 
 -- "state and buffers are unchanged": what each outcome of a call leaves of what it was given
 abbrev pub leaves : Run → Pass → List ℕ → List ℕ → Outcome Out → Out
 leaves r s f g (answered o) = o
-leaves r s f g (refused k) = out (refused_step r s k) f g
-leaves r s f g (refused_at k i) = out (refused_at_step r s k i) f g
+leaves r s f g (refused k) = unchanged r s f g (refused k)
+leaves r s f g (refused_at k i) = unchanged r s f g (refused_at k i)

@@ -1,8 +1,10 @@
 -- What an answered call of a run answers, in document 01's words, and the code's answers in these terms.
-use Rattle.std.specs.Prelude.{ℕ, ℤ}
-use Rattle.refusal.specs.Outcome.{Outcome, answered, refused, refused_at}
-use Rattle.prover.specs.declared.Answer.{Answer}
-use Rattle.prover.specs.declared.Answer.TheVariants as answer
+use Rattle.std.specs.Prelude.{ℕ, ℤ, Result}
+use Rattle.refusal.specs.declared.Refusal.{Refusal}
+use Rattle.refusal.specs.Outcome.{Outcome}
+use Rattle.refusal.specs.Refusal.{outcome_by}
+use Rattle.prover.specs.declared.Reply as code
+use Rattle.prover.specs.declared.Reply.TheVariants as answer
 
 pub data Reply : Type 0 where
   -- a start, the opening of a pass, an item
@@ -24,18 +26,20 @@ pub data Reply : Type 0 where
   -- the length of the proof file
   written : ℕ → Reply
 
+-- the code's replies in these terms
+abbrev pub reply_in : code.Reply → Reply
+reply_in answer.Started = started
+reply_in answer.Opened = opened
+reply_in answer.Taken = taken
+reply_in (answer.Total z) = total z
+reply_in (answer.FieldTotal x) = field_total x
+reply_in (answer.Message even cross odd) = message even cross odd
+reply_in answer.Challenged = challenged
+reply_in (answer.Ends f g) = ends f g
+reply_in answer.Opening = opening
+reply_in answer.Changed = changed
+reply_in (answer.Written size) = written size
+
 -- "A refusal carries its number and, for 5 and 13 to 15, the index"
-abbrev pub answer_in : Answer → Outcome Reply
-answer_in answer.Started = answered started
-answer_in answer.Opened = answered opened
-answer_in answer.Taken = answered taken
-answer_in (answer.Total z) = answered (total z)
-answer_in (answer.FieldTotal x) = answered (field_total x)
-answer_in (answer.Message even cross odd) = answered (message even cross odd)
-answer_in answer.Challenged = answered challenged
-answer_in (answer.Ends f g) = answered (ends f g)
-answer_in answer.Opening = answered opening
-answer_in answer.Changed = answered changed
-answer_in (answer.Written size) = answered (written size)
-answer_in (answer.Refused k) = refused k
-answer_in (answer.RefusedAt k i) = refused_at k i
+abbrev pub answer_in : Result code.Reply Refusal → Outcome Reply
+answer_in a = outcome_by reply_in a

@@ -14,7 +14,7 @@ use Rattle.phase.specs.declared.Next.TheVariants.{Total, Openings}
 use Rattle.phase.specs.declared.Kind.TheVariants.{Shut}
 use Rattle.prover.specs.declared.Run.{Run}
 use Rattle.pass.specs.declared.Pass.{Pass}
-use Rattle.prover.specs.declared.Answer.TheVariants as answer
+use Rattle.prover.specs.declared.Reply.TheVariants as answer
 use Rattle.prover.specs.Records.{Out, out, leaves, answered_step}
 use Rattle.pass.specs.Open.{new_pass, no_points}
 

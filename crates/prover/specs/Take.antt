@@ -7,7 +7,7 @@ use Rattle.kernel.specs.Change.{Placed}
 use Rattle.pass.specs.declared.Pass.{Pass}
 use Rattle.pass.specs.Take.{Moved, index_in, enters_in, entered_in, placed_in, stacked_in, takes_in}
 use Rattle.prover.specs.declared.Run.{Run}
-use Rattle.prover.specs.declared.Answer.TheVariants as answer
+use Rattle.prover.specs.declared.Reply.TheVariants as answer
 use Rattle.prover.specs.Records.{Out, out, answered_step}
 use Rattle.prover.specs.Level.{stage_of}
 

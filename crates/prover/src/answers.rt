@@ -1,12 +1,13 @@
 // What a call hands back where no values stand beside the answer.
 ghost use Rattle.std.specs.Prelude.{◌≡◌};
-ghost use Rattle.prover.specs.Records.{answered_step, refused_step, refused_at_step};
+ghost use Rattle.prover.specs.Records.{step_with, answered_step, refused_step};
 
-use super::{Answer, Run, Step};
+use super::{Reply, Run, Step};
 use pass::Pass;
+use refusal::Refusal;
 
-pub fn answered(run: Run, pass: Pass, answer: Answer) -> Step
-    ensures { result ≡ answered_step run pass answer }
+pub fn answer(run: Run, pass: Pass, answer: Result<Reply, Refusal>) -> Step
+    ensures { result ≡ step_with run pass answer }
 {
     Step {
         run,
@@ -16,15 +17,15 @@ pub fn answered(run: Run, pass: Pass, answer: Answer) -> Step
     }
 }
 
-// A refusal hands the records back unchanged.
-pub fn refuse(run: Run, pass: Pass, number: u8) -> Step
-    ensures { result ≡ refused_step run pass number }
+pub fn answered(run: Run, pass: Pass, reply: Reply) -> Step
+    ensures { result ≡ answered_step run pass reply }
 {
-    answered(run, pass, Answer::Refused(number))
+    answer(run, pass, Ok(reply))
 }
 
-pub fn refuse_at(run: Run, pass: Pass, number: u8, index: u32) -> Step
-    ensures { result ≡ refused_at_step run pass number index }
+// A refusal hands the records back unchanged.
+pub fn refuse(run: Run, pass: Pass, refusal: Refusal) -> Step
+    ensures { result ≡ refused_step run pass refusal }
 {
-    answered(run, pass, Answer::RefusedAt(number, index))
+    answer(run, pass, Err(refusal))
 }

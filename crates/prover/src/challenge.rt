@@ -8,12 +8,11 @@ ghost use Rattle.prover.specs.Challenge.{kept_message, kept_challenge, challenge
 use super::answers::{answered, refuse};
 use super::formed::well_formed;
 use super::stage::stage_of;
-use super::{Answer, Run, Step};
-use field::{Checked, Field};
-use pass::lent::Lent;
+use super::{Reply, Run, Step};
+use field::Field;
 use pass::{Pass, lent};
 use phase::{order, turns};
-use refusal::Check;
+use refusal::Refusal;
 
 // The value of the round's message at its challenge.
 fn claim_at(p: u32, messages: [u32; 45], round: u32, c: u32) -> u32
@@ -28,19 +27,14 @@ fn keep_challenge(p: u32, run: Run, c: u32) -> Run
     requires { run.round < 15 }
     ensures { result ≡ kept_challenge p run c }
 {
-    let messages = run.messages;
-    let claim = claim_at(p, messages, run.round, c);
-    let at = run.round as usize;
     let mut challenges = run.challenges;
-    challenges[at] = c;
-    let start = run.start;
+    challenges[run.round as usize] = c;
     let round = run.round + 1;
-    let next = order::round_or_ends(round, start.rounds);
     Run {
         challenges,
-        claim,
+        claim: claim_at(p, run.messages, run.round, c),
         round,
-        next,
+        next: order::round_or_ends(round, run.start.rounds),
         ..run
     }
 }
@@ -50,26 +44,26 @@ fn take(p: u32, run: Run, pass: Pass, c: u32, f: &mut [u32], g: &mut [u32]) -> S
     requires { run.round < 15 }
     ensures { out result f.new g.new ≡ leaves run pass f.old g.old (challenged p run pass c f.old g.old run.mode) }
 {
-    let mode = run.mode;
-    match lent::challenge(p, stage_of(run), mode, c, f, g) {
-        Lent::Good => answered(keep_challenge(p, run, c), pass, Answer::Challenged),
-        Lent::Refused(number) => refuse(run, pass, number),
+    if let Err(refusal) = lent::challenge(p, stage_of(run), run.mode, c, f, g) {
+        return refuse(run, pass, refusal);
     }
+    answered(keep_challenge(p, run, c), pass, Reply::Challenged)
 }
 
 impl Run {
     // The buffers matter in full mode only.
+    #[tactic(auto, using(crate::proofs::Branches::branches), unfolding(crate::specs::Challenge::challenge_call))]
     pub fn challenge(self, pass: Pass, c: u32, f: &mut [u32], g: &mut [u32]) -> Step
         ensures { out result f.new g.new ≡ leaves self pass f.old g.old (challenge_call (modulus_of self.start) self pass c f.old g.old) }
     {
         let p = item::modulus_of(self.start);
-        let next = self.next;
-        let Check::Passed = turns::challenge(well_formed(p, self, pass), next) else {
-            return refuse(self, pass, refusal::ORDER);
+        let well = well_formed(p, self, pass);
+        let true = turns::challenge(well, self.next) else {
+            return refuse(self, pass, Refusal::Order);
         };
-        let Checked::Number(number) = Field::nonzero_in(p, c) else {
-            return refuse(self, pass, refusal::ARGUMENT);
+        let Some(number) = Field::nonzero_in(p, c) else {
+            return refuse(self, pass, Refusal::Argument);
         };
-        take(p, self, pass, number.to_u32(), f, g)
+        take(p, self, pass, u32::from(number), f, g)
     }
 }

@@ -8,41 +8,39 @@ use super::answers::{answered, refuse};
 use super::close::in_mode;
 use super::formed::well_formed;
 use super::stage::stage_of;
-use super::{Answer, Run, Step};
+use super::{Reply, Run, Step};
 use pass::{Pass, lent, open};
 use phase::{Mode, turns};
-use refusal::Check;
+use refusal::Refusal;
 
 impl Run {
     // Opens the pass that changes to full mode, and writes the places that the padding completes.
+    #[tactic(auto, using(crate::proofs::Branches::branches), unfolding(crate::specs::Change::to_full_call))]
     pub fn to_full(self, pass: Pass, f: &mut [u32], g: &mut [u32]) -> Step
         ensures { out result f.new g.new ≡ leaves self pass f.old g.old (to_full_call (modulus_of self.start) self pass f.old g.old) }
     {
         let well = well_formed(item::modulus_of(self.start), self, pass);
-        let mode = self.mode;
-        let next = self.next;
-        let Check::Passed = turns::change(well, mode, next, self.start.rounds) else {
-            return refuse(self, pass, refusal::ORDER);
+        let true = turns::change(well, self.mode, self.next, self.start.rounds) else {
+            return refuse(self, pass, Refusal::Order);
         };
         let stage = stage_of(self);
-        let Check::Passed = lent::both_long(stage, f.len(), g.len()) else {
-            return refuse(self, pass, refusal::BUFFER);
+        let true = lent::both_long(stage, f.len(), g.len()) else {
+            return refuse(self, pass, Refusal::Buffer);
         };
         lent::pad(stage, f);
         lent::pad(stage, g);
-        answered(self, open::change(stage), Answer::Opened)
+        answered(self, open::change(stage), Reply::Opened)
     }
 
     // From full to small mode: nothing is lent, and no pass is needed.
+    #[tactic(auto, using(crate::proofs::Branches::branches), unfolding(crate::specs::Change::to_small_call))]
     pub fn to_small(self, pass: Pass) -> Step
         ensures { out result [] [] ≡ leaves self pass [] [] (to_small_call (modulus_of self.start) self pass) }
     {
         let well = well_formed(item::modulus_of(self.start), self, pass);
-        let mode = self.mode;
-        let next = self.next;
-        let Check::Passed = turns::back(well, mode, next, self.start.rounds) else {
-            return refuse(self, pass, refusal::ORDER);
+        let true = turns::back(well, self.mode, self.next, self.start.rounds) else {
+            return refuse(self, pass, Refusal::Order);
         };
-        answered(in_mode(self, Mode::Small), pass, Answer::Changed)
+        answered(in_mode(self, Mode::Small), pass, Reply::Changed)
     }
 }

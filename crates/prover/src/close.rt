@@ -2,25 +2,26 @@
 ghost use Rattle.std.specs.Prelude.{◌≡◌, ◌≤◌, ◌<◌, true, []};
 ghost use Rattle.item.specs.Start.{modulus_of};
 ghost use Rattle.phase.specs.Order.{round_fits};
-ghost use Rattle.prover.specs.Records.{out};
+ghost use Rattle.prover.specs.declared.Reply.TheVariants as Reply;
+ghost use Rattle.prover.specs.Records.{out, answered_step};
 ghost use Rattle.prover.specs.Close.{total_step, message_step, ends_step, opening_step, changed_step, finished, closing, close_call, leaves_step, with_message, with_ends, in_mode};
 
 use super::answers::{answered, refuse};
 use super::formed::well_formed;
-use super::{Answer, Run, Step};
+use super::{Reply, Run, Step};
 use pass::formed::total_fits;
 use pass::open::empty_pass;
 use pass::{Pass, values};
 use phase::{Kind, Mode, Next, order, turns};
-use refusal::Check;
+use refusal::Refusal;
+use vector::Message;
 
 fn close_total(p: u32, run: Run, pass: Pass) -> Step
     ensures { result ≡ total_step p run pass }
 {
-    let start = run.start;
-    let next = order::round_or_ends(0, start.rounds);
+    let next = order::round_or_ends(0, run.start.rounds);
     let shut = empty_pass(Kind::Shut);
-    if start.plain {
+    if run.start.plain {
         let total = pass.total;
         let claim = field::integer::image(p, total);
         let after = Run {
@@ -29,78 +30,74 @@ fn close_total(p: u32, run: Run, pass: Pass) -> Step
             claim,
             ..run
         };
-        return answered(after, shut, Answer::Total(total));
+        return answered(after, shut, Reply::Total(total));
     }
     let claim = pass.dot;
-    answered(Run { next, claim, ..run }, shut, Answer::FieldTotal(claim))
+    answered(Run { next, claim, ..run }, shut, Reply::FieldTotal(claim))
 }
 
-// The run with the message of its round.
-pub(crate) fn keep_message(run: Run, even: u32, cross: u32, odd: u32) -> Run
+// The message of the round, which the run keeps.
+pub(crate) fn answer_message(run: Run, pass: Pass, m: Message) -> Step
     requires { run.round < 15 }
-    ensures { result ≡ with_message run even cross odd }
+    ensures { result ≡ answered_step (with_message run m.even m.cross m.odd) pass (Reply.Message m.even m.cross m.odd) }
 {
     let at = 3 * (run.round as usize);
     let mut messages = run.messages;
-    messages[at] = even;
-    messages[at + 1] = cross;
-    messages[at + 2] = odd;
-    Run {
+    messages[at] = m.even;
+    messages[at + 1] = m.cross;
+    messages[at + 2] = m.odd;
+    let after = Run {
         next: Next::Challenge,
         messages,
         ..run
-    }
+    };
+    answered(after, pass, Reply::Message(m.even, m.cross, m.odd))
 }
 
 fn close_message(run: Run, pass: Pass) -> Step
     requires { run.round < 15 }
     ensures { result ≡ message_step run pass }
 {
-    let after = keep_message(run, pass.even, pass.cross, pass.odd);
-    answered(
-        after,
-        empty_pass(Kind::Shut),
-        Answer::Message(pass.even, pass.cross, pass.odd),
-    )
+    let m = Message {
+        even: pass.even,
+        cross: pass.cross,
+        odd: pass.odd,
+    };
+    answer_message(run, empty_pass(Kind::Shut), m)
 }
 
-// The run with its end values.
-pub fn keep_ends(run: Run, f: u32, g: u32) -> Run
-    ensures { result ≡ with_ends run f g }
+// The end values, which the run keeps.
+pub(crate) fn answer_ends(run: Run, pass: Pass, f: u32, g: u32) -> Step
+    ensures { result ≡ answered_step (with_ends run f g) pass (Reply.Ends f g) }
 {
-    Run {
+    let after = Run {
         next: Next::Openings,
         fend: f,
         gend: g,
         ..run
-    }
+    };
+    answered(after, pass, Reply::Ends(f, g))
 }
 
 fn close_ends(run: Run, pass: Pass) -> Step
     ensures { result ≡ ends_step run pass }
 {
-    let fvalues = pass.fvalues;
-    let gvalues = pass.gvalues;
-    let f = fvalues[0];
-    let g = gvalues[0];
-    answered(
-        keep_ends(run, f, g),
+    answer_ends(
+        run,
         empty_pass(Kind::Shut),
-        Answer::Ends(f, g),
+        pass.fvalues[0],
+        pass.gvalues[0],
     )
 }
 
 fn close_openings(run: Run, pass: Pass) -> Step
     ensures { result ≡ opening_step run pass }
 {
-    let start = run.start;
-    let evals = pass.evals;
-    let values = values::values_of(evals, start.rounds);
     Step {
         run,
         pass: empty_pass(Kind::Shut),
-        answer: Answer::Opening,
-        values,
+        answer: Ok(Reply::Opening),
+        values: values::values_of(pass.evals, run.start.rounds),
     }
 }
 
@@ -114,18 +111,17 @@ fn close_change(run: Run) -> Step
     ensures { result ≡ changed_step run }
 {
     let full = in_mode(run, Mode::Full);
-    answered(full, empty_pass(Kind::Shut), Answer::Changed)
+    answered(full, empty_pass(Kind::Shut), Reply::Changed)
 }
 
 fn finish(p: u32, run: Run, pass: Pass) -> Step
     requires { (round_fits run.next run.round run.start.rounds ≡ true) × (run.start.rounds ≤ 15) }
-    ensures { result ≡ leaves_step run pass (finished p run pass run.next) }
+    ensures { out result [] [] ≡ leaves_step run pass (finished p run pass run.next) }
 {
-    let next = run.next;
-    match next {
+    match run.next {
         Next::Total => close_total(p, run, pass),
         Next::Message => close_message(run, pass),
-        Next::Challenge => refuse(run, pass, refusal::ORDER),
+        Next::Challenge => refuse(run, pass, Refusal::Order),
         Next::Ends => close_ends(run, pass),
         Next::Openings => close_openings(run, pass),
     }
@@ -133,11 +129,10 @@ fn finish(p: u32, run: Run, pass: Pass) -> Step
 
 fn close_kind(p: u32, run: Run, pass: Pass) -> Step
     requires { (round_fits run.next run.round run.start.rounds ≡ true) × (run.start.rounds ≤ 15) }
-    ensures { result ≡ leaves_step run pass (closing p run pass pass.kind) }
+    ensures { out result [] [] ≡ leaves_step run pass (closing p run pass pass.kind) }
 {
-    let kind = pass.kind;
-    match kind {
-        Kind::Shut => refuse(run, pass, refusal::ORDER),
+    match pass.kind {
+        Kind::Shut => refuse(run, pass, Refusal::Order),
         Kind::Asked => finish(p, run, pass),
         Kind::Change => close_change(run),
     }
@@ -145,21 +140,20 @@ fn close_kind(p: u32, run: Run, pass: Pass) -> Step
 
 impl Run {
     // Ends the open pass with its answer. A refused total leaves the pass open.
+    #[tactic(auto, using(crate::proofs::Branches::branches), unfolding(crate::specs::Close::close_call))]
     pub fn close(self, pass: Pass) -> Step
-        ensures { out result [] [] ≡ out (leaves_step self pass (close_call (modulus_of self.start) self pass)) [] [] }
+        ensures { out result [] [] ≡ leaves_step self pass (close_call (modulus_of self.start) self pass) }
     {
         let start = self.start;
-        let next = self.next;
         let p = item::modulus_of(start);
-        let kind = pass.kind;
-        let Check::Passed = turns::item(well_formed(p, self, pass), kind) else {
-            return refuse(self, pass, refusal::ORDER);
+        let true = turns::item(well_formed(p, self, pass), pass.kind) else {
+            return refuse(self, pass, Refusal::Order);
         };
-        let Check::Passed = order::all_taken(pass.taken, start.items) else {
-            return refuse(self, pass, refusal::ITEMS);
+        let true = order::all_taken(pass.taken, start.items) else {
+            return refuse(self, pass, Refusal::Items);
         };
-        let Check::Passed = total_fits(p, next, start.plain, pass.total) else {
-            return refuse(self, pass, refusal::TOTAL);
+        let true = total_fits(p, self.next, start.plain, pass.total) else {
+            return refuse(self, pass, Refusal::Total);
         };
         close_kind(p, self, pass)
     }

@@ -6,14 +6,10 @@ use super::Run;
 use pass::Pass;
 use pass::formed::{pass_formed, turn_formed};
 
+#[tactic(auto, using(crate::proofs::Branches::branches), unfolding(crate::specs::WellFormed::well_formed))]
 pub fn well_formed(p: u32, run: Run, pass: Pass) -> bool
     ensures { result ≡ well_formed p run pass }
 {
-    let start = run.start;
-    let next = run.next;
-    if turn_formed(p, start, next, run.round, run.total) {
-        let mode = run.mode;
-        return pass_formed(start.items, mode, next, pass);
-    }
-    false
+    turn_formed(p, run.start, run.next, run.round, run.total)
+        && pass_formed(run.start.items, run.mode, run.next, pass)
 }

@@ -19,9 +19,10 @@ mod written;
 use item::Start;
 use pass::Pass;
 use phase::{Mode, Next};
+use refusal::Refusal;
 
 // 84 numbers: what the start fixed (L, n, plain, the twists), the mode and what is next, and what was taken and given.
-#[derive(Clone, Copy)]
+#[derive(Clone, Copy, Debug, PartialEq, Eq)]
 pub struct Run {
     pub start: Start,
     pub mode: Mode,
@@ -36,8 +37,9 @@ pub struct Run {
     pub gend: u32,
 }
 
-#[derive(Clone, Copy)]
-pub enum Answer {
+// What an answered call answers.
+#[derive(Clone, Copy, Debug, PartialEq, Eq)]
+pub enum Reply {
     Started,
     Opened,
     Taken,
@@ -49,9 +51,8 @@ pub enum Answer {
     // The values are beside the answer.
     Opening,
     Changed,
+    // The length of the proof file.
     Written(usize),
-    Refused(u8),
-    RefusedAt(u8, u32),
 }
 
 // What a call hands back. `values` has an opening's 6n values in its first places, f before g; all other places are zero.
@@ -59,6 +60,6 @@ pub enum Answer {
 pub struct Step {
     pub run: Run,
     pub pass: Pass,
-    pub answer: Answer,
+    pub answer: Result<Reply, Refusal>,
     pub values: [u32; 90],
 }

@@ -7,36 +7,34 @@ ghost use Rattle.prover.specs.Opening.{opening_call};
 use super::answers::refuse;
 use super::formed::well_formed;
 use super::stage::stage_of;
-use super::{Answer, Run, Step};
-use field::{Checked, Field};
-use pass::lent::Lent;
+use super::{Reply, Run, Step};
+use field::Field;
 use pass::{Pass, lent};
 use phase::turns;
-use refusal::Check;
+use refusal::Refusal;
 
 impl Run {
+    #[tactic(auto, using(crate::proofs::Branches::branches), unfolding(crate::specs::Opening::opening_call, crate::specs::Opening::opening_given))]
     pub fn opening(self, pass: Pass, point: u32, f: &[u32], g: &[u32]) -> Step
         ensures { out result f.now g.now ≡ leaves self pass f.now g.now (opening_call (modulus_of self.start) self pass point f.now g.now) }
     {
         let p = item::modulus_of(self.start);
         let well = well_formed(p, self, pass);
-        let mode = self.mode;
-        let next = self.next;
-        let Check::Passed = turns::opening(well, mode, next, self.start.rounds) else {
-            return refuse(self, pass, refusal::ORDER);
+        let true = turns::opening(well, self.mode, self.next, self.start.rounds) else {
+            return refuse(self, pass, Refusal::Order);
         };
-        let Checked::Number(b) = Field::nonzero_in(p, point) else {
-            return refuse(self, pass, refusal::ARGUMENT);
+        let Some(b) = Field::nonzero_in(p, point) else {
+            return refuse(self, pass, Refusal::Argument);
         };
         let stage = stage_of(self);
-        match lent::both_good(p, stage, f, g) {
-            Lent::Good => Step {
-                run: self,
-                pass,
-                answer: Answer::Opening,
-                values: lent::opening(p, stage, b.to_u32(), f, g),
-            },
-            Lent::Refused(number) => refuse(self, pass, number),
+        if let Err(refusal) = lent::both_good(p, stage, f, g) {
+            return refuse(self, pass, refusal);
+        }
+        Step {
+            run: self,
+            pass,
+            answer: Ok(Reply::Opening),
+            values: lent::opening(p, stage, u32::from(b), f, g),
         }
     }
 }

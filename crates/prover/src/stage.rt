@@ -8,13 +8,11 @@ use pass::Stage;
 pub fn stage_of(run: Run) -> Stage
     ensures { result ≡ stage_of run }
 {
-    let start = run.start;
     let challenges = run.challenges;
-    let next = run.next;
     Stage {
-        start,
+        start: run.start,
         challenges,
         round: run.round,
-        next,
+        next: run.next,
     }
 }

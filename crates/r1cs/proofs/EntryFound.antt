@@ -1,31 +1,25 @@
 -- What the accessor answers for an entry that the file has.
 use mathlib.Core.List.{List}
-use mathlib.Core.Path.{◌≡◌, sym, ap, ◌∙◌}
+use mathlib.Core.Path.{◌≡◌, ap, ◌∙◌}
 use Prim.Native.Nat.{ℕ, ◌+◌, ◌≤◌, ◌<◌}
 use native.Mathlib.Omega.{arith}
 use lib.ListN.{length}
 use borrow.Author.Tests.{le-leb}
-use Rattle.wire.specs.Found.{Found, found, nothing}
-use Rattle.wire.specs.Matrix.{Entry, entry, entry_at, entry_of, matrix_entry}
-use Rattle.wire.specs.declared.matrix.EntryRead.{EntryRead}
-use Rattle.wire.specs.declared.matrix.EntryRead.TheVariants as read
+use Rattle.std.specs.Prelude.{Some, None}
+use Rattle.wire.specs.declared.matrix.Entry.{Entry}
+use Rattle.wire.specs.Matrix.{entry, entry_at, matrix_entry}
 
-abbrev contents : Entry → Found Entry → Entry
-contents e (found x) = x
-contents e nothing = e
-
-module _ (file : List ℕ) (k : ℕ) (there : entry_at (k + 1) ≤ length file) (r : EntryRead) (e : entry_of r ≡ matrix_entry file k) where
-  entry-there : matrix_entry file k ≡ found (entry file k)
+module _ (file : List ℕ) (k : ℕ) (there : entry_at (k + 1) ≤ length file) where
+  entry-there : matrix_entry file k ≡ Some (entry file k)
   unfolding matrix_entry
   entry-there = rw (le-leb (entry_at (k + 1)) (length file) there)
 
-  pub entry_read : (row column value : ℕ) → r ≡ read.Entry row column value
-      → ◌≡◌ {A = Entry} (record { row = row; column = column; value = value }) (entry file k)
-  entry_read row column value h = ap (contents (entry file k)) (sym (ap entry_of h) ∙ e ∙ entry-there)
+  pub entry_read : {e : Entry} → Some e ≡ matrix_entry file k → e ≡ entry file k
+  entry_read h = let same = h ∙ entry-there in cc
 
-  pub entry-not_missing : r ≡ read.Nothing → ⊥
+  pub entry-not_missing : None ≡ matrix_entry file k → ⊥
   entry-not_missing h =
-      let z : nothing ≡ found (entry file k) = sym (ap entry_of h) ∙ e ∙ entry-there in
+      let z : None ≡ Some (entry file k) = h ∙ entry-there in
       let n : ◌≡◌ {A = ℕ} 0 1 = cc in
       omega arith
 

@@ -2,7 +2,6 @@ pub mod Overwritten
 pub mod RowSums
 pub mod EntryFound
 pub mod Vectors
-pub mod Points
 pub mod ProductRows
 pub mod ProductSays
 pub mod ClaimRows

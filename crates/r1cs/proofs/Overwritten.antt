@@ -1,11 +1,13 @@
 -- A list whose first places are the items of a vector: by equal items, with one place stored, and written over again.
-use mathlib.Core.List.{List}
+use mathlib.Core.List.{List, ◌++◌}
 use mathlib.Core.Logic.{⊎_elim}
-use mathlib.Core.Path.{◌≡◌, refl, ap, ap₂, ◌∙◌}
+use mathlib.Core.Path.{◌≡◌, refl, sym, ap, ap₂, ◌∙◌}
 use Prim.Native.Nat.{ℕ, zero, suc, ◌≤◌, ◌<◌}
 use native.Mathlib.Nat.{eq-or-lt_of_le}
+use native.Mathlib.Numerals.{add-one}
 use native.Mathlib.Omega.{arith}
-use lib.ListN.{set}
+use lib.ListN.{length, set, drop, replicate}
+use Rattle.std.proofs.lemmas.List.Edits.{fill_more}
 use lib.Seq.{set-set, set_comm}
 use Rattle.vector.specs.Vector.{Vector}
 use Rattle.vector.specs.Slice.{overwrite}
@@ -49,3 +51,12 @@ overwrite-again u v (suc h) xs =
     ap (λ ys. set ys h (v h)) (overwrite-past v h h (u h) (overwrite u h xs) (omega arith))
     ∙ set-set (overwrite v h (overwrite u h xs)) h (u h) (v h)
     ∙ ap (λ ys. set ys h (v h)) (overwrite-again u v h xs)
+
+-- zeros in the first places, as `fill` leaves them
+pub overwrite-zeros : (h : ℕ) (xs : List ℕ) → h ≤ length xs → replicate h 0 ++ drop h xs ≡ overwrite (λ i. 0) h xs
+unfolding overwrite
+overwrite-zeros zero xs le = refl
+overwrite-zeros (suc h) xs le =
+    ap (λ k. replicate k 0 ++ drop k xs) (sym (add-one h))
+    ∙ sym (fill_more h 0 xs (omega arith))
+    ∙ ap (λ ys. set ys h 0) (overwrite-zeros h xs (omega arith))

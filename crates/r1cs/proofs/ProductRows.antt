@@ -1,4 +1,4 @@
--- The rows of product_call after the file's, one by one, as the code reaches them, and what each leaves of the buffer.
+-- The rows of product_call after the file's, one by one, and what a file that was read says.
 use mathlib.Core.Path.{◌≡◌, sym, ap, subst, ◌∙◌}
 use mathlib.Core.Bool.{true, false}
 use mathlib.Core.List.{List}
@@ -7,26 +7,14 @@ use native.Mathlib.Omega.{arith}
 use lib.Dec.{leb}
 use lib.ListN.{length}
 use Rattle.refusal.specs.Number as number
-use Rattle.refusal.specs.Outcome.{Outcome, answered, refused, refused_at}
-use Rattle.vector.specs.Slice.{overwrite}
-use Rattle.wire.specs.Matrix.{Shape, matrix_rounds, read_matrix}
+use Rattle.refusal.specs.Outcome.{answered, refused}
+use Rattle.vector.specs.Power.{size_in32}
+use Rattle.wire.specs.declared.matrix.Shape.{Shape}
+use Rattle.wire.specs.Matrix.{matrix_rounds, read_matrix}
 use Rattle.wire.proofs.MatrixSays.{GoodMatrix, MatrixSays, matrix-says}
-use Rattle.r1cs.specs.Product.{Fits, product_of, rule_vector, after_shape, product_in}
-
--- the answer of an outcome, beside the buffer that it leaves
-module _ (p : ℕ) (file z out : List ℕ) (call : Outcome ℕ) where
-  pub left-refused : (k : ℕ) → call ≡ refused k → (refused k ≡ call) × (out ≡ product_in p file z out call)
-  unfolding product_in
-  left-refused k e = (sym e, sym (ap (product_in p file z out) e))
-
-  pub left-refused-at : (k i : ℕ) → call ≡ refused_at k i → (refused_at k i ≡ call) × (out ≡ product_in p file z out call)
-  unfolding product_in
-  left-refused-at k i e = (sym e, sym (ap (product_in p file z out) e))
-
-  pub left-done : (n : ℕ) (after : List ℕ) → call ≡ answered n → after ≡ overwrite (product_of p n file z) (2 ^ n) out
-      → (answered n ≡ call) × (after ≡ product_in p file z out call)
-  unfolding product_in
-  left-done n after e q = (sym e, q ∙ sym (ap (product_in p file z out) e))
+use Rattle.r1cs.specs.Product.{Fits, rule_vector, after_shape}
+use Rattle.verifier.proofs.Branches.{branches}
+use Rattle.r1cs.proofs.Vectors.{size-rule}
 
 module _ (p : ℕ) (z out : List ℕ) (shape : Shape) where
   pub row-vector : rule_vector p (2 ^ shape.rounds) z ≡ false → after_shape p z out (answered shape) ≡ refused number.vector
@@ -51,6 +39,9 @@ module _ (p : ℕ) (file : List ℕ) (shape : Shape) (read : read_matrix p file 
   pub few-rounds : shape.rounds ≤ 15
   few-rounds = omega (arith, good.frame.most, good.rounds)
 
+  pub size-read : size_in32 shape.rounds 0 ≡ 2 ^ shape.rounds
+  size-read = size-rule shape.rounds few-rounds
+
   pub fits-of : (size : ℕ) (z out : List ℕ) → size ≡ 2 ^ shape.rounds → length z ≡ size → size ≤ length out → Fits size shape.count file z out
   fits-of size z out e long room =
       let same : size ≡ 2 ^ matrix_rounds file = e ∙ ap (λ n. 2 ^ n) (sym good.rounds) in
@@ -62,3 +53,10 @@ module _ (p : ℕ) (file : List ℕ) (shape : Shape) (read : read_matrix p file 
         vector = long;
         buffer = room;
       }
+
+-- the size that the code computes, in the form that `grind` finds by what was read
+pub size-known : (p : ℕ) (file : List ℕ) (shape : Shape) → read_matrix p file ≡ answered shape
+    → (read_matrix p file ≡ answered shape) × (size_in32 shape.rounds 0 ≡ 2 ^ shape.rounds)
+size-known p file shape read = (read, size-read p file shape read)
+
+pub ruleset product_rows = (branches, size-known)

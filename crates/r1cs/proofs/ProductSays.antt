@@ -9,7 +9,8 @@ use borrow.Author.Tests.{le-leb, lt-leb, leb-true, leb-false}
 use Rattle.refusal.specs.Number as number
 use Rattle.refusal.specs.Outcome.{Outcome, answered, refused, refused_at}
 use Rattle.refusal.proofs.Outcome.{failed, fails, require-says}
-use Rattle.wire.specs.Matrix.{Shape, read_matrix}
+use Rattle.wire.specs.declared.matrix.Shape.{Shape}
+use Rattle.wire.specs.Matrix.{read_matrix}
 use Rattle.wire.proofs.MatrixSays.{GoodMatrix, MatrixRefused, Faulty, MatrixSays, matrix-says, matrix-said}
 use Rattle.r1cs.specs.Product.{rule_vector, after_shape, product_call}
 use Rattle.r1cs.proofs.Vectors.{RuleVector, vector-of, of_vector}

@@ -16,7 +16,8 @@ use Rattle.vector.specs.Vector.{Vector, at, sum}
 use Rattle.vector.specs.Slice.{overwrite}
 use Rattle.vector.proofs.Sums.{sum_same, sum-plus, sum-zero, running-product}
 use Rattle.vector.proofs.Overwrite.{overwrite-written}
-use Rattle.wire.specs.Matrix.{Entry, entry, matrix_count}
+use Rattle.wire.specs.declared.matrix.Entry.{Entry}
+use Rattle.wire.specs.Matrix.{entry, matrix_count}
 use Rattle.r1cs.specs.Product.{addend, matrix_of_first, matrix_in, times}
 use Rattle.r1cs.proofs.Overwritten.{overwrite-same, overwrite-stored, overwrite-again}
 

@@ -4,9 +4,11 @@ use mathlib.Core.Bool.{Bool, true, false, cond, true≢false}
 use mathlib.Core.List.{List}
 use Prim.Native.Nat.{ℕ, ◌^◌, ◌≤◌, ◌<◌}
 use native.Mathlib.Omega.{arith}
-use lib.Dec.{eqb}
+use lib.Dec.{eqb, leb}
 use lib.ListN.{length}
-use borrow.Author.Tests.{eqb-true, eq-eqb, le-leb, lt-ltb}
+use borrow.Author.Tests.{eqb-true, eq-eqb, le-leb, leb-true, lt-ltb}
+use Rattle.refusal.specs.Limit.{max_rounds}
+use Rattle.verifier.proofs.Branches.{branches}
 use Rattle.vector.specs.Power.{size_in32}
 use Rattle.vector.specs.Vector.{at}
 use Rattle.vector.specs.Opening.{evaluate}
@@ -42,3 +44,12 @@ module _ (p size : ℕ) (xs : List ℕ) where
   pub vector-value : (x : ℕ) → length xs ≡ size → evaluate_slice p size xs x ≡ evaluate p size (at xs) x
   unfolding evaluate_slice
   vector-value x long = rw (le-leb size (length xs) (omega arith))
+
+  pub vector-at : (x : ℕ) → rule_vector p size xs ≡ true → evaluate_slice p size xs x ≡ evaluate p size (at xs) x
+  vector-at x h = vector-value x (vector-of h).long
+
+pub size-passed : (n : ℕ) → leb n max_rounds ≡ true → size_in32 n 0 ≡ 2 ^ n
+size-passed n h = size-rule n (leb-true n max_rounds h)
+
+-- how the rows of a rule check are read
+pub ruleset rule_rows = (branches, size-passed, vector-at)

@@ -4,9 +4,9 @@ use Rattle.refusal.specs.Number as number
 use Rattle.refusal.specs.Outcome.{Outcome, answered, refused, refused_at, require}
 use Rattle.vector.specs.Vector.{Vector, at, sum, dot}
 use Rattle.vector.specs.Slice.{overwrite, all_reduced}
-use Rattle.wire.specs.Matrix.{Entry, Shape, entry, entry_at, matrix_count, read_matrix}
-use Rattle.r1cs.specs.declared.Multiplied.{Multiplied}
-use Rattle.r1cs.specs.declared.Multiplied.TheVariants.{Done, Refused, RefusedAt}
+use Rattle.wire.specs.declared.matrix.Entry.{Entry}
+use Rattle.wire.specs.declared.matrix.Shape.{Shape}
+use Rattle.wire.specs.Matrix.{entry, entry_at, matrix_count, read_matrix}
 
 -- the number at row i and column j is `a i j`
 abbrev pub Matrix : Type 0
@@ -65,9 +65,3 @@ product_in p file z out (refused_at k i) = out
 
 abbrev pub product_leaves : ℕ → List ℕ → List ℕ → List ℕ → List ℕ
 product_leaves p file z out = product_in p file z out (product_call p file z out)
-
--- the code's answers in these terms
-abbrev pub multiplied_of : Multiplied → Outcome ℕ
-multiplied_of (Done n) = answered n
-multiplied_of (Refused k) = refused k
-multiplied_of (RefusedAt k i) = refused_at k i

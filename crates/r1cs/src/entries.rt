@@ -5,18 +5,14 @@ ghost use Rattle.vector.specs.Vector.{at};
 ghost use Rattle.vector.specs.Slice.{overwrite};
 ghost use Rattle.r1cs.specs.Product.{Fits, matrix_in, times};
 
-use wire::matrix::EntryRead;
+use wire::matrix::Entry;
 
 // The first `size` places become zero.
 fn clear(out: &mut [u32], size: usize)
     requires { size ≤ length out.old }
     ensures { out.new ≡ overwrite (λ i. 0) size out.old }
 {
-    let mut i: usize = 0;
-    while i < size {
-        out[i] = 0;
-        i += 1;
-    }
+    out[..size].fill(0);
 }
 
 // A value at a row and a column: its product with the column's item is added to the row's place.
@@ -36,12 +32,11 @@ pub(crate) fn sum_rows(p: u32, matrix: &[u8], size: usize, count: u32, z: &[u32]
     ensures { out.new ≡ overwrite (times p size (matrix_in matrix.now) (at z.now)) size out.old }
 {
     clear(out, size);
-    let mut k: u32 = 0;
-    while k < count {
-        let EntryRead::Entry(row, column, value) = wire::matrix::matrix_entry(matrix, k) else {
+    for k in 0..count {
+        let Some(Entry { row, column, value }) = wire::matrix::matrix_entry(matrix, k) else {
+            // Not reached: the file has the entry.
             return;
         };
         add_entry(p, row, column, value, z, out);
-        k += 1;
     }
 }

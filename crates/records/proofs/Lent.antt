@@ -10,19 +10,19 @@ use lib.ListN.{length, take, drop, length-append, length-drop, take-append-drop}
 use lib.Seq.{length-take-le, take_all, take_at, drop_at}
 use Rattle.records.specs.Counts.{Counts}
 
-drop_past : (n : ℕ) (l : List ℕ) → length l ≤ n → drop n l ≡ []
+drop_past : {A : Type 0} (n : ℕ) (l : List A) → length l ≤ n → drop n l ≡ []
 drop_past zero [] h = refl
 drop_past zero (x ∷ xs) h = absurd (omega arith)
 drop_past (suc n) [] h = refl
 drop_past (suc n) (x ∷ xs) h = drop_past n xs (omega arith)
 
 -- what the buffer is afterwards: the part, where so many places are lent; the others, as they were
-pub record Back (want n : ℕ) (xs part : List ℕ) : Type 0 where
+pub record Back {A : Type 0} (want n : ℕ) (xs part : List A) : Type 0 where
   pub part_left : take want (part ++ drop n xs) ≡ part
   pub rest : drop want (part ++ drop n xs) ≡ drop want xs
   pub lent : take n xs ≡ take want xs
 
-pub lent_back : (want n : ℕ) (xs part : List ℕ) → Counts want n xs → length (part ++ drop n xs) ≡ length xs → Back want n xs part
+pub lent_back : {A : Type 0} (want n : ℕ) (xs part : List A) → Counts want n xs → length (part ++ drop n xs) ≡ length xs → Back want n xs part
 lent_back want n xs part c e = by (leb want (length xs)) refl
   where
     size : length part ≡ n
@@ -49,11 +49,11 @@ lent_back want n xs part c e = by (leb want (length xs)) refl
         }
 
 -- the places that are lent
-pub lent_same : (want n : ℕ) (xs : List ℕ) → Counts want n xs → take n xs ≡ take want xs
+pub lent_same : {A : Type 0} (want n : ℕ) (xs : List A) → Counts want n xs → take n xs ≡ take want xs
 lent_same want n xs c = (lent_back want n xs (take n xs) c (ap length (take-append-drop n xs))).lent
 
 -- the places after them, as many as there are
-pub rest_same : (want n : ℕ) (xs : List ℕ) → Counts want n xs → take (length xs - n) (drop n xs) ≡ drop want xs
+pub rest_same : {A : Type 0} (want n : ℕ) (xs : List A) → Counts want n xs → take (length xs - n) (drop n xs) ≡ drop want xs
 rest_same want n xs c = take_all (length xs - n) (drop n xs) (omega (arith, length-drop n xs)) ∙ by (leb want (length xs)) refl
   where
     by : (b : Bool) → leb want (length xs) ≡ b → drop n xs ≡ drop want xs

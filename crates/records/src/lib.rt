@@ -11,6 +11,7 @@ pub mod proof;
 pub mod signs;
 pub mod slots;
 
+use std::fmt;
 use wire::words::word_at;
 
 // A call: its op and three numbers.
@@ -34,10 +35,18 @@ pub fn decode(bytes: &[u8]) -> Record
     }
 }
 
-// What the tool says of a record that makes no call.
-#[derive(Clone, Copy)]
-pub enum Said {
-    Nothing,
+// Why a record makes no call: a number out of its range, or no room.
+#[derive(Clone, Copy, Debug, PartialEq, Eq)]
+pub enum Fault {
     Bad,
     Full,
+}
+
+impl fmt::Display for Fault {
+    fn fmt<W: fmt::Write>(&self, f: &mut fmt::Formatter<W>) -> fmt::Result {
+        match self {
+            Fault::Bad => f.write_str("tool bad"),
+            Fault::Full => f.write_str("tool full"),
+        }
+    }
 }

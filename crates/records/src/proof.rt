@@ -2,73 +2,53 @@
 ghost use Rattle.std.specs.Prelude.{◌≡◌};
 ghost use Rattle.records.specs.Proof.{no_proof, saying, writes, resizes, changes};
 
-use super::{Record, Said};
+use super::{Fault, Record};
 
+// Its length stands beside its bytes, since an op changes either without the other: bytes past the length are kept.
 #[derive(Clone, Copy)]
 pub struct Proof {
     pub bytes: [u8; 256],
     pub size: usize,
 }
 
-#[derive(Clone, Copy)]
-pub struct Changed {
-    pub proof: Proof,
-    pub said: Said,
-}
-
-pub fn none() -> Proof
-    ensures { result ≡ no_proof }
-{
-    Proof {
-        bytes: [0; 256],
-        size: 0,
-    }
-}
-
-// Ops 6 and 7.
-pub fn change(p: Proof, r: Record) -> Changed
-    ensures { result ≡ changes p r }
-{
-    let op = r.op;
-    match op {
-        6 => write(p, r.a, r.b),
-        7 => resize(p, r.a),
-        _ => says(p, Said::Bad),
-    }
-}
-
-fn says(proof: Proof, said: Said) -> Changed
-    ensures { result ≡ saying proof said }
-{
-    Changed { proof, said }
-}
-
-fn write(p: Proof, at: u32, byte: u32) -> Changed
-    ensures { result ≡ writes p at byte }
-{
-    if at >= 256 {
-        return says(p, Said::Bad);
-    }
-    if byte > 255 {
-        return says(p, Said::Bad);
-    }
-    let i = at as usize;
-    let mut bytes = p.bytes;
-    bytes[i] = byte as u8;
-    says(Proof { bytes, ..p }, Said::Nothing)
-}
-
-fn resize(p: Proof, size: u32) -> Changed
-    ensures { result ≡ resizes p size }
-{
-    if size > 256 {
-        return says(p, Said::Bad);
-    }
-    says(
+impl Proof {
+    pub fn new() -> Proof
+        ensures { result ≡ no_proof }
+    {
         Proof {
-            size: size as usize,
-            ..p
-        },
-        Said::Nothing,
-    )
+            bytes: [0; 256],
+            size: 0,
+        }
+    }
+
+    // Ops 6 and 7.
+    pub fn change(&mut self, r: Record) -> Result<(), Fault>
+        ensures { saying self.new result ≡ changes self.old r }
+    {
+        match r.op {
+            6 => self.write(r.a, r.b),
+            7 => self.resize(r.a),
+            _ => Err(Fault::Bad),
+        }
+    }
+
+    fn write(&mut self, at: u32, byte: u32) -> Result<(), Fault>
+        ensures { saying self.new result ≡ writes self.old at byte }
+    {
+        if at >= 256 || byte > 255 {
+            return Err(Fault::Bad);
+        }
+        self.bytes[at as usize] = byte as u8;
+        Ok(())
+    }
+
+    fn resize(&mut self, size: u32) -> Result<(), Fault>
+        ensures { saying self.new result ≡ resizes self.old size }
+    {
+        if size > 256 {
+            return Err(Fault::Bad);
+        }
+        self.size = size as usize;
+        Ok(())
+    }
 }

@@ -1,12 +1,15 @@
 -- Laws of checks in a row: what an outcome says of them, both ways, and the search for the lowest faulty index as a loop makes it.
-use mathlib.Core.Path.{◌≡◌, refl, sym, subst, ◌∙◌}
+use mathlib.Core.Path.{◌≡◌, refl, sym, ap, subst, ◌∙◌}
 use mathlib.Core.Logic.{⊎_elim}
 use mathlib.Core.Bool.{Bool, true, false, true≢false, ◌&&◌}
 use Prim.Native.Nat.{ℕ, zero, suc, ◌+◌, ◌-◌, ◌≤◌, ◌<◌}
 use native.Mathlib.Numerals.{add-one}
 use native.Mathlib.Nat.{sub-zero, zero-add, eq-or-lt_of_le}
 use native.Mathlib.Omega.{arith}
-use Rattle.refusal.specs.Outcome.{Outcome, refused, refused_at, require, require_at, require_all}
+use Rattle.std.specs.Prelude.{Option, Some, None, Ok}
+use Rattle.refusal.specs.declared.Refusal.{Refusal}
+use Rattle.refusal.specs.Refusal.{number_of, index_of, told, refused_by, required}
+use Rattle.refusal.specs.Outcome.{Outcome, answered, refused, refused_at, require, require_at, require_all, and_then}
 
 -- both tests of a check passed
 pub both : (a b : Bool) → (a && b) ≡ true → (a ≡ true) × (b ≡ true)
@@ -30,6 +33,11 @@ pub fails_both : (a b : Bool) → (a ≡ true → b ≡ true → ⊥) → (a && 
 fails_both true b h = fails b (h refl)
 fails_both false b h = refl
 
+-- what a check that was taken by `?` told
+pub passed : (ok : Bool) (e : Refusal) (x : Unit {0}) → required ok e ≡ Ok x → ok ≡ true
+passed true e x h = refl
+passed false e x h = cc
+
 -- what holds of a refusal where the check fails, and of the rest where it passes, holds of the whole
 pub require-says : {A : Type 0} (P : Outcome A → Type 0) (ok : Bool) (k : ℕ) (rest : Outcome A)
     → (ok ≡ false → P (refused k)) → (ok ≡ true → P rest) → P (require ok k rest)
@@ -45,22 +53,22 @@ pred_le : (j i : ℕ) → j < suc i → j ≤ i
 pred_le j i h = omega arith
 
 -- what holds below i and at i holds below the next
-next : {i : ℕ} (Ok : ℕ → Type 0) → ((j : ℕ) → j < i → Ok j) → Ok i → (j : ℕ) → j < suc i → Ok j
-next {i} Ok below ok j h = ⊎_elim (λ e. subst Ok (sym e) ok) (λ l. below j (omega arith)) (eq-or-lt_of_le (pred_le j i h))
+next : {i : ℕ} (Good : ℕ → Type 0) → ((j : ℕ) → j < i → Good j) → Good i → (j : ℕ) → j < suc i → Good j
+next {i} Good below ok j h = ⊎_elim (λ e. subst Good (sym e) ok) (λ l. below j (omega arith)) (eq-or-lt_of_le (pred_le j i h))
 
 module _ {A : Type 0} (checks : ℕ → Outcome A → Outcome A) where
-  -- the same over m indices, from the lowest: those before k are Ok where k is reached
-  pub all-says : (P : Outcome A → Type 0) (Ok : ℕ → Type 0) (m : ℕ) (rest : Outcome A)
-      → ((k : ℕ) → k < m → ((j : ℕ) → j < k → Ok j) → (later : Outcome A) → (Ok k → P later) → P (checks k later))
-      → (((k : ℕ) → k < m → Ok k) → P rest) → P (require_all checks 0 m rest)
+  -- the same over m indices, from the lowest: those before k are Good where k is reached
+  pub all-says : (P : Outcome A → Type 0) (Good : ℕ → Type 0) (m : ℕ) (rest : Outcome A)
+      → ((k : ℕ) → k < m → ((j : ℕ) → j < k → Good j) → (later : Outcome A) → (Good k → P later) → P (checks k later))
+      → (((k : ℕ) → k < m → Good k) → P rest) → P (require_all checks 0 m rest)
   unfolding require_all
-  all-says P Ok m rest one last = from m 0 (zero-add m) (λ j h. absurd (omega arith))
+  all-says P Good m rest one last = from m 0 (zero-add m) (λ j h. absurd (omega arith))
     where
-      from : (n i : ℕ) → i + n ≡ m → ((j : ℕ) → j < i → Ok j) → P (require_all checks i n rest)
+      from : (n i : ℕ) → i + n ≡ m → ((j : ℕ) → j < i → Good j) → P (require_all checks i n rest)
       from zero i e below = last (λ k h. below k (omega arith))
       from (suc n) i e below =
           one i (omega arith) below (require_all checks (suc i) n rest)
-          (λ ok. from n (suc i) (omega arith) (next Ok below ok))
+          (λ ok. from n (suc i) (omega arith) (next Good below ok))
 
   -- each index passes
   pub all-passed : (n i : ℕ) (rest : Outcome A) → ((k : ℕ) → i ≤ k → k < i + n → (later : Outcome A) → checks k later ≡ later)
@@ -111,3 +119,45 @@ module _ {A : Type 0} (checks : ℕ → Outcome A → Outcome A) where
     where
       none : (i n : ℕ) → n ≤ i → n - i ≡ 0
       none i n h = omega arith
+
+-- a refusal stays, whatever would follow
+told-stays : {A B : Type 0} (k : ℕ) (i : Option ℕ) (rest : A → Outcome B) → and_then (told k i) rest ≡ told k i
+told-stays k None rest = refl
+told-stays k (Some i) rest = refl
+
+pub refused-stays : {A B : Type 0} (e : Refusal) (rest : A → Outcome B) → and_then (refused_by e) rest ≡ refused_by e
+refused-stays e rest = told-stays (number_of e) (index_of e) rest
+
+-- checks that refuse alone as they do before others
+module _ (checks : (A : Type 0) → ℕ → Outcome A → Outcome A)
+    (alone : (A : Type 0) (i : ℕ) (later : Outcome A) → checks A i later ≡ and_then (checks (Unit {0}) i (answered (tt {0}))) (λ y. later)) where
+  pub one_passed : {A : Type 0} (i : ℕ) (x : Unit {0}) (later : Outcome A) → checks (Unit {0}) i (answered (tt {0})) ≡ answered x → checks A i later ≡ later
+  one_passed {A} i x later h = alone A i later ∙ ap (λ s. and_then s (λ y. later)) h
+
+  pub one_stopped : {A : Type 0} (i : ℕ) (e : Refusal) (later : Outcome A) → checks (Unit {0}) i (answered (tt {0})) ≡ refused_by e
+      → checks A i later ≡ refused_by e
+  one_stopped {A} i e later h = alone A i later ∙ ap (λ s. and_then s (λ y. later)) h ∙ refused-stays e (λ y. later)
+
+  and-and : {A : Type 0} (s q : Outcome (Unit {0})) (later : Outcome A)
+      → and_then s (λ y. and_then q (λ y. later)) ≡ and_then (and_then s (λ y. q)) (λ y. later)
+  and-and (answered x) q later = refl
+  and-and (refused k) q later = refl
+  and-and (refused_at k i) q later = refl
+
+  all-then : {A : Type 0} (n i : ℕ) (rest : Outcome A)
+      → require_all (checks A) i n rest ≡ and_then (require_all (checks (Unit {0})) i n (answered (tt {0}))) (λ y. rest)
+  unfolding require_all
+  all-then {A} zero i rest = refl
+  all-then {A} (suc n) i rest =
+      alone A i _
+      ∙ ap (λ r. and_then (checks (Unit {0}) i (answered (tt {0}))) (λ y. r)) (all-then n (suc i) rest)
+      ∙ and-and (checks (Unit {0}) i (answered (tt {0}))) (require_all (checks (Unit {0})) (suc i) n (answered (tt {0}))) rest
+      ∙ ap (λ s. and_then s (λ y. rest)) (sym (alone (Unit {0}) i _))
+
+  pub each_passed : {A : Type 0} (n : ℕ) (x : Unit {0}) (rest : Outcome A) → require_all (checks (Unit {0})) 0 n (answered (tt {0})) ≡ answered x
+      → require_all (checks A) 0 n rest ≡ rest
+  each_passed n x rest h = all-then n 0 rest ∙ ap (λ s. and_then s (λ y. rest)) h
+
+  pub each_stopped : {A : Type 0} (n : ℕ) (e : Refusal) (rest : Outcome A) → require_all (checks (Unit {0})) 0 n (answered (tt {0})) ≡ refused_by e
+      → require_all (checks A) 0 n rest ≡ refused_by e
+  each_stopped n e rest h = all-then n 0 rest ∙ ap (λ s. and_then s (λ y. rest)) h ∙ refused-stays e (λ y. rest)

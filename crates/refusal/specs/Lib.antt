@@ -1,4 +1,4 @@
 pub mod Number
 pub mod Limit
 pub mod Outcome
-pub mod Check
+pub mod Refusal

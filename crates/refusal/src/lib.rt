@@ -1,46 +1,97 @@
-// The refusal numbers and limits of documents 01 and 02, each under one name. specs/ has the same names; `numbers` and `limits` tie the two.
+// Why a call is refused, and the limits of documents 01 and 02. specs/ has the same names; `number`, `index` and `limits` tie the two.
 #![tactic(auto)]
 
 ghost use Rattle.std.specs.Prelude.{◌≡◌};
-ghost use Rattle.refusal.specs.Number as number;
 ghost use Rattle.refusal.specs.Limit as limit;
-ghost use Rattle.refusal.specs.Check.{passed};
+ghost use Rattle.refusal.specs.Refusal.{number_of, index_of, required};
 
-pub const HEADER: u8 = 1;
+use std::error::Error;
+use std::fmt;
 
-pub const VERSION: u8 = 2;
+/// Why a call is refused: a row of the table each. Those of one item, entry or reading carry its index.
+#[derive(Clone, Copy, Debug, PartialEq, Eq)]
+pub enum Refusal {
+    Header,
+    Version,
+    Count,
+    Size,
+    Weight(u32),
+    Argument,
+    Total,
+    Items,
+    Buffer,
+    Order,
+    Number,
+    Turn,
+    Place(u32),
+    Sorted(u32),
+    Value(u32),
+    Vector,
+    Logs,
+    Reading(u32),
+}
 
-pub const COUNT: u8 = 3;
+impl Refusal {
+    /// Its number in the table.
+    pub fn number(self) -> u8
+        ensures { result ≡ number_of self }
+    {
+        match self {
+            Refusal::Header => 1,
+            Refusal::Version => 2,
+            Refusal::Count => 3,
+            Refusal::Size => 4,
+            Refusal::Weight(_) => 5,
+            Refusal::Argument => 6,
+            Refusal::Total => 7,
+            Refusal::Items => 8,
+            Refusal::Buffer => 9,
+            Refusal::Order => 10,
+            Refusal::Number => 11,
+            Refusal::Turn => 12,
+            Refusal::Place(_) => 13,
+            Refusal::Sorted(_) => 14,
+            Refusal::Value(_) => 15,
+            Refusal::Vector => 16,
+            Refusal::Logs => 17,
+            Refusal::Reading(_) => 18,
+        }
+    }
 
-pub const SIZE: u8 = 4;
+    /// The index of the item, entry or reading that is at fault, where it is one.
+    pub fn index(self) -> Option<u32>
+        ensures { result ≡ index_of self }
+    {
+        match self {
+            Refusal::Weight(i)
+            | Refusal::Place(i)
+            | Refusal::Sorted(i)
+            | Refusal::Value(i)
+            | Refusal::Reading(i) => Some(i),
+            _ => None,
+        }
+    }
+}
 
-pub const WEIGHT: u8 = 5;
+/// As the tools print it: the number and, where there is one, the index.
+impl fmt::Display for Refusal {
+    fn fmt<W: fmt::Write>(&self, f: &mut fmt::Formatter<W>) -> fmt::Result {
+        write!(f, "refused {}", self.number())?;
+        if let Some(i) = self.index() {
+            write!(f, " {i}")?;
+        }
+        Ok(())
+    }
+}
 
-pub const ARGUMENT: u8 = 6;
+impl Error for Refusal {}
 
-pub const TOTAL: u8 = 7;
-
-pub const ITEMS: u8 = 8;
-
-pub const BUFFER: u8 = 9;
-
-pub const ORDER: u8 = 10;
-
-pub const NUMBER: u8 = 11;
-
-pub const TURN: u8 = 12;
-
-pub const PLACE: u8 = 13;
-
-pub const SORTED: u8 = 14;
-
-pub const VALUE: u8 = 15;
-
-pub const VECTOR: u8 = 16;
-
-pub const LOGS: u8 = 17;
-
-pub const READING: u8 = 18;
+/// One check, which is refused where it fails.
+pub fn require(ok: bool, refusal: Refusal) -> Result<(), Refusal>
+    ensures { result ≡ required ok refusal }
+{
+    if ok { Ok(()) } else { Err(refusal) }
+}
 
 pub const MAX_ITEMS: u32 = 32768;
 
@@ -56,36 +107,10 @@ pub const MAX_FINE: u32 = 1000000;
 // The least total is its negative.
 pub const MAX_TOTAL: u32 = 1073741823;
 
-// Every refusal number, in the table's order.
-pub fn numbers() -> [u8; 18]
-    ensures { result ≡ number.numbers }
-{
-    [
-        HEADER, VERSION, COUNT, SIZE, WEIGHT, ARGUMENT, TOTAL, ITEMS, BUFFER, ORDER, NUMBER, TURN,
-        PLACE, SORTED, VALUE, VECTOR, LOGS, READING,
-    ]
-}
-
 pub fn limits() -> [u32; 6]
     ensures { result ≡ limit.limits }
 {
     [
         MAX_ITEMS, MAX_ROUNDS, MAX_WEIGHT, MAX_TOTAL, MAX_LOGS, MAX_FINE,
     ]
-}
-
-// The answer of one check, taken by `let else`.
-#[derive(Clone, Copy)]
-pub enum Check {
-    Passed,
-    Failed,
-}
-
-pub fn pass_if(ok: bool) -> Check
-    ensures { passed result ≡ ok }
-{
-    if ok {
-        return Check::Passed;
-    }
-    Check::Failed
 }

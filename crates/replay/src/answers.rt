@@ -1,107 +1,69 @@
 // What a call answers, as a line.
-use super::print::{
-    bad, end, first, line, number, one, refused, refused_at, signed, text, three, two,
-};
 use dispatch::query::Told;
-use prover::{Answer, Step};
+use lines::Numbers;
+use prover::{Reply, Step};
+use records::parts::first;
 use std::io;
 use std::io::Write;
-
-// Whether a call is made: its numbers are in range, and there is what it is made of; else the line that says which is not.
-pub(crate) fn can<W: Write>(out: &mut W, fits: bool, on: bool, none: &[u8]) -> io::Result<bool> {
-    if fits {
-        if on {
-            return Ok(true);
-        }
-        line(out, none)?;
-        return Ok(false);
-    }
-    bad(out)?;
-    Ok(false)
-}
+use verifier::{Opened, Verdict};
 
 // A prover's answer; an opening's values stand beside it.
-pub(crate) fn step<W: Write>(out: &mut W, step: Step) -> io::Result<()> {
-    let answer = step.answer;
-    if let Answer::Opening = answer {
-        return opening(out, step);
+pub(crate) fn step<W: Write>(out: &mut W, step: &Step) -> io::Result<()> {
+    match step.answer {
+        Ok(Reply::Started) => writeln!(out, "started"),
+        Ok(Reply::Opened) => writeln!(out, "opened"),
+        Ok(Reply::Taken) => writeln!(out, "taken"),
+        Ok(Reply::Total(total)) => writeln!(out, "total {total}"),
+        Ok(Reply::FieldTotal(total)) => writeln!(out, "total {total}"),
+        Ok(Reply::Message(even, cross, odd)) => writeln!(out, "message {even} {cross} {odd}"),
+        Ok(Reply::Challenged) => writeln!(out, "challenged"),
+        Ok(Reply::Ends(f, g)) => writeln!(out, "ends {f} {g}"),
+        Ok(Reply::Opening) => opening(out, step.run.start.rounds, &step.values),
+        Ok(Reply::Changed) => writeln!(out, "changed"),
+        Ok(Reply::Written(size)) => writeln!(out, "written {size}"),
+        Err(refusal) => writeln!(out, "{refusal}"),
     }
-    prover_answer(out, answer)
-}
-
-fn prover_answer<W: Write>(out: &mut W, answer: Answer) -> io::Result<()> {
-    match answer {
-        Answer::Started => line(out, b"started"),
-        Answer::Opened => line(out, b"opened"),
-        Answer::Taken => line(out, b"taken"),
-        Answer::Challenged => line(out, b"challenged"),
-        Answer::Changed => line(out, b"changed"),
-        _ => prover_numbers(out, answer),
-    }
-}
-
-fn prover_numbers<W: Write>(out: &mut W, answer: Answer) -> io::Result<()> {
-    match answer {
-        Answer::Total(total) => total_line(out, total),
-        Answer::FieldTotal(total) => one(out, b"total", total),
-        Answer::Message(even, cross, odd) => three(out, b"message", even, cross, odd),
-        Answer::Ends(f, g) => two(out, b"ends", f, g),
-        Answer::Written(size) => written(out, size),
-        Answer::Refused(k) => refused(out, k),
-        Answer::RefusedAt(k, i) => refused_at(out, k, i),
-        // `step` prints an opening, `prover_answer` the others.
-        _ => Ok(()),
-    }
-}
-
-fn total_line<W: Write>(out: &mut W, total: i64) -> io::Result<()> {
-    text(out, b"total")?;
-    signed(out, total)?;
-    end(out)
-}
-
-fn written<W: Write>(out: &mut W, size: usize) -> io::Result<()> {
-    text(out, b"written")?;
-    number(out, size as u64)?;
-    end(out)
 }
 
 // The first 6n of the values.
-fn opening<W: Write>(out: &mut W, step: Step) -> io::Result<()> {
-    let values = step.values;
-    opening_values(out, &values, values_of(step.run.start.rounds))
+fn opening<W: Write>(out: &mut W, rounds: u32, values: &[u32; 90]) -> io::Result<()> {
+    let count = (rounds as usize).saturating_mul(6);
+    writeln!(out, "opening{}", Numbers(first(count, values)))
 }
 
-fn opening_values<W: Write>(out: &mut W, values: &[u32; 90], n: usize) -> io::Result<()> {
-    first(out, b"opening", n, &values[..])
-}
-
-fn values_of(rounds: u32) -> usize {
-    if 15 < rounds {
-        return 90;
-    }
-    6 * (rounds as usize)
-}
-
+// A verifier's answer.
 pub(crate) fn told<W: Write>(out: &mut W, told: Told) -> io::Result<()> {
     match told {
-        Told::Started => line(out, b"started"),
-        Told::Taken => line(out, b"taken"),
-        Told::Closed => line(out, b"closed"),
-        Told::Passed => line(out, b"passed"),
-        Told::Yes | Told::Opens => line(out, b"yes"),
-        _ => told_numbers(out, told),
+        Told::Answer(Ok(reply)) => replied(out, reply),
+        Told::Answer(Err(refusal)) => writeln!(out, "{refusal}"),
+        Told::Verdict(verdict) => judged(out, verdict),
+        Told::Opened(verdict) => opened(out, verdict),
     }
 }
 
-fn told_numbers<W: Write>(out: &mut W, told: Told) -> io::Result<()> {
-    match told {
-        Told::Failed(round) | Told::No(round) => one(out, b"no", round),
-        Told::FailsF(j) => one(out, b"no f", j),
-        Told::FailsG(j) => one(out, b"no g", j),
-        Told::Refused(k) => refused(out, k),
-        Told::RefusedAt(k, i) => refused_at(out, k, i),
-        // `told` prints the others.
-        _ => Ok(()),
+fn replied<W: Write>(out: &mut W, reply: verifier::Reply) -> io::Result<()> {
+    match reply {
+        verifier::Reply::Started => writeln!(out, "started"),
+        verifier::Reply::Taken => writeln!(out, "taken"),
+        verifier::Reply::Closed => writeln!(out, "closed"),
+        verifier::Reply::Passed => writeln!(out, "passed"),
+        verifier::Reply::No(round) => writeln!(out, "no {round}"),
+    }
+}
+
+fn judged<W: Write>(out: &mut W, verdict: Verdict) -> io::Result<()> {
+    match verdict {
+        Verdict::Yes => writeln!(out, "yes"),
+        Verdict::No(round) => writeln!(out, "no {round}"),
+        Verdict::Refused(number) => writeln!(out, "refused {number}"),
+    }
+}
+
+fn opened<W: Write>(out: &mut W, verdict: Opened) -> io::Result<()> {
+    match verdict {
+        Opened::Yes => writeln!(out, "yes"),
+        Opened::NoF(j) => writeln!(out, "no f {j}"),
+        Opened::NoG(j) => writeln!(out, "no g {j}"),
+        Opened::Refused(number) => writeln!(out, "refused {number}"),
     }
 }

@@ -1,77 +1,56 @@
-// The dump of stacks and buffers: op 5.
-use super::print;
-use super::state::Prover;
-use pass::Pass;
+// Dumps of stacks and buffers, op 5, and of the proof file, op 8.
+use super::fault::Fault;
+use super::{Held, Prover};
+use lines::{Hex, Numbers};
 use phase::{Kind, Next};
-use prover::Run;
+use records::parts::first;
+use records::proof::Proof;
 use std::io;
 use std::io::Write;
 
-pub(crate) fn call<W: Write>(
-    out: &mut W,
-    p: Prover,
-    a: u32,
-    f: &[u32; 4096],
-    g: &[u32; 4096],
-) -> io::Result<Prover> {
+pub(crate) fn call<W: Write>(out: &mut W, held: &Held, a: u32) -> Result<(), Fault> {
     if a > 4096 {
-        print::bad(out)?;
-        return Ok(p);
+        return Err(Fault::from(records::Fault::Bad));
     }
-    if p.on {
-        stacks(out, p.run, p.pass)?;
+    if let Some(prover) = &held.prover {
+        stacks(out, prover)?;
     }
-    print::buffers(out, a as usize, f, g)?;
-    Ok(p)
+    let n = a as usize;
+    writeln!(out, "f-buffer{}", Numbers(first(n, &held.f)))?;
+    writeln!(out, "g-buffer{}", Numbers(first(n, &held.g)))?;
+    Ok(())
 }
 
 // Printed while a small pass for a round, the ends or the openings is open.
-fn stacks<W: Write>(out: &mut W, run: Run, pass: Pass) -> io::Result<()> {
-    let kind = pass.kind;
-    let next = run.next;
-    if has_stacks(kind, next) {
-        let flevels = pass.flevels;
-        let fvalues = pass.fvalues;
-        stack(out, b"f-stack", flevels, fvalues, pass.fcount)?;
-        let glevels = pass.glevels;
-        let gvalues = pass.gvalues;
-        stack(out, b"g-stack", glevels, gvalues, pass.gcount)?;
+fn stacks<W: Write>(out: &mut W, prover: &Prover) -> io::Result<()> {
+    let pass = &prover.pass;
+    if has_stacks(pass.kind, prover.run.next) {
+        stack(out, "f-stack", &pass.flevels, &pass.fvalues, pass.fcount)?;
+        stack(out, "g-stack", &pass.glevels, &pass.gvalues, pass.gcount)?;
     }
     Ok(())
 }
 
 fn has_stacks(kind: Kind, next: Next) -> bool {
-    let Kind::Asked = kind else {
-        return false;
-    };
-    match next {
-        Next::Total => false,
-        Next::Message => true,
-        Next::Challenge => false,
-        Next::Ends => true,
-        Next::Openings => true,
-    }
+    matches!(kind, Kind::Asked) && matches!(next, Next::Message | Next::Ends | Next::Openings)
 }
 
 // Bottom first.
 fn stack<W: Write>(
     out: &mut W,
-    label: &[u8],
-    levels: [u32; 16],
-    values: [u32; 16],
+    label: &str,
+    levels: &[u32; 16],
+    values: &[u32; 16],
     count: usize,
 ) -> io::Result<()> {
-    print::text(out, label)?;
-    print::number(out, count as u64)?;
-    for i in 0..count {
-        if i >= 16 {
-            break;
-        }
-        entry(out, levels[i], values[i])?;
+    write!(out, "{label} {count}")?;
+    for (level, value) in levels.iter().zip(values).take(count) {
+        write!(out, " {level}:{value}")?;
     }
-    print::end(out)
+    writeln!(out)
 }
 
-fn entry<W: Write>(out: &mut W, level: u32, value: u32) -> io::Result<()> {
-    write!(out, " {level}:{value}")
+pub(crate) fn proof<W: Write>(out: &mut W, proof: &Proof) -> io::Result<()> {
+    let bytes = first(proof.size, &proof.bytes);
+    writeln!(out, "proof {} {}", bytes.len(), Hex(bytes))
 }

@@ -4,46 +4,87 @@
 
 mod answers;
 mod batches;
-mod blocks;
 mod dump;
-mod ops;
-mod print;
-mod proof;
+mod fault;
 mod proving;
 mod record;
-mod state;
 mod verifying;
 
-use ops::kind_of;
-use record::Read;
+use fault::Fault;
+use pass::Pass;
+use prover::Run;
+use records::Record;
+use records::lists::Lists;
+use records::proof::Proof;
+use records::slots::Slots;
 use std::io;
 use std::io::Write;
+use verifier::Verifier;
 
 fn main(rt: HostRuntime) -> io::Result<()> {
-    let mut f = [0u32; 4096];
-    let mut g = [0u32; 4096];
-    replay(&mut rt.stdin(), &mut rt.stdout(), &mut f, &mut g)
-}
-
-// A proved loop has to end, and nothing says that the input does: the count is one that no run uses up. Each op is one of the three's,
-// and the other two leave what they have.
-fn replay<R: io::Read, W: Write>(
-    input: &mut R,
-    out: &mut W,
-    f: &mut [u32; 4096],
-    g: &mut [u32; 4096],
-) -> io::Result<()> {
-    let mut h = state::none();
-    let mut p = state::no_prover();
-    let mut j = state::no_judge();
+    let mut held = Held {
+        f: [0; 4096],
+        g: [0; 4096],
+        lists: Lists::new(),
+        slots: Slots::new(),
+        proof: Proof::new(),
+        prover: None,
+        verifier: None,
+    };
+    let mut input = rt.stdin();
+    let mut out = rt.stdout();
+    // A proved loop has to end, and nothing says that the input does: the count is one that no run uses up.
     for _ in 0..u64::MAX {
-        let Read::Record(r) = record::next(input)? else {
+        let Some(r) = record::next(&mut input)? else {
             return Ok(());
         };
-        let kind = kind_of(out, r.op)?;
-        h = state::call(out, h, kind, r, f, g)?;
-        p = proving::call(out, p, h, kind, r, f, g)?;
-        j = verifying::call(out, j, h, p.proof, kind, r)?;
+        match held.call(&mut out, r) {
+            Ok(()) => {}
+            Err(Fault::Io(error)) => return Err(error),
+            Err(fault) => writeln!(out, "{fault}")?,
+        }
     }
     Ok(())
+}
+
+// The two buffers, the lists, the slots and the proof file; at most one run with its pass, and at most one verifier.
+#[derive(Drop)]
+pub struct Held {
+    pub f: [u32; 4096],
+    pub g: [u32; 4096],
+    pub lists: Lists,
+    pub slots: Slots,
+    pub proof: Proof,
+    pub prover: Option<Prover>,
+    pub verifier: Option<Verifier>,
+}
+
+#[derive(Clone, Copy)]
+pub struct Prover {
+    pub run: Run,
+    pub pass: Pass,
+}
+
+impl Held {
+    // Makes the call of a record, and prints what it answers.
+    fn call<W: Write>(&mut self, out: &mut W, r: Record) -> Result<(), Fault> {
+        match r.op {
+            1..=4 | 41 => self.lists.keep(r, &mut self.f, &mut self.g)?,
+            5 => dump::call(out, self, r.a)?,
+            6..=7 => self.proof.change(r)?,
+            8 => dump::proof(out, &self.proof)?,
+            10..=12 | 62 => proving::start(out, self, r)?,
+            13..=24 => proving::call(out, self, r)?,
+            25 => proving::claim(out, self)?,
+            26..=27 => proving::block(out, self, r)?,
+            30..=32 => verifying::start(out, self, r)?,
+            33..=40 | 42 => verifying::call(out, self, r)?,
+            43..=44 => verifying::block(out, self, r)?,
+            60..=61 => self.slots.fill(r)?,
+            63 => batches::item(out, &self.slots, r)?,
+            64 => batches::value(out, &self.slots, r)?,
+            _ => return Err(Fault::from(records::Fault::Bad)),
+        }
+        Ok(())
+    }
 }

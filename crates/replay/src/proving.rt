@@ -1,133 +1,91 @@
 // The prover's calls, each made as data.
-use super::ops::Kind;
-use super::state::{Held, Prover};
-use super::{answers, batches, blocks, dump, print, proof};
-use calls::Call;
-use dispatch::named::{Named, call_of};
+use super::fault::Fault;
+use super::{Held, Prover, answers, batches};
+use dispatch::blocks::{fits, to_run_within};
+use dispatch::named::call_of;
 use dispatch::within::make_within;
-use prover::{Answer, Run, Step};
+use prover::{Reply, Run, Step};
 use records::Record;
-use records::lists::{Lists, numbers};
-use records::proof::Proof;
-use records::slots::Slots;
 use std::io;
 use std::io::Write;
 
-// Ops 5 to 8, 10 to 27 and 62.
-pub(crate) fn call<W: Write>(
-    out: &mut W,
-    p: Prover,
-    h: Held,
-    kind: Kind,
-    r: Record,
-    f: &mut [u32; 4096],
-    g: &mut [u32; 4096],
-) -> io::Result<Prover> {
-    match kind {
-        Kind::Dump => return dump::call(out, p, r.a, f, g),
-        Kind::File => return filed(out, p, r),
-        Kind::Start => return start(out, p, h.lists, h.slots, r),
-        Kind::Call => return called(out, p, h.lists, r, f, g),
-        Kind::Claim => claim(out, p)?,
-        Kind::Block => return blocks::to_run(out, p, h.lists, h.slots, r, f, g),
-        _ => {}
-    }
-    Ok(p)
-}
-
-fn filed<W: Write>(out: &mut W, mut p: Prover, r: Record) -> io::Result<Prover> {
-    p.proof = proof::call(out, p.proof, r)?;
-    Ok(p)
-}
-
-fn start<W: Write>(out: &mut W, p: Prover, l: Lists, s: Slots, r: Record) -> io::Result<Prover> {
-    let scratch = l.scratch;
-    started(out, p, start_of(r, s, numbers(l.held, &scratch)))
-}
-
-// With the scratch list: twists, or a batch's challenges.
-fn start_of(r: Record, s: Slots, values: &[u32]) -> Step {
-    let op = r.op;
-    match op {
+// With the scratch list: twists, or a batch's challenges. A refused start leaves the run that there is.
+pub(crate) fn start<W: Write>(out: &mut W, held: &mut Held, r: Record) -> io::Result<()> {
+    let values = held.lists.numbers();
+    let step = match r.op {
         10 => Run::start_plain(r.a, r.b),
         11 => Run::start_twisted(r.a, values),
         12 => Run::start_rule(r.a, r.b),
-        _ => batches::start(s, r, values),
-    }
-}
-
-// A refused start leaves the run that there is.
-fn started<W: Write>(out: &mut W, p: Prover, step: Step) -> io::Result<Prover> {
-    let after = took(out, step, p.proof)?;
-    let answer = step.answer;
-    let Answer::Started = answer else {
-        return Ok(p);
+        _ => batches::start(&held.slots, r, values),
     };
-    Ok(after)
-}
-
-fn called<W: Write>(
-    out: &mut W,
-    p: Prover,
-    l: Lists,
-    r: Record,
-    f: &mut [u32; 4096],
-    g: &mut [u32; 4096],
-) -> io::Result<Prover> {
-    let Named::Call(call) = call_of(r) else {
-        print::bad(out)?;
-        return Ok(p);
-    };
-    if p.on {
-        return after(out, p, call, l, r.a, f, g);
+    if let Ok(Reply::Started) = step.answer {
+        held.prover = Some(left(&step));
     }
-    print::line(out, b"no run")?;
-    Ok(p)
+    answers::step(out, &step)
 }
 
-// The run's claim.
-fn claim<W: Write>(out: &mut W, p: Prover) -> io::Result<()> {
-    if p.on {
-        return print::one(out, b"claim", p.run.claim);
+fn left(step: &Step) -> Prover {
+    Prover {
+        run: step.run,
+        pass: step.pass,
     }
-    print::line(out, b"no run")
-}
-
-fn after<W: Write>(
-    out: &mut W,
-    p: Prover,
-    call: Call,
-    l: Lists,
-    a: u32,
-    f: &mut [u32; 4096],
-    g: &mut [u32; 4096],
-) -> io::Result<Prover> {
-    let mut bytes = p.proof.bytes;
-    let step = make_within(
-        p.run, p.pass, call, l.flent, l.glent, a as usize, f, g, &mut bytes,
-    );
-    let answer = step.answer;
-    let size = size_after(p.proof.size, answer);
-    took(out, step, Proof { bytes, size })
-}
-
-// Prints what a call answers.
-pub(crate) fn took<W: Write>(out: &mut W, step: Step, proof: Proof) -> io::Result<Prover> {
-    answers::step(out, step)?;
-    let run = step.run;
-    let pass = step.pass;
-    Ok(Prover {
-        on: true,
-        proof,
-        run,
-        pass,
-    })
 }
 
 // A written proof sets the file's size.
-fn size_after(size: usize, answer: Answer) -> usize {
-    let Answer::Written(written) = answer else {
-        return size;
+pub(crate) fn call<W: Write>(out: &mut W, held: &mut Held, r: Record) -> Result<(), Fault> {
+    let call = call_of(r).ok_or(records::Fault::Bad)?;
+    let Some(Prover { run, pass }) = held.prover else {
+        return Err(Fault::NoRun);
     };
-    written
+    let step = make_within(
+        run,
+        pass,
+        call,
+        held.lists.flent,
+        held.lists.glent,
+        r.a as usize,
+        &mut held.f,
+        &mut held.g,
+        &mut held.proof.bytes,
+    );
+    if let Ok(Reply::Written(size)) = step.answer {
+        held.proof.size = size;
+    }
+    took(out, held, &step)
+}
+
+// The run's claim.
+pub(crate) fn claim<W: Write>(out: &mut W, held: &Held) -> Result<(), Fault> {
+    let Some(prover) = &held.prover else {
+        return Err(Fault::NoRun);
+    };
+    writeln!(out, "claim {}", prover.run.claim)?;
+    Ok(())
+}
+
+// A block of items.
+pub(crate) fn block<W: Write>(out: &mut W, held: &mut Held, r: Record) -> Result<(), Fault> {
+    if !fits(&held.lists, r) {
+        return Err(Fault::from(records::Fault::Bad));
+    }
+    let Some(Prover { run, pass }) = held.prover else {
+        return Err(Fault::NoRun);
+    };
+    let step = to_run_within(
+        run,
+        pass,
+        &held.lists,
+        &held.slots,
+        r,
+        &mut held.f,
+        &mut held.g,
+    );
+    took(out, held, &step)
+}
+
+// Keeps the run that a call handed back, and prints what it answers.
+fn took<W: Write>(out: &mut W, held: &mut Held, step: &Step) -> Result<(), Fault> {
+    held.prover = Some(left(step));
+    answers::step(out, step)?;
+    Ok(())
 }

@@ -2,73 +2,88 @@
 // to the calls as a host would lend them.
 #![tactic(auto)]
 
+mod fault;
 mod files;
-mod print;
 mod record;
 mod rules;
-mod state;
 
-use record::Read;
+use arrayvec::ArrayVec;
+use fault::Fault;
+use lines::Numbers;
 use records::Record;
-use state::State;
+use records::lists::Lists;
+use records::parts::first;
 use std::io;
 use std::io::Write;
 
 fn main(rt: HostRuntime) -> io::Result<()> {
-    let mut f = [0u32; 4096];
-    let mut g = [0u32; 4096];
-    replay(&mut rt.stdin(), &mut rt.stdout(), &mut f, &mut g)
-}
-
-// A proved loop has to end, and nothing says that the input does: the count is one that no run uses up.
-fn replay<R: io::Read, W: Write>(
-    input: &mut R,
-    out: &mut W,
-    f: &mut [u32; 4096],
-    g: &mut [u32; 4096],
-) -> io::Result<()> {
-    let mut s = state::fresh();
+    let mut held = Held {
+        f: [0; 4096],
+        g: [0; 4096],
+        lists: Lists::new(),
+        file: ArrayVec::new(),
+    };
+    let mut input = rt.stdin();
+    let mut out = rt.stdout();
+    // A proved loop has to end, and nothing says that the input does: the count is one that no run uses up.
     for _ in 0..u64::MAX {
-        let Read::Record(r) = record::next(input)? else {
+        let Some(r) = record::next(&mut input)? else {
             return Ok(());
         };
-        s = call(out, s, r, f, g)?;
+        match held.call(&mut out, r) {
+            Ok(()) => {}
+            Err(Fault::Io(error)) => return Err(error),
+            Err(fault) => writeln!(out, "{fault}")?,
+        }
     }
     Ok(())
 }
 
-fn call<W: Write>(
-    out: &mut W,
-    s: State,
-    r: Record,
-    f: &mut [u32; 4096],
-    g: &mut [u32; 4096],
-) -> io::Result<State> {
-    let op = r.op;
-    match op {
-        1..=4 => state::keep(out, s, r, f, g),
-        5 => dump(out, s, r.a, f, g),
-        50..=57 => files::call(out, s, r),
-        58..=59 => rules::call(out, s, r, f),
-        _ => bad(out, s),
+// The two buffers, the lists and the file.
+#[derive(Drop)]
+pub struct Held {
+    pub f: [u32; 4096],
+    pub g: [u32; 4096],
+    pub lists: Lists,
+    pub file: ArrayVec<u8, 1024>,
+}
+
+impl Held {
+    // Makes the call of a record, and prints what it answers.
+    fn call<W: Write>(&mut self, out: &mut W, r: Record) -> Result<(), Fault> {
+        match r.op {
+            1..=4 => self.lists.keep(r, &mut self.f, &mut self.g)?,
+            5 => self.dump(out, r.a)?,
+            50 => self.file.clear(),
+            51 => self.append(r.a)?,
+            52 => files::log(out, self.file.as_slice())?,
+            53 => files::log_item(out, self.file.as_slice(), r.a)?,
+            54 => files::proof(out, self.file.as_slice())?,
+            55 => files::proof_round(out, self.file.as_slice(), r.a)?,
+            56 => files::matrix(out, self.file.as_slice())?,
+            57 => files::matrix_entry(out, self.file.as_slice(), r.a)?,
+            58 => rules::product(out, self.file.as_slice(), &self.lists, &mut self.f)?,
+            59 => rules::claim(out, &self.lists, r.a, r.b)?,
+            _ => return Err(Fault::from(records::Fault::Bad)),
+        }
+        Ok(())
     }
 }
 
-fn dump<W: Write>(
-    out: &mut W,
-    s: State,
-    a: u32,
-    f: &[u32; 4096],
-    g: &[u32; 4096],
-) -> io::Result<State> {
-    if a > 4096 {
-        return bad(out, s);
+impl Held {
+    fn dump<W: Write>(&self, out: &mut W, a: u32) -> Result<(), Fault> {
+        if a > 4096 {
+            return Err(Fault::from(records::Fault::Bad));
+        }
+        let n = a as usize;
+        writeln!(out, "f-buffer{}", Numbers(first(n, &self.f)))?;
+        writeln!(out, "g-buffer{}", Numbers(first(n, &self.g)))?;
+        Ok(())
     }
-    print::buffers(out, a as usize, f, g)?;
-    Ok(s)
-}
 
-fn bad<W: Write>(out: &mut W, s: State) -> io::Result<State> {
-    print::bad(out)?;
-    Ok(s)
+    fn append(&mut self, byte: u32) -> Result<(), Fault> {
+        let byte = u8::try_from(byte).map_err(|_| records::Fault::Bad)?;
+        self.file.try_push(byte).map_err(|_| records::Fault::Full)?;
+        Ok(())
+    }
 }

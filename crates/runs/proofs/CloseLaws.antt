@@ -5,6 +5,7 @@ use Prim.Native.Nat.{ℕ, suc, ◌^◌, ◌<◌}
 use native.Mathlib.Omega.{arith}
 use borrow.Author.Tests.{ltb-true}
 use lib.ListN.{get_or}
+use Rattle.std.specs.Prelude.{Ok}
 use Rattle.refusal.specs.Outcome.{answered}
 use Rattle.algebra.specs.Mod.{residue}
 use Rattle.algebra.proofs.Congruence.{base-of, residue-lt, residue-small}
@@ -23,7 +24,7 @@ use Rattle.phase.specs.Level.{level_at}
 use Rattle.phase.specs.Order.{round_fits}
 use Rattle.prover.specs.declared.Run.{Run}
 use Rattle.pass.specs.declared.Pass.{Pass}
-use Rattle.prover.specs.declared.Answer.TheVariants as answer
+use Rattle.prover.specs.declared.Reply.TheVariants as answer
 use Rattle.pass.specs.Pass.{kernel_of}
 use Rattle.prover.specs.Records.{answered_step}
 use Rattle.prover.specs.Level.{level_of}
@@ -94,10 +95,10 @@ module _ (p : ℕ) (c : ℕ → ℕ) (f g : Vector) (r : Run) (s : Pass) (ok : r
   -- "Opening at point b"
   pub closed-opening : r.next ≡ Openings → s.kind ≡ Asked → (b : ℕ) → s.points ≡ points_of p b
       → finished p r s Openings
-      ≡ answered (record { run = r; pass = shut_pass; answer = answer.Opening; values = in_ninety r.start.rounds (opening p r.start.rounds c f g b) })
+      ≡ answered (record { run = r; pass = shut_pass; answer = Ok answer.Opening; values = in_ninety r.start.rounds (opening p r.start.rounds c f g b) })
   closed-opening next asked b points =
       let level : level_of r s.kind ≡ r.start.rounds = ap₂ (λ a k. level_at r.start.rounds r.round a k) next asked in
-      ap (λ vs. answered (record { run = r; pass = shut_pass; answer = answer.Opening; values = vs }))
+      ap (λ vs. answered (record { run = r; pass = shut_pass; answer = Ok answer.Opening; values = vs }))
       (taken-opened p r.start.rounds c s.points f g (kernel_of s) b (ap (λ a. a.on) points) (ap (λ a. a.point) points) (ap (λ a. a.minus) points)
       (ap (λ a. a.square) points) (subst At level h) (run-facts p r ok).few)
 

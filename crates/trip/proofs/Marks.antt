@@ -1,4 +1,5 @@
 -- Document 02, (d): where the log has the mark the program lends 0 for f.
+use Rattle.std.specs.Prelude.{Some}
 use mathlib.Core.Path.{◌≡◌, refl, ap, ◌∙◌}
 use mathlib.Core.Bool.{Bool, true, false}
 use mathlib.Core.List.{List}
@@ -12,11 +13,10 @@ use Rattle.item.specs.declared.Start.{Start}
 use Rattle.item.specs.Mark.{is_mark}
 use Rattle.item.specs.Item.{is_light}
 use Rattle.item.proofs.Marks.{marked-parts}
-use Rattle.wire.specs.Found.{found}
 use Rattle.wire.specs.Log.{log_item}
 use Rattle.trip.specs.Items.{or_zero, pair_of, pair_at, f_at}
 
-pub mark_lent : (s : Start) (log : List ℕ) (i : ℕ) (x : total.Item) → log_item log i ≡ found x → is_mark s.version x.reading ≡ true → f_at s log i ≡ 0
+pub mark_lent : (s : Start) (log : List ℕ) (i : ℕ) (x : total.Item) → log_item log i ≡ Some x → is_mark s.version x.reading ≡ true → f_at s log i ≡ 0
 unfolding pair_at
 mark_lent s log i x here m =
     ap (λ o. (pair_of modulus s i o).f) here

@@ -1,14 +1,15 @@
 -- The program's files: document 01, "One trip, whole".
-use Rattle.std.specs.Prelude.{ℕ, ◌+◌, ◌*◌, List, length, eqb}
+use Rattle.std.specs.Prelude.{ℕ, ◌+◌, ◌*◌, List, length, eqb, Result, Ok, Err}
 use Rattle.refusal.specs.Number as number
+use Rattle.refusal.specs.declared.Refusal.{Refusal}
+use Rattle.refusal.specs.Refusal.{number_of}
 use Rattle.refusal.specs.Outcome.{Outcome, answered, refused, refused_at, require}
 use Rattle.field.specs.Modulus.{modulus}
 use Rattle.vector.specs.Rounds.{rounds_of}
 use Rattle.vector.specs.Slice.{every, is_nonzero}
 use Rattle.wire.specs.Number.{num_at}
-use Rattle.wire.specs.Log.{Head, head_with, read_log_within}
-use Rattle.trip.specs.declared.input.Input.{Input}
-use Rattle.trip.specs.declared.input.Input.TheVariants.{Items, Refused}
+use Rattle.wire.specs.Log.{read_log_within}
+use Rattle.wire.specs.declared.log.Head.{Head}
 
 -- "program limit 4,096 items"
 abbrev pub limit : ℕ
@@ -35,6 +36,6 @@ read_trip (answered head) numbers = read_numbers head numbers
 read_trip (refused k) numbers = refused k
 read_trip (refused_at k i) numbers = refused k
 
-abbrev pub input_of : Input → Outcome Head
-input_of (Items items version) = answered (head_with items version)
-input_of (Refused k) = refused k
+abbrev pub input_of : Result Head Refusal → Outcome Head
+input_of (Ok head) = answered head
+input_of (Err refusal) = refused (number_of refusal)

@@ -2,78 +2,53 @@
 #![tactic(auto)]
 
 mod arguments;
+mod failure;
 mod input;
 mod modes;
-mod output;
 mod proving;
+mod report;
 mod verifying;
 
-use input::Input;
-use prover::{Answer, Run, Step};
+use failure::Failure;
+use proving::Session;
+use report::Report;
 use std::fs::Files;
 use std::io;
 use std::io::Write;
-use verifier::Verdict;
 
 fn main(rt: HostRuntime) -> io::Result<()> {
-    let plan = arguments::read(&rt);
-    if plan.known {
-        let modes = plan.letters;
-        trip(&rt, &mut rt.stdout(), &modes)
-    } else {
-        output::usage(&mut rt.stderr())
+    match arguments::read(&rt) {
+        Ok(letters) => trip(&rt, &mut rt.stdout(), &letters),
+        Err(usage) => writeln!(rt.stderr(), "{usage}"),
     }
 }
 
 // Each buffer is longer than the longest good file, so that no file is cut to a good one.
-fn trip<R: Files, W: Write>(rt: &R, out: &mut W, modes: &[u8]) -> io::Result<()> {
+fn trip<R: Files, W: Write>(rt: &R, out: &mut W, letters: &[u8]) -> io::Result<()> {
     let mut log = [0u8; 24584];
     let log_size = input::read_file(rt, "trip.rvl", &mut log)?;
     let mut numbers = [0u8; 64];
     let numbers_size = input::read_file(rt, "trip.rvc", &mut numbers)?;
-    judge(out, &log[..log_size], &numbers[..numbers_size], modes)
-}
-
-fn judge<W: Write>(out: &mut W, log: &[u8], numbers: &[u8], modes: &[u8]) -> io::Result<()> {
-    match input::check(log, numbers) {
-        Input::Items(items, version) => prove(out, log, numbers, items, version, modes),
-        Input::Refused(number) => output::refused(out, number),
+    match judge(&log[..log_size], &numbers[..numbers_size], letters) {
+        Ok(report) => write!(out, "{report}"),
+        Err(failure) => writeln!(out, "{failure}"),
     }
 }
 
-// The last call of a run is answered only where all before it were; nothing is printed before.
-fn prove<W: Write>(
-    out: &mut W,
-    log: &[u8],
-    numbers: &[u8],
-    items: u32,
-    version: u32,
-    modes: &[u8],
-) -> io::Result<()> {
-    let mut f = [0u32; 4096];
-    let mut g = [0u32; 4096];
-    let step = proving::prove(
-        Run::start_plain(items, version),
+// The report is there only once the last call of the run is answered: a refused input prints its number alone.
+fn judge(log: &[u8], numbers: &[u8], letters: &[u8]) -> Result<Report, Failure> {
+    let head = input::check(log, numbers)?;
+    let mut session = Session {
         log,
         numbers,
-        modes,
-        &mut f,
-        &mut g,
-    );
-    let answer = step.answer;
-    match answer {
-        Answer::Refused(number) => output::refused(out, number),
-        Answer::Ends(_, _) => report(out, step, log, numbers),
-        Answer::Opening => report(out, step, log, numbers),
-        _ => output::rejected(out),
-    }
-}
-
-fn report<W: Write>(out: &mut W, step: Step, log: &[u8], numbers: &[u8]) -> io::Result<()> {
-    output::report(out, step)?;
-    match verifying::verify(step.run, log, numbers) {
-        Verdict::Yes => output::accepted(out),
-        Verdict::No(_) => output::rejected(out),
-        Verdict::Refused(_) => output::rejected(out),
-    }
+        letters,
+        f: [0; 4096],
+        g: [0; 4096],
+    };
+    let step = session.prove(head)?;
+    Ok(Report {
+        run: step.run,
+        values: step.values,
+        verdict: verifying::verify(&step.run, log, numbers),
+    })
 }

@@ -2,18 +2,18 @@
 ghost use Rattle.std.specs.Prelude.{◌≡◌};
 ghost use Rattle.trip.specs.Modes.{is_letter, is_word, letter_at, full_at, letter_from, letters_of};
 
+// By `all` on the iterator the goals of `every` in specs/Modes stay open.
+#[tactic(auto, using(vector::proofs::Every::every_true), unfolding(crate::specs::Modes::is_word))]
 pub(crate) fn is_word(word: &[u8]) -> bool
     ensures { result ≡ is_word word.now }
 {
-    if word.len() == 0 {
+    if word.is_empty() {
         return false;
     }
-    let mut i: usize = 0;
-    while i < word.len() {
-        if is_letter(word[i]) {} else {
+    for &letter in word {
+        if !is_letter(letter) {
             return false;
         }
-        i += 1;
     }
     true
 }
@@ -21,10 +21,7 @@ pub(crate) fn is_word(word: &[u8]) -> bool
 fn is_letter(letter: u8) -> bool
     ensures { result ≡ is_letter letter }
 {
-    if letter == b's' {
-        return true;
-    }
-    letter == b'f'
+    letter == b's' || letter == b'f'
 }
 
 // The letters of the steps, of which a run has seventeen at most: f from a step on, before it by the word.
@@ -32,10 +29,8 @@ pub(crate) fn letters_of(word: &[u8], from: u64) -> [u8; 17]
     ensures { result ≡ letters_of word.now from }
 {
     let mut letters = [0u8; 17];
-    let mut i: usize = 0;
-    while i < 17 {
+    for i in 0..17 {
         letters[i] = letter_from(word, from, i);
-        i += 1;
     }
     letters
 }
@@ -50,6 +45,7 @@ fn letter_from(word: &[u8], from: u64, step: usize) -> u8
 }
 
 // A step past the word has its last letter; none where there is no word.
+#[tactic(auto, unfolding(crate::specs::Modes::letter_at))]
 fn letter_at(word: &[u8], step: usize) -> u8
     ensures { result ≡ letter_at word.now step }
 {

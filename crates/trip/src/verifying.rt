@@ -1,67 +1,31 @@
 // A whole run of the verifier, which is given the log, the challenges, and what the prover's run holds.
-ghost use Rattle.std.specs.Prelude.{◌≡◌, ◌<◌, ◌≤◌, length};
-
 use super::input;
 use prover::Run;
 use verifier::{Verdict, Verifier};
 
-pub(crate) fn verify(run: Run, log: &[u8], numbers: &[u8]) -> Verdict {
-    let v = start(
-        run.start.items,
-        run.start.version,
-        run.start.rounds,
-        numbers,
-    );
-    let taken = v.items(input::items_of(log)).verifier;
-    let closed = taken.close(run.total).verifier;
-    hear(closed, run).verdict()
-}
+// A run has at most so many.
+pub(crate) const MOST_ROUNDS: u32 = 15;
 
-fn start(items: u32, version: u32, rounds: u32, numbers: &[u8]) -> Verifier {
-    let challenges = challenges(numbers);
-    let n = count(rounds);
-    Verifier::start_plain(items, version, &challenges[..n]).verifier
-}
-
-// A run has at most fifteen rounds.
-pub(crate) fn count(rounds: u32) -> usize
-    ensures { result ≤ 15 }
-{
-    if 15 < rounds {
-        return 15;
-    }
-    rounds as usize
-}
-
-fn challenges(numbers: &[u8]) -> [u32; 15]
-    ensures { 15 ≡ length result }
-{
-    let mut out = [0u32; 15];
-    let mut k: u32 = 0;
-    while k < 15 {
-        out[k as usize] = input::number(numbers, k);
-        k += 1;
-    }
-    out
-}
-
-// The run's messages in order.
-fn hear(closed: Verifier, run: Run) -> Verifier {
-    let mut v = closed;
-    let messages = run.messages;
-    let n = count(run.start.rounds);
-    let mut i: usize = 0;
-    while i < n {
-        v = hear_message(v, messages, i);
-        i += 1;
-    }
-    v
-}
-
-fn hear_message(v: Verifier, messages: [u32; 45], i: usize) -> Verifier
-    requires { i < 15 }
-{
-    let at = 3 * i;
-    v.message(messages[at], messages[at + 1], messages[at + 2])
+pub(crate) fn verify(run: &Run, log: &[u8], numbers: &[u8]) -> Verdict {
+    let mut verifier = start(run, numbers)
+        .items(input::items_of(log))
         .verifier
+        .close(run.total)
+        .verifier;
+    for (_, message) in (0..run.start.rounds).zip(run.messages.chunks_exact(3)) {
+        if let &[even, cross, odd] = message {
+            verifier = verifier.message(even, cross, odd).verifier;
+        }
+    }
+    verifier.verdict()
+}
+
+fn start(run: &Run, numbers: &[u8]) -> Verifier {
+    let start = run.start;
+    let mut challenges = [0u32; 15];
+    for (k, challenge) in (0..MOST_ROUNDS).zip(challenges.iter_mut()) {
+        *challenge = input::number(numbers, k);
+    }
+    let rounds = start.rounds.min(MOST_ROUNDS) as usize;
+    Verifier::start_plain(start.items, start.version, &challenges[..rounds]).verifier
 }

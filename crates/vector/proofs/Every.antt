@@ -36,10 +36,6 @@ module _ (test : ℕ → Bool) where
   unfolding every
   every_more m b e = ap (λ x. x && test m) e ∙ ap (λ k. every k test) (sym (add-one m))
 
-pub and_assoc : (a b c : Bool) → ((a && b) && c) ≡ (a && (b && c))
-and_assoc true b c = refl
-and_assoc false b c = refl
-
 either : (b : Bool) (P : Type 0) → (b ≡ true → P) → (b ≡ false → P) → P
 either true P f g = f refl
 either false P f g = g refl

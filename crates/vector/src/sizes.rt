@@ -17,6 +17,7 @@ pub fn rounds_of(items: u32) -> u32
 }
 
 // How many items fold j of 2^n items has.
+#[tactic(auto, using(crate::proofs::FoldSizes::large, crate::proofs::FoldSizes::past, crate::proofs::FoldSizes::shifted))]
 pub fn size_of(n: u32, j: u32) -> u32
     ensures { result ≡ size_in32 n j }
 {

@@ -5,22 +5,22 @@ ghost use Rattle.vector.specs.Slice.{fold_slice, message_in, message_slice, eval
 use super::Message;
 
 // In place: the first `half` places become the fold of the first 2 `half`.
+#[tactic(auto, using(crate::proofs::Overwrite::fold_step), unfolding(crate::specs::Slice::fold_slice, crate::specs::Slice::overwrite))]
 pub fn fold(p: u32, c: u32, v: &mut [u32], half: usize)
     ensures { v.new ≡ fold_slice p c half v.old }
 {
     if v.len() / 2 < half {
         return;
     }
-    let mut i: usize = 0;
-    while i < half {
+    for i in 0..half {
         let even = v[2 * i];
         let odd = v[2 * i + 1];
         v[i] = field::modular::add_mul(p, even, c, odd);
-        i += 1;
     }
 }
 
 // The two halves of the cross sum are summed apart, each in a chain of its own.
+#[tactic(auto, using(crate::proofs::Accumulate::add_even, crate::proofs::Accumulate::add_forth, crate::proofs::Accumulate::add_back, crate::proofs::Accumulate::add_cross, crate::proofs::Accumulate::add_odd), unfolding(crate::specs::Slice::message_slice))]
 pub fn message(p: u32, f: &[u32], g: &[u32], half: usize) -> Message
     ensures { message_in result ≡ message_slice p half f.now g.now }
 {
@@ -34,8 +34,7 @@ pub fn message(p: u32, f: &[u32], g: &[u32], half: usize) -> Message
     if g.len() / 2 < half {
         return Message { even, cross, odd };
     }
-    let mut k: usize = 0;
-    while k < half {
+    for k in 0..half {
         let f0 = f[2 * k];
         let f1 = f[2 * k + 1];
         let g0 = g[2 * k];
@@ -44,7 +43,6 @@ pub fn message(p: u32, f: &[u32], g: &[u32], half: usize) -> Message
         cross = field::modular::add_mul(p, cross, f0, g1);
         back = field::modular::add_mul(p, back, f1, g0);
         odd = field::modular::add_mul(p, odd, f1, g1);
-        k += 1;
     }
     Message {
         even,
@@ -54,6 +52,7 @@ pub fn message(p: u32, f: &[u32], g: &[u32], half: usize) -> Message
 }
 
 // By Horner's rule, from the last item.
+#[tactic(auto, using(crate::proofs::Evaluation::all_left, crate::proofs::Evaluation::none_left, crate::proofs::Evaluation::one_less), unfolding(crate::specs::Slice::evaluate_slice))]
 pub fn evaluate(p: u32, v: &[u32], n: usize, x: u32) -> u32
     ensures { result ≡ evaluate_slice p n v.now x }
 {
@@ -61,9 +60,7 @@ pub fn evaluate(p: u32, v: &[u32], n: usize, x: u32) -> u32
         return 0;
     }
     let mut value: u32 = 0;
-    let mut i: usize = n;
-    while 0 < i {
-        i -= 1;
+    for i in (0..n).rev() {
         value = field::modular::add_mul(p, v[i], value, x);
     }
     value
@@ -79,19 +76,19 @@ pub fn still(ok: bool, good: bool) -> bool
     false
 }
 
+#[tactic(auto, unfolding(crate::specs::Slice::every))]
 fn first_reduced(p: u32, v: &[u32], m: usize) -> bool
     requires { m ≤ length v.now }
     ensures { result ≡ all_reduced p m v.now }
 {
     let mut ok = true;
-    let mut i: usize = 0;
-    while i < m {
-        ok = still(ok, v[i] < p);
-        i += 1;
+    for x in &v[..m] {
+        ok = still(ok, *x < p);
     }
     ok
 }
 
+#[tactic(auto, using(crate::proofs::Every::reduced_short))]
 pub fn all_reduced(p: u32, v: &[u32], m: usize) -> bool
     ensures { result ≡ all_reduced p m v.now }
 {
@@ -102,6 +99,7 @@ pub fn all_reduced(p: u32, v: &[u32], m: usize) -> bool
     first_reduced(p, v, m)
 }
 
+#[tactic(auto, using(crate::proofs::Every::nonzero_short), unfolding(crate::specs::Slice::every))]
 pub fn all_nonzero(p: u32, v: &[u32], m: usize) -> bool
     ensures { result ≡ all_nonzero p m v.now }
 {
@@ -109,14 +107,13 @@ pub fn all_nonzero(p: u32, v: &[u32], m: usize) -> bool
         return false;
     }
     let mut ok = true;
-    let mut i: usize = 0;
-    while i < m {
-        ok = still(still(ok, 0 < v[i]), v[i] < p);
-        i += 1;
+    for x in &v[..m] {
+        ok = still(still(ok, 0 < *x), *x < p);
     }
     ok
 }
 
+#[tactic(auto, unfolding(crate::specs::Slice::fifteen, crate::specs::Slice::overwrite))]
 pub fn take15(v: &[u32], n: usize) -> [u32; 15]
     ensures { result ≡ fifteen n v.now }
 {
@@ -127,10 +124,8 @@ pub fn take15(v: &[u32], n: usize) -> [u32; 15]
     if v.len() < n {
         return out;
     }
-    let mut i: usize = 0;
-    while i < n {
+    for i in 0..n {
         out[i] = v[i];
-        i += 1;
     }
     out
 }

@@ -6,21 +6,17 @@ ghost use Rattle.vector.specs.Vector.{at, weight};
 ghost use Rattle.vector.specs.Twist.{low_weights, weights_from, twists_of};
 
 // Bit k of the index, the lowest first, with place k.
+#[tactic(auto, unfolding(crate::specs::Vector::weight))]
 fn weight_in(p: u32, cs: &[u32; 15], n: u32, index: u32) -> u32
     ensures { result ≡ weight p (at cs.now) (min n max_rounds) index }
 {
     let mut product = field::modular::reduce(p, 1);
     let mut rest = index;
-    let mut k: u32 = 0;
-    while k < n {
-        if refusal::MAX_ROUNDS <= k {
-            break;
-        }
+    for k in 0..u32::min(n, refusal::MAX_ROUNDS) {
         if rest % 2 == 1 {
             product = field::modular::mul(p, product, cs[k as usize]);
         }
-        rest = rest / 2;
-        k += 1;
+        rest /= 2;
     }
     product
 }
@@ -32,15 +28,13 @@ pub fn weight_of(p: u32, cs: [u32; 15], n: u32, index: u32) -> u32
 }
 
 // The weights of the indices 0 to 15.
+#[tactic(auto, unfolding(crate::specs::Slice::overwrite))]
 pub fn low_weights(p: u32, cs: [u32; 15], n: u32) -> [u32; 16]
     ensures { result ≡ low_weights p cs n }
 {
     let mut out = [0u32; 16];
-    let mut i: u32 = 0;
-    while i < 16 {
-        let x = weight_of(p, cs, n, i);
-        out[i as usize] = x;
-        i += 1;
+    for i in 0..16 {
+        out[i] = weight_in(p, &cs, n, i as u32);
     }
     out
 }
@@ -64,6 +58,7 @@ fn upper(p: u32, cs: &[u32; 15], n: u32, index: u32, before: u32) -> u32
 }
 
 // The weights of consecutive indices, one product each; nothing where they go past 32 bits.
+#[tactic(auto, unfolding(crate::specs::Slice::overwrite, crate::specs::Twist::weights_from))]
 pub fn weights(p: u32, cs: [u32; 15], n: u32, first: u32, out: &mut [u32])
     ensures { out.new ≡ weights_from p cs n first out.old }
 {
@@ -73,29 +68,23 @@ pub fn weights(p: u32, cs: [u32; 15], n: u32, first: u32, out: &mut [u32])
     }
     let low = low_weights(p, cs, n);
     let mut high = weight_in(p, &cs, n, first / 16 * 16);
-    let mut i: usize = 0;
-    while i < m {
+    for i in 0..m {
         let index = first + (i as u32);
         high = upper(p, &cs, n, index, high);
         out[i] = split_weight(p, &low, high, index);
-        i += 1;
     }
 }
 
 // Place j, for j below n, by squaring; the rest zero.
+#[tactic(auto, unfolding(crate::specs::Slice::overwrite))]
 pub fn powers(p: u32, v: u32, n: u32) -> [u32; 15]
     ensures { result ≡ twists_of p v n }
 {
     let mut out = [0u32; 15];
     let mut square = field::modular::reduce(p, v as u64);
-    let mut j: u32 = 0;
-    while j < n {
-        if refusal::MAX_ROUNDS <= j {
-            break;
-        }
+    for j in 0..u32::min(n, refusal::MAX_ROUNDS) {
         out[j as usize] = square;
         square = field::modular::mul(p, square, square);
-        j += 1;
     }
     out
 }

@@ -1,28 +1,17 @@
 -- What the test of a record says, and what the steps of a call need of it.
-use mathlib.Core.Path.{◌≡◌, refl, sym, ap, ◌∙◌}
+use mathlib.Core.Path.{◌≡◌, refl, sym}
 use mathlib.Core.Bool.{Bool, true, false, cond, not, true≢false}
 use Prim.Native.Nat.{ℕ, ◌≤◌, ◌<◌}
 use native.Mathlib.Omega.{arith}
 use lib.Dec.{eqb, leb, ltb}
-use borrow.Author.Tests.{eqb-true, le-leb, leb-true, lt-ltb, le-ltb, ltb-true}
-use Rattle.refusal.specs.declared.Check.{Check}
-use Rattle.refusal.specs.declared.Check.TheVariants as check
-use Rattle.refusal.specs.Check.{passed}
+use borrow.Author.Tests.{eqb-true, le-leb, leb-true, ltb-true}
 use Rattle.refusal.proofs.Outcome as tests
 use Rattle.vector.specs.Rounds.{rounds_of}
 use Rattle.vector.proofs.Rounds.{rounds-at-most}
 use Rattle.item.specs.Start.{count_fits, version_kept}
 use Rattle.verifier.specs.declared.Verifier.{Verifier}
 use Rattle.verifier.specs.WellFormed.{turn_of, turn_fits, well_formed}
-use Rattle.verifier.specs.Calls.{pass_open, message_turn, verdict_turn, has_rounds}
-
--- a check that passed
-pub told : {r : Check} {b : Bool} → r ≡ check.Passed → passed r ≡ b → b ≡ true
-told h e = sym e ∙ ap passed h
-
--- and one that did not
-pub untold : {r : Check} {b : Bool} → r ≡ check.Failed → passed r ≡ b → b ≡ false
-untold h e = sym e ∙ ap passed h
+use Rattle.verifier.specs.Calls.{pass_open, message_turn, has_rounds}
 
 pub both : (a b : Bool) → cond a b false ≡ true → (a ≡ true) × (b ≡ true)
 both true b h = (refl, h)
@@ -131,12 +120,6 @@ open_says v h =
     let e = both (well_formed v) (not v.closed) h in
     (formed_says v e.0, not_true v.closed e.1)
 
-pub takes-safe : (v : Verifier) → pass_open v ≡ true → ltb v.taken v.start.items ≡ true → (v.taken < 32768) × (v.start.rounds ≤ 15)
-takes-safe v h t =
-    let f = (open_says v h).0 in
-    let less = ltb-true v.taken v.start.items t in
-    (omega (arith, f.limit), f.few)
-
 pub hears-safe : (v : Verifier) → well_formed v ≡ true → message_turn v ≡ true → v.round < 15
 unfolding message_turn
 hears-safe v h t =
@@ -162,56 +145,3 @@ turn-plain closed failed round rounds taken items a b e = rw (a, b, e)
 pub turn-open : (v : Verifier) → v.closed ≡ false → v.failed ≡ false → v.round ≡ 0 → leb v.taken v.start.items ≡ turn_fits v
 unfolding turn_of
 turn-open v = turn-plain v.closed v.failed v.round v.start.rounds v.taken v.start.items
-
--- the tests of a record as the code makes them
-module _ (v : Verifier) where
-  pub other_version : version_kept v.start.plain v.start.version ≡ false → false ≡ well_formed v
-  unfolding well_formed
-  other_version a = rw a
-
-  module _ (known : version_kept v.start.plain v.start.version ≡ true) where
-    pub other_count : count_fits v.start.items ≡ false → false ≡ well_formed v
-    unfolding well_formed
-    other_count a = rw (known, a)
-
-    pub other_rounds : {k : ℕ} → count_fits v.start.items ≡ true → k ≡ rounds_of v.start.items → eqb v.start.rounds k ≡ false
-        → false ≡ well_formed v
-    unfolding well_formed
-    other_rounds {k} a e h = rw (known, a, ← e, h)
-
-    pub fixed_start : {k : ℕ} → count_fits v.start.items ≡ true → k ≡ rounds_of v.start.items → eqb v.start.rounds k ≡ true
-        → turn_fits v ≡ well_formed v
-    unfolding well_formed
-    fixed_start {k} a e h = rw (known, a, ← e, h)
-
-  never : (b : Bool) → cond b false false ≡ false
-  never true = refl
-  never false = refl
-
-  always : (b : Bool) → cond b true false ≡ b
-  always true = refl
-  always false = refl
-
-  pub closed-shut : v.closed ≡ true → false ≡ pass_open v
-  unfolding pass_open
-  closed-shut h = sym (ap (λ b. cond (well_formed v) (not b) false) h ∙ never (well_formed v))
-
-  pub not_closed : v.closed ≡ false → well_formed v ≡ pass_open v
-  unfolding pass_open
-  not_closed h = sym (ap (λ b. cond (well_formed v) (not b) false) h ∙ always (well_formed v))
-
-  pub no_rounds : v.start.rounds ≤ 0 → false ≡ has_rounds v
-  unfolding has_rounds
-  no_rounds h = sym (ap (λ b. cond (well_formed v) b false) (le-ltb 0 v.start.rounds h) ∙ never (well_formed v))
-
-  pub some_rounds : 0 < v.start.rounds → well_formed v ≡ has_rounds v
-  unfolding has_rounds
-  some_rounds h = sym (ap (λ b. cond (well_formed v) b false) (lt-ltb 0 v.start.rounds h) ∙ always (well_formed v))
-
-  pub message-next : v.closed ≡ true → v.failed ≡ false → ltb v.round v.start.rounds ≡ message_turn v
-  unfolding message_turn
-  message-next a b = rw (a, b)
-
-  pub verdict-next : v.closed ≡ true → v.failed ≡ false → eqb v.round v.start.rounds ≡ verdict_turn v
-  unfolding verdict_turn
-  verdict-next a b = rw (a, b)

@@ -1,8 +1,8 @@
-mod Heard
+pub mod Branches
 pub mod BlockLaws
 pub mod Invariant
+pub mod Guards
 pub mod FileFacts
-pub mod CallRows
 pub mod Faults
 pub mod EndSums
 pub mod Verdicts
@@ -19,3 +19,4 @@ pub mod Singly
 pub mod FileVerdicts
 pub mod ProofFiles
 pub mod PlainFiles
+pub mod Rows

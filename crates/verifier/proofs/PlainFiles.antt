@@ -30,15 +30,18 @@ use Rattle.item.specs.Start.{count_fits, list_fits}
 use Rattle.verifier.specs.declared.Verifier.{Verifier}
 use Rattle.verifier.specs.Records.{yes}
 use Rattle.verifier.specs.Starts.{fresh_verifier}
+use Rattle.claim.specs.Claim.{message_of3}
 use Rattle.verifier.specs.ProofFile.{file_message, Judgement, judges, proof, leaves_judged}
 use Rattle.verifier.specs.Trips.{claim_at, trip_total, verdict_of, file_verdict_of}
-use Rattle.verifier.proofs.CallRows.{same_message}
 use Rattle.verifier.proofs.FileFacts.{row-file}
 use Rattle.verifier.proofs.EndSums.{state, few}
 use Rattle.verifier.proofs.Verdicts.{AllPass, verdict-yes, true_messages, claim-of_same}
 use Rattle.verifier.proofs.PlainRuns.{counted, reading_vector, weight_vector, after_plain, plain_state, kept, plain-agree, plain-reaches, plain-open, plain-ends, plain-claim}
 use Rattle.verifier.proofs.FileVerdicts.{FileSays, file_claim, file-verdict-says, file-verdict-yes, file-verdict-same}
 use Rattle.verifier.proofs.ProofFiles.{proof-answered, file-finds}
+
+same_message : {a b c d e f : ℕ} → a ≡ d → b ≡ e → c ≡ f → message_of3 a b c ≡ message_of3 d e f
+same_message x y z = cc
 
 -- three numbers of a list for each of n messages
 abbrev pub Lists : ℕ → (ℕ → Message) → List ℕ → Type 0

@@ -14,7 +14,8 @@ use Rattle.refusal.proofs.Outcome.{fails}
 use Rattle.field.specs.Integer.{image}
 use Rattle.field.specs.Total.{in_limits}
 use Rattle.vector.specs.Vector.{at}
-use Rattle.wire.specs.Proof.{Head, proof_total, proof_number, read_proof_of}
+use Rattle.wire.specs.declared.proof.Head.{Head}
+use Rattle.wire.specs.Proof.{proof_total, proof_number, read_proof_of}
 use Rattle.wire.proofs.ProofSays.{GoodProof}
 use Rattle.wire.proofs.ProofOf.{own-good}
 use Rattle.verifier.specs.declared.Verifier.{Verifier}

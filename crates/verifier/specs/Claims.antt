@@ -1,7 +1,9 @@
 -- The claim, the messages and the verdict: document 01, "The gateway".
-use Rattle.std.specs.Prelude.{ℕ, ◌+◌, Bool, true, cond, eqb}
+use Rattle.std.specs.Prelude.{ℕ, ◌+◌, Bool, true, cond, eqb, Option, Some, None}
 use Rattle.algebra.specs.Mod.{mul_mod}
+use Rattle.field.specs.Number.{is_reduced}
 use Rattle.vector.specs.Vector.{at}
+use Rattle.vector.specs.declared.Message as code
 use Rattle.vector.specs.Message.{Message, passes, next_claim}
 pub use Rattle.claim.specs.Claim.{message_of3}
 use Rattle.verifier.specs.declared.Verifier.{Verifier}
@@ -29,6 +31,11 @@ closed_with v claim = verifier_with v true claim v.round v.failed
 
 abbrev pub closes : Verifier → ℕ → Replied
 closes v claim = record { verifier = closed_with v claim; reply = reply.closed }
+
+-- the code's message, where each of its numbers is a field number
+abbrev pub reduced_message : ℕ → ℕ → ℕ → ℕ → Option code.Message
+reduced_message p even cross odd =
+    cond (is_reduced p even) (cond (is_reduced p cross) (cond (is_reduced p odd) (Some (record { even = even; cross = cross; odd = odd })) None) None) None
 
 -- after a message that passed
 unfoldable pub passed_with : ℕ → Verifier → Message → Verifier

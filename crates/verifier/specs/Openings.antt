@@ -1,6 +1,6 @@
 -- "yes if the opening equation holds for every j in both vectors, else no with the first vector (f before g) and j that fail".
 -- An opening's values are f's for j = 1 to n, three each, then g's.
-use Rattle.std.specs.Prelude.{ℕ, zero, suc, ◌+◌, ◌*◌, Bool, cond, List, eqb, ltb}
+use Rattle.std.specs.Prelude.{ℕ, zero, suc, ◌+◌, ◌*◌, Bool, cond, List, eqb, ltb, Option, Some, None}
 use Rattle.algebra.specs.Mod.{add_mod, sub_mod, mul_mod, half_mod}
 use Rattle.vector.specs.Vector.{at}
 use Rattle.vector.specs.Opening.{Triple, opens}
@@ -11,6 +11,10 @@ use Rattle.verifier.specs.Records.{OpeningFinding, holds, fails_f, fails_g}
 unfoldable pub first_fault : (ℕ → Bool) → ℕ → ℕ → ℕ
 first_fault test k zero = k
 first_fault test k (suc m) = cond (test k) (first_fault test (suc k) m) k
+
+-- the first of n numbers that fails a test, where one does
+unfoldable pub found_fault : (ℕ → Bool) → ℕ → Option ℕ
+found_fault test n = cond (ltb (first_fault test 0 n) n) (Some (first_fault test 0 n)) None
 
 -- the opening equation, with the inverse of the point
 unfoldable pub opens_by : ℕ → ℕ → ℕ → ℕ → ℕ → ℕ → Bool

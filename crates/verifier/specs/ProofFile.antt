@@ -4,7 +4,8 @@ use Rattle.refusal.specs.Number as number
 use Rattle.refusal.specs.Outcome.{Outcome, answered, refused, refused_at, require}
 use Rattle.field.specs.Integer.{image}
 use Rattle.vector.specs.Message.{Message}
-use Rattle.wire.specs.Proof.{Head, proof_number, read_proof_of}
+use Rattle.wire.specs.declared.proof.Head.{Head}
+use Rattle.wire.specs.Proof.{proof_number, read_proof_of}
 use Rattle.verifier.specs.declared.Verifier.{Verifier}
 use Rattle.verifier.specs.declared.Judged.{Judged}
 use Rattle.verifier.specs.Records.{Finding, verdict_in}

@@ -1,6 +1,5 @@
 -- What the verifier's calls hand back, in document 01's terms, and that a refusal changes nothing.
 use Rattle.std.specs.Prelude.{ℕ, false, replicate}
-use Rattle.refusal.specs.Number as number
 use Rattle.refusal.specs.Outcome.{Outcome, answered, refused, refused_at}
 use Rattle.item.specs.Start.{no_start}
 use Rattle.verifier.specs.declared.Verifier.{Verifier}
@@ -44,12 +43,6 @@ abbrev pub leaves : Verifier → Outcome Replied → Handed
 leaves v (answered s) = record { verifier = s.verifier; outcome = answered s.reply }
 leaves v (refused k) = record { verifier = v; outcome = refused k }
 leaves v (refused_at k i) = record { verifier = v; outcome = refused_at k i }
-
--- the refusal of an item or of a file, as the call's own; it is asked for only where there is one
-abbrev pub refusal_of : {A B : Type 0} → Outcome A → Outcome B
-refusal_of (answered x) = refused number.order
-refusal_of (refused k) = refused k
-refusal_of (refused_at k i) = refused_at k i
 
 -- "the verdict is yes .. Otherwise no, with the first round that failed, or n"
 pub data Finding : Type 0 where

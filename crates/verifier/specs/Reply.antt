@@ -1,8 +1,10 @@
--- What an answered call says, in document 01's words, and what each case of the code's answer is of it.
-use Rattle.std.specs.Prelude.{ℕ}
-use Rattle.refusal.specs.Outcome.{Outcome, answered, refused, refused_at}
-use Rattle.verifier.specs.declared.Answer.{Answer}
-use Rattle.verifier.specs.declared.Answer.TheVariants as answer
+-- What an answered call says, in document 01's words, and what each case of the code's reply is of it.
+use Rattle.std.specs.Prelude.{ℕ, Result}
+use Rattle.refusal.specs.declared.Refusal.{Refusal}
+use Rattle.refusal.specs.Refusal.{outcome_by}
+use Rattle.refusal.specs.Outcome.{Outcome}
+use Rattle.verifier.specs.declared.Reply as code
+use Rattle.verifier.specs.declared.Reply.TheVariants as said
 
 pub data Reply : Type 0 where
   -- a start: the pass is "open from its start"
@@ -16,11 +18,12 @@ pub data Reply : Type 0 where
   -- "A no is not a refusal; it closes the run", with its round
   no : ℕ → Reply
 
-abbrev pub answer_in : Answer → Outcome Reply
-answer_in answer.Started = answered started
-answer_in answer.Taken = answered taken
-answer_in answer.Closed = answered closed
-answer_in answer.Passed = answered passed
-answer_in (answer.No k) = answered (no k)
-answer_in (answer.Refused k) = refused k
-answer_in (answer.RefusedAt k i) = refused_at k i
+abbrev pub reply_in : code.Reply → Reply
+reply_in said.Started = started
+reply_in said.Taken = taken
+reply_in said.Closed = closed
+reply_in said.Passed = passed
+reply_in (said.No k) = no k
+
+abbrev pub answer_in : Result code.Reply Refusal → Outcome Reply
+answer_in answer = outcome_by reply_in answer

@@ -33,6 +33,11 @@ verifier_of start challenges = fresh_verifier start (fifteen start.rounds challe
 abbrev pub started_with : Verifier → Replied
 started_with v = record { verifier = v; reply = reply.started }
 
+-- a start that is fixed, by its challenges (6)
+abbrev pub starting : ℕ → Start → List ℕ → Outcome Replied
+starting p start challenges =
+    require (list_fits p start.rounds challenges) number.argument (answered (started_with (verifier_of start challenges)))
+
 -- the verifier of a plain run, which reads no twists
 abbrev pub plain_verifier : ℕ → ℕ → List ℕ → Verifier
 plain_verifier items version challenges = verifier_of (plain_start items version) challenges

@@ -1,74 +1,61 @@
 // What a start or a refusal hands back.
 ghost use Rattle.std.specs.Prelude.{◌≡◌};
-ghost use Rattle.refusal.specs.Outcome.{answered, refused};
-ghost use Rattle.item.specs.Item.{parts_in};
-ghost use Rattle.verifier.specs.Records.{blank, step_in, leaves, refusal_of};
-ghost use Rattle.verifier.specs.Starts.{verifier_of, started_with};
+ghost use Rattle.refusal.specs.Refusal.{refused_by};
+ghost use Rattle.verifier.specs.Records.{blank, step_in, leaves};
+ghost use Rattle.verifier.specs.Starts.{fresh_verifier, starting};
 
-use super::{Answer, Step, Verifier};
-use item::{Parts, Start};
+use super::{Reply, Step, Verifier};
+use item::Start;
+use refusal::Refusal;
 
 // A refusal hands the verifier back unchanged.
-pub fn refuse(v: Verifier, number: u8) -> Step
-    ensures { step_in result ≡ leaves v (refused number) }
+#[tactic(auto, using(crate::proofs::Branches::branches))]
+pub fn refuse(v: Verifier, refusal: Refusal) -> Step
+    ensures { step_in result ≡ leaves v (refused_by refusal) }
 {
     Step {
         verifier: v,
-        answer: Answer::Refused(number),
+        answer: Err(refusal),
     }
 }
 
-// The refusal of an item, by its parts.
-pub(crate) fn refuse_parts(v: Verifier, parts: Parts) -> Step
-    ensures { step_in result ≡ leaves v (refusal_of (parts_in parts)) }
+// Its pass is open, nothing is taken.
+#[tactic(auto, unfolding(crate::specs::Starts::fresh_verifier))]
+fn fresh(start: Start, challenges: [u32; 15]) -> Verifier
+    ensures { result ≡ fresh_verifier start challenges }
 {
-    match parts {
-        // Not reached: the caller has the item.
-        Parts::Item(_) => refuse(v, refusal::ORDER),
-        Parts::Refused(number) => refuse(v, number),
-        Parts::RefusedAt(number, index) => Step {
-            verifier: v,
-            answer: Answer::RefusedAt(number, index),
-        },
+    Verifier {
+        start,
+        challenges,
+        closed: false,
+        taken: 0,
+        fsum: 0,
+        gsum: 0,
+        claim: 0,
+        round: 0,
+        failed: false,
     }
 }
 
 // The record beside a refused start: all zero.
-pub fn not_started(number: u8) -> Step
-    ensures { step_in result ≡ leaves blank (refused number) }
+#[tactic(auto, unfolding(crate::specs::Starts::fresh_verifier))]
+pub fn not_started(refusal: Refusal) -> Step
+    ensures { step_in result ≡ leaves blank (refused_by refusal) }
 {
-    let verifier = Verifier {
-        start: item::starts::none(),
-        challenges: [0u32; 15],
-        closed: false,
-        taken: 0,
-        fsum: 0,
-        gsum: 0,
-        claim: 0,
-        round: 0,
-        failed: false,
-    };
-    refuse(verifier, number)
+    refuse(fresh(item::starts::none(), [0u32; 15]), refusal)
 }
 
-// A fresh verifier: its pass is open, nothing is taken.
-pub fn started(start: Start, challenges: &[u32]) -> Step
-    ensures { step_in result ≡ leaves blank (answered (started_with (verifier_of start challenges.now))) }
+// A fresh verifier, where the challenges fit the start (6).
+#[tactic(auto, using(crate::proofs::Branches::branches))]
+pub fn start(p: u32, start: Start, challenges: &[u32]) -> Step
+    ensures { step_in result ≡ leaves blank (starting p start challenges.now) }
 {
-    let kept = vector::slice::take15(challenges, start.rounds as usize);
-    let verifier = Verifier {
-        start,
-        challenges: kept,
-        closed: false,
-        taken: 0,
-        fsum: 0,
-        gsum: 0,
-        claim: 0,
-        round: 0,
-        failed: false,
+    let true = item::starts::list_fits(p, start.rounds, challenges) else {
+        return not_started(Refusal::Argument);
     };
+    let kept = vector::slice::take15(challenges, start.rounds as usize);
     Step {
-        verifier,
-        answer: Answer::Started,
+        verifier: fresh(start, kept),
+        answer: Ok(Reply::Started),
     }
 }

@@ -1,7 +1,7 @@
 pub mod Numbers
-pub mod Told
 pub mod Unmarked
 pub mod Marks
+pub mod Entries
 pub mod Layouts
 pub mod Blocks
 pub mod LogSays

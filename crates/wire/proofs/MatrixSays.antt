@@ -1,4 +1,5 @@
 -- What read_matrix answers, in document 01's words and both ways: each outcome holds of exactly the files that it is given for.
+use Rattle.std.specs.Prelude.{Some}
 use mathlib.Core.Path.{◌≡◌, refl, ◌∙◌}
 use mathlib.Core.Logic.{◌⊎◌, inl, inr}
 use mathlib.Core.Bool.{Bool, true, false, ◌&&◌, ◌||◌}
@@ -12,7 +13,6 @@ use Rattle.refusal.specs.Number as number
 use Rattle.refusal.specs.Limit.{max_rounds}
 use Rattle.refusal.specs.Outcome.{Outcome, answered, refused, refused_at, require_all}
 use Rattle.refusal.proofs.Outcome.{both, failed, fails, require-says, require_at-says, all-says, all-passed, all_first}
-use Rattle.wire.specs.Found.{found}
 use Rattle.wire.specs.Header.{marked, version_of}
 use Rattle.wire.specs.Matrix.{Entry, Shape, matrix_rounds, matrix_count, entry_at, entry, in_order, sorted_at, require_entry, read_matrix, matrix_entry}
 use Rattle.wire.proofs.Marks.{Mark, mark_of, mark_back}
@@ -207,7 +207,7 @@ module _ (p : ℕ) (file : List ℕ) where
 
 -- a good matrix gives each of its entries
 pub entries_found : (p : ℕ) (file : List ℕ) (shape : Shape) → GoodMatrix p file shape → (k : ℕ) → k < shape.count
-    → matrix_entry file k ≡ found (entry file k)
+    → matrix_entry file k ≡ Some (entry file k)
 unfolding matrix_entry
 entries_found p file shape g k h =
     rw (le-leb (entry_at (k + 1)) (length file) (omega (arith, g.frame.size, g.counted)))

@@ -1,4 +1,5 @@
 -- The messages and the end values of a good proof, by the numbers of its file.
+use Rattle.std.specs.Prelude.{Some}
 use mathlib.Core.Path.{◌≡◌, sym, ap, ◌∙◌}
 use mathlib.Core.List.{List, [], ◌∷◌}
 use Prim.Native.Nat.{ℕ, zero, suc, ◌+◌, ◌*◌, ◌≤◌, ◌<◌}
@@ -8,7 +9,6 @@ use lib.ListN.{length, take, drop, length-drop}
 use lib.Seq.{take-nil, take-take, drop-drop, length-take-le}
 use borrow.Author.Tests.{lt-ltb, le-leb}
 use Rattle.wire.specs.Number.{num, num_at}
-use Rattle.wire.specs.Found.{found}
 use Rattle.wire.specs.Proof.{Head, proof_rounds, proof_number, proof_size, message_end, part_in, proof_round, part_message, proof_ends}
 use Rattle.wire.proofs.ProofSays.{GoodProof, proof-said}
 use Rattle.refusal.specs.Outcome.{answered}
@@ -25,7 +25,7 @@ in_part file a j m h = ap num (rw (drop_take j m (drop a file), take-take 4 m, d
 
 message : (file : List ℕ) (r : ℕ) → message_end r ≤ length file
     → part_message (take 12 (drop (10 + 12 * r) file))
-    ≡ found (record { even = proof_number file (3 * r); cross = proof_number file (3 * r + 1); odd = proof_number file (3 * r + 2) })
+    ≡ Some (record { even = proof_number file (3 * r); cross = proof_number file (3 * r + 1); odd = proof_number file (3 * r + 2) })
 unfolding part_message
 message file r h =
     let l : length (take 12 (drop (10 + 12 * r) file)) ≡ 12 = length-take-le 12 (drop (10 + 12 * r) file) (omega (arith, length-drop (10 + 12 * r) file)) in
@@ -40,13 +40,13 @@ message file r h =
 module _ (p : ℕ) (file : List ℕ) (head : Head) (g : GoodProof p file head) where
   pub round-message : (r : ℕ) → r < proof_rounds file
       → part_message (proof_round p file r)
-      ≡ found (record { even = proof_number file (3 * r); cross = proof_number file (3 * r + 1); odd = proof_number file (3 * r + 2) })
+      ≡ Some (record { even = proof_number file (3 * r); cross = proof_number file (3 * r + 1); odd = proof_number file (3 * r + 2) })
   unfolding part_in
   round-message r h =
       rw (proof-said p file (answered head) g, ← g.rounds, lt-ltb r (proof_rounds file) h)
       (message file r (omega (arith, g.frame.size)))
 
-  pub end_values : proof_ends file ≡ found (record { f = proof_number file (3 * proof_rounds file); g = proof_number file (3 * proof_rounds file + 1) })
+  pub end_values : proof_ends file ≡ Some (record { f = proof_number file (3 * proof_rounds file); g = proof_number file (3 * proof_rounds file + 1) })
   unfolding proof_ends
   end_values =
       let e₀ : 10 + 12 * proof_rounds file ≡ 10 + 4 * (3 * proof_rounds file) = omega arith in

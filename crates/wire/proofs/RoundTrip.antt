@@ -1,4 +1,5 @@
 -- What is written reads back, and a file that reads well is the file written from what was read.
+use Rattle.std.specs.Prelude.{Some}
 use mathlib.Core.Path.{◌≡◌, refl, sym, ap, subst, ◌∙◌}
 use mathlib.Core.Logic.{⊎_elim}
 use mathlib.Core.List.{List, [], ◌∷◌, ◌++◌}
@@ -14,7 +15,6 @@ use Rattle.refusal.specs.Limit.{max_rounds}
 use Rattle.refusal.specs.Outcome.{answered}
 use Rattle.field.specs.Total.{limit, in_limits}
 use Rattle.wire.specs.Number.{num, bytes, num_at, signed, bits}
-use Rattle.wire.specs.Found.{found}
 use Rattle.wire.specs.Proof.{Message, Ends, proof_total, proof_number, proof_size, read_proof, proof_round, part_message, proof_ends, numbers, proof_header, proof_file, proof_values, write_proof, written_in}
 use Rattle.wire.proofs.Codes.{Bytes, num-bytes, bytes_drop, part_small, parted, bits_small, signed-bits, bits-signed}
 use Rattle.wire.proofs.Below.{all_below_lem}
@@ -68,8 +68,8 @@ pub record ReadsAs (p : ℕ) (file : List ℕ) (n : ℕ) (t : ℤ) (ms : List �
   pub head : read_proof p file ≡ answered (record { rounds = n; total = t })
   pub rounds : (r : ℕ) → r < n
       → part_message (proof_round p file r)
-      ≡ found (record { even = get_or ms (3 * r) 0; cross = get_or ms (3 * r + 1) 0; odd = get_or ms (3 * r + 2) 0 })
-  pub ends : proof_ends file ≡ found (record { f = f; g = g })
+      ≡ Some (record { even = get_or ms (3 * r) 0; cross = get_or ms (3 * r + 1) 0; odd = get_or ms (3 * r + 2) 0 })
+  pub ends : proof_ends file ≡ Some (record { f = f; g = g })
 
 module _ (n : ℕ) (ms : List ℕ) (f g : ℕ) (room : 3 * n ≤ length ms) where
   value-message : (k : ℕ) → k < 3 * n → get_or (proof_values n ms f g) k 0 ≡ get_or ms k 0
@@ -192,7 +192,7 @@ header_of p file n t b g =
     drop-cons file 0 0 (omega arith)
     ∙ rw (drop-cons file 1 0 (omega arith), drop-cons file 2 0 (omega arith), parted file b 2 3 (omega arith), g.frame.version, drop-cons file 5 0 (omega arith), g.rounds, parted file b 4 6 (omega arith), w, m.first, m.second, m.third)
 
-pub found_same : {A : Type 0} {x y : A} → found x ≡ found y → x ≡ y
+pub found_same : {A : Type 0} {x y : A} → Some x ≡ Some y → x ≡ y
 found_same e = cc
 
 -- the numbers of a file that reads as a proof

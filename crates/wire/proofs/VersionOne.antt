@@ -1,4 +1,5 @@
 -- "A version 1 log answers as before": document 01's reader and accessor, and that they answer for every file that is not of version 2.
+use Rattle.std.specs.Prelude.{Option}
 use mathlib.Core.Path.{◌≡◌, refl, ap, ◌∙◌}
 use mathlib.Core.Bool.{Bool, true, false, ◌&&◌, ◌||◌}
 use mathlib.Core.List.{List}
@@ -12,7 +13,7 @@ use Rattle.refusal.specs.Outcome.{Outcome, answered, require, require_at, requir
 use Rattle.field.specs.Total.{Item}
 use Rattle.item.specs.Version.{is_fine}
 use Rattle.wire.specs.Number.{num_at, signed}
-use Rattle.wire.specs.Found.{Found, found_if}
+use Rattle.wire.specs.Found.{found_if}
 use Rattle.wire.specs.Header.{marked, version_of, require_header}
 use Rattle.wire.specs.Layout.{require_item}
 use Rattle.wire.specs.Log.{Head, log_count, read_log_within, read_log, log_item}
@@ -30,7 +31,7 @@ read_log_one file =
     (require_all (require_item_one file) 0 (log_count file)
     (answered (log_count file)))))
 
-abbrev pub log_item_one : List ℕ → ℕ → Found Item
+abbrev pub log_item_one : List ℕ → ℕ → Option Item
 log_item_one file i =
     found_if (leb (7 + 4 * (i + 1)) (length file)) (record { reading = signed 2 (num_at 2 file (7 + 4 * i)); weight = num_at 2 file (7 + 4 * i + 2) })
 

@@ -1,25 +1,13 @@
 -- The rule matrix (R1CS matrix): document 01, "Files", and the rows 1 to 4 and 13 to 15 of its table. p is the modulus.
-use Rattle.std.specs.Prelude.{ℕ, ◌+◌, ◌-◌, ◌*◌, ◌^◌, List, Bool, ◌||◌, ◌&&◌, length, get_or, ltb, leb, eqb}
+use Rattle.std.specs.Prelude.{ℕ, ◌+◌, ◌-◌, ◌*◌, ◌^◌, List, Bool, ◌||◌, ◌&&◌, length, get_or, ltb, leb, eqb, Option}
 use Rattle.refusal.specs.Number as number
 use Rattle.refusal.specs.Limit.{max_rounds}
-use Rattle.refusal.specs.Outcome.{Outcome, answered, refused, refused_at, require, require_at, require_all}
+use Rattle.refusal.specs.Outcome.{Outcome, answered, require, require_at, require_all}
 use Rattle.wire.specs.Number.{num_at}
-use Rattle.wire.specs.Found.{Found, found, nothing, found_if}
+use Rattle.wire.specs.Found.{found_if}
 use Rattle.wire.specs.Header.{require_header}
-use Rattle.wire.specs.declared.matrix.MatrixRead.{MatrixRead}
-use Rattle.wire.specs.declared.matrix.MatrixRead.TheVariants.{Matrix, Refused, RefusedAt}
-use Rattle.wire.specs.declared.matrix.EntryRead.{EntryRead}
-use Rattle.wire.specs.declared.matrix.EntryRead.TheVariants as read
-
--- what reading a matrix answers
-pub record Shape : Type 0 where
-  pub rounds : ℕ
-  pub count : ℕ
-
-pub record Entry : Type 0 where
-  pub row : ℕ
-  pub column : ℕ
-  pub value : ℕ
+pub use Rattle.wire.specs.declared.matrix.Shape.{Shape}
+pub use Rattle.wire.specs.declared.matrix.Entry.{Entry}
 
 -- "byte 5 n"
 abbrev pub matrix_rounds : List ℕ → ℕ
@@ -63,15 +51,5 @@ read_matrix p file =
     (answered (record { rounds = matrix_rounds file; count = matrix_count file })))))
 
 -- entry k where the file has its bytes; whether the file is a good matrix is for read_matrix to say
-unfoldable pub matrix_entry : List ℕ → ℕ → Found Entry
+unfoldable pub matrix_entry : List ℕ → ℕ → Option Entry
 matrix_entry file k = found_if (leb (entry_at (k + 1)) (length file)) (entry file k)
-
--- the code's answers in these terms
-abbrev pub matrix_of : MatrixRead → Outcome Shape
-matrix_of (Matrix rounds count) = answered (record { rounds = rounds; count = count })
-matrix_of (Refused k) = refused k
-matrix_of (RefusedAt k i) = refused_at k i
-
-abbrev pub entry_of : EntryRead → Found Entry
-entry_of (read.Entry row column value) = found (record { row = row; column = column; value = value })
-entry_of read.Nothing = nothing

@@ -1,34 +1,15 @@
 -- The proof file: document 01, "Files", and the rows 1 to 4, 7, 9 and 11 of its table. p is the modulus.
-use Rattle.std.specs.Prelude.{ℕ, zero, suc, ◌+◌, ◌*◌, List, [], ◌∷◌, ◌++◌, Bool, true, cond, ◌&&◌, length, get_or, take, drop, ℤ, ltb, leb, eqb}
+use Rattle.std.specs.Prelude.{ℕ, zero, suc, ◌+◌, ◌*◌, List, [], ◌∷◌, ◌++◌, Bool, true, cond, ◌&&◌, length, get_or, take, drop, ℤ, ltb, leb, eqb, Option}
 use Rattle.refusal.specs.Number as number
 use Rattle.refusal.specs.Limit.{max_rounds}
 use Rattle.refusal.specs.Outcome.{Outcome, answered, refused, refused_at, require}
 use Rattle.field.specs.Total.{in_limits}
 use Rattle.wire.specs.Number.{bytes, num_at, signed, bits}
-use Rattle.wire.specs.Found.{Found, found, nothing, found_if}
+use Rattle.wire.specs.Found.{found_if}
 use Rattle.wire.specs.Header.{require_header}
-use Rattle.wire.specs.declared.proof.ProofRead.{ProofRead}
-use Rattle.wire.specs.declared.proof.ProofRead.TheVariants.{Proof, Refused}
-use Rattle.wire.specs.declared.proof.MessageRead.{MessageRead}
-use Rattle.wire.specs.declared.proof.MessageRead.TheVariants as message
-use Rattle.wire.specs.declared.proof.EndsRead.{EndsRead}
-use Rattle.wire.specs.declared.proof.EndsRead.TheVariants as ends
-use Rattle.wire.specs.declared.proof.ProofWritten.{ProofWritten}
-use Rattle.wire.specs.declared.proof.ProofWritten.TheVariants as write
-
--- what reading a proof answers
-pub record Head : Type 0 where
-  pub rounds : ℕ
-  pub total : ℤ
-
-pub record Message : Type 0 where
-  pub even : ℕ
-  pub cross : ℕ
-  pub odd : ℕ
-
-pub record Ends : Type 0 where
-  pub f : ℕ
-  pub g : ℕ
+pub use Rattle.wire.specs.declared.proof.Head.{Head}
+pub use Rattle.wire.specs.declared.proof.Ends.{Ends}
+pub use Rattle.vector.specs.declared.Message.{Message}
 
 -- "byte 5 n"
 abbrev pub proof_rounds : List ℕ → ℕ
@@ -80,13 +61,13 @@ abbrev pub proof_round : ℕ → List ℕ → ℕ → List ℕ
 proof_round p file round = part_in (read_proof p file) file round
 
 -- "even, cross, odd, four bytes each", where the part has them
-unfoldable pub part_message : List ℕ → Found Message
+unfoldable pub part_message : List ℕ → Option Message
 part_message part =
     found_if (leb 12 (length part))
     (record { even = num_at 4 part 0; cross = num_at 4 part 4; odd = num_at 4 part 8 })
 
 -- the message of a round, where the file has it
-unfoldable pub proof_message : List ℕ → ℕ → Found Message
+unfoldable pub proof_message : List ℕ → ℕ → Option Message
 proof_message file round =
     found_if (leb (message_end round) (length file))
     (record {
@@ -96,7 +77,7 @@ proof_message file round =
     })
 
 -- the end values after n messages, where the file has them
-unfoldable pub proof_ends : List ℕ → Found Ends
+unfoldable pub proof_ends : List ℕ → Option Ends
 proof_ends file =
     found_if (leb (proof_size (proof_rounds file)) (length file))
     (record { f = num_at 4 file (10 + 12 * proof_rounds file); g = num_at 4 file (14 + 12 * proof_rounds file) })
@@ -131,20 +112,3 @@ unfoldable pub written_in : Outcome ℕ → List ℕ → List ℕ → List ℕ
 written_in (answered size) file buffer = file ++ drop size buffer
 written_in (refused k) file buffer = buffer
 written_in (refused_at k i) file buffer = buffer
-
--- the code's answers in these terms
-abbrev pub proof_of : ProofRead → Outcome Head
-proof_of (Proof rounds total) = answered (record { rounds = rounds; total = total })
-proof_of (Refused k) = refused k
-
-abbrev pub message_of : MessageRead → Found Message
-message_of (message.Message even cross odd) = found (record { even = even; cross = cross; odd = odd })
-message_of message.Nothing = nothing
-
-abbrev pub ends_of : EndsRead → Found Ends
-ends_of (ends.Ends f g) = found (record { f = f; g = g })
-ends_of ends.Nothing = nothing
-
-abbrev pub written_of : ProofWritten → Outcome ℕ
-written_of (write.Written size) = answered size
-written_of (write.Refused k) = refused k

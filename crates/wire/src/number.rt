@@ -33,6 +33,7 @@ fn low(v: u32) -> u8
     (v % 256) as u8
 }
 
+#[tactic(auto, unfolding(crate::specs::Number::bytes))]
 pub(crate) fn put32(s: &mut [u8], at: usize, v: u32)
     requires { at + 4 ≤ length s.old }
     ensures { s.new ≡ sets s.old at (bytes 4 v) }
@@ -44,6 +45,7 @@ pub(crate) fn put32(s: &mut [u8], at: usize, v: u32)
 }
 
 // Two's complement: a cast would ask that the number is in the lower half.
+// Apart from `signed32`: over the width as a parameter, half of its range would be a computed constant, which no argument may be.
 #[tactic(auto, unfolding(crate::specs::Number::signed))]
 pub(crate) fn signed16(v: u32) -> i32
     requires { v < 65536 }
@@ -56,6 +58,7 @@ pub(crate) fn signed16(v: u32) -> i32
     }
 }
 
+#[tactic(auto, unfolding(crate::specs::Number::signed))]
 pub(crate) fn signed32(v: u32) -> i32
     ensures { result ≡ signed 4 v }
 {
@@ -67,6 +70,7 @@ pub(crate) fn signed32(v: u32) -> i32
 }
 
 // Two's complement back.
+#[tactic(auto, unfolding(crate::specs::Number::bits))]
 pub(crate) fn bits32(z: i64) -> u32
     requires { nat_abs z ≤ 2147483648 }
     ensures { result ≡ bits 4 z }

@@ -1,97 +1,69 @@
 // The proof of a plain run.
 ghost use Rattle.std.specs.Prelude.{◌≡◌, ◌+◌, ◌*◌, ◌<◌, ◌≤◌, length, get_or, take, nat_abs};
 ghost use Rattle.std.proofs.lemmas.List.Edits.{sets};
-ghost use Rattle.refusal.specs.Check.{passed};
+ghost use Rattle.refusal.specs.Refusal.{outcome};
 ghost use Rattle.field.specs.Modulus.{modulus};
 ghost use Rattle.field.specs.Number.{is_reduced};
-ghost use Rattle.wire.specs.Proof.{all_below, ends_of, message_of, numbers, part_message, proof_ends, proof_file, proof_header, proof_message, proof_number, proof_of, proof_round, proof_size, proof_values, read_proof, read_proof_of, write_proof, written_in, written_of};
+ghost use Rattle.wire.specs.Proof.{all_below, numbers, part_message, proof_ends, proof_file, proof_header, proof_message, proof_number, proof_round, proof_size, proof_values, read_proof, read_proof_of, write_proof, written_in};
 
-use super::header::{marked, versioned};
+use super::header::check_header;
 use super::number::{bits32, get32, put32, signed32};
-use field::{Checked, Field};
-use refusal::{Check, pass_if};
+use field::Field;
+use refusal::{Refusal, require};
+use vector::Message;
 
-#[derive(Clone, Copy)]
-pub enum ProofRead {
-    // A good proof: n and the total.
-    Proof(u32, i64),
-    Refused(u8),
+/// What a good proof says of its run: n and the total.
+#[derive(Clone, Copy, Debug, PartialEq, Eq)]
+pub struct Head {
+    pub rounds: u32,
+    pub total: i64,
 }
 
-#[derive(Clone, Copy)]
-pub enum MessageRead {
-    // Even, cross and odd.
-    Message(u32, u32, u32),
-    Nothing,
+/// The end values.
+#[derive(Clone, Copy, Debug, PartialEq, Eq)]
+pub struct Ends {
+    pub f: u32,
+    pub g: u32,
 }
 
-#[derive(Clone, Copy)]
-pub enum EndsRead {
-    // The end values of f and g.
-    Ends(u32, u32),
-    Nothing,
-}
-
-#[derive(Clone, Copy)]
-pub enum ProofWritten {
-    // How many bytes the file has.
-    Written(usize),
-    Refused(u8),
-}
-
-pub fn read_proof(file: &[u8]) -> ProofRead
-    ensures { proof_of result ≡ read_proof modulus file.now }
+pub fn read_proof(file: &[u8]) -> Result<Head, Refusal>
+    ensures { outcome result ≡ read_proof modulus file.now }
 {
     read_proof_in(field::modulus(), file)
 }
 
 // For a call whose modulus is p.
-pub fn read_proof_in(p: u32, file: &[u8]) -> ProofRead
-    ensures { proof_of result ≡ read_proof p file.now }
+#[tactic(auto, unfolding(crate::specs::Proof::read_proof))]
+pub fn read_proof_in(p: u32, file: &[u8]) -> Result<Head, Refusal>
+    ensures { outcome result ≡ read_proof p file.now }
 {
-    let Check::Passed = marked(file, b'P', 10) else {
-        return ProofRead::Refused(refusal::HEADER);
-    };
-    let Check::Passed = versioned(file) else {
-        return ProofRead::Refused(refusal::VERSION);
-    };
-    let rounds = file[5] as u32;
-    let Check::Passed = pass_if(rounds <= refusal::MAX_ROUNDS) else {
-        return ProofRead::Refused(refusal::COUNT);
-    };
-    let Check::Passed = pass_if(file.len() == proof_size(rounds)) else {
-        return ProofRead::Refused(refusal::SIZE);
-    };
+    check_header(file, b'P', 10)?;
+    let rounds = u32::from(file[5]);
+    require(rounds <= refusal::MAX_ROUNDS, Refusal::Count)?;
+    require(file.len() == proof_size(rounds), Refusal::Size)?;
     let total = field::integer::widen(signed32(get32(file, 6)));
-    let Check::Passed = pass_if(field::total::within(p, total)) else {
-        return ProofRead::Refused(refusal::TOTAL);
-    };
-    let Check::Passed = file_reduced(p, file, 3 * (rounds as usize) + 2) else {
-        return ProofRead::Refused(refusal::NUMBER);
-    };
-    ProofRead::Proof(rounds, total)
+    require(field::total::within(p, total), Refusal::Total)?;
+    require(
+        file_reduced(p, file, 3 * (rounds as usize) + 2),
+        Refusal::Number,
+    )?;
+    Ok(Head { rounds, total })
 }
 
 // For a verifier of `rounds` rounds: its own n is tested before the length.
-pub fn read_proof_of(file: &[u8], rounds: u32) -> ProofRead
-    ensures { proof_of result ≡ read_proof_of modulus rounds file.now }
+pub fn read_proof_of(file: &[u8], rounds: u32) -> Result<Head, Refusal>
+    ensures { outcome result ≡ read_proof_of modulus rounds file.now }
 {
     read_proof_of_in(field::modulus(), file, rounds)
 }
 
-pub fn read_proof_of_in(p: u32, file: &[u8], rounds: u32) -> ProofRead
-    ensures { proof_of result ≡ read_proof_of p rounds file.now }
+#[tactic(auto, unfolding(crate::specs::Proof::read_proof_of))]
+pub fn read_proof_of_in(p: u32, file: &[u8], rounds: u32) -> Result<Head, Refusal>
+    ensures { outcome result ≡ read_proof_of p rounds file.now }
 {
-    let Check::Passed = marked(file, b'P', 10) else {
-        return ProofRead::Refused(refusal::HEADER);
-    };
-    let Check::Passed = versioned(file) else {
-        return ProofRead::Refused(refusal::VERSION);
-    };
-    let n = file[5] as u32;
-    let Check::Passed = pass_if(n == rounds) else {
-        return ProofRead::Refused(refusal::COUNT);
-    };
+    check_header(file, b'P', 10)?;
+    let n = u32::from(file[5]);
+    require(n == rounds, Refusal::Count)?;
     read_proof_in(p, file)
 }
 
@@ -102,38 +74,34 @@ fn proof_size(rounds: u32) -> usize
 }
 
 // 11: a field number.
-fn reduced(p: u32, x: u32) -> Check
-    ensures { passed result ≡ is_reduced p x }
+fn reduced(p: u32, x: u32) -> bool
+    ensures { result ≡ is_reduced p x }
 {
-    let Checked::Number(_) = Field::new_in(p, x) else {
-        return Check::Failed;
-    };
-    Check::Passed
+    Field::new_in(p, x).is_some()
 }
 
 // The first `count` numbers after the header.
-fn file_reduced(p: u32, file: &[u8], count: usize) -> Check
+fn file_reduced(p: u32, file: &[u8], count: usize) -> bool
     requires { 10 + 4 * count ≤ length file.now }
-    ensures { passed result ≡ all_below p (proof_number file.now) count }
+    ensures { result ≡ all_below p (proof_number file.now) count }
 {
-    let mut k: usize = 0;
-    while k < count {
-        let Check::Passed = reduced(p, get32(file, 10 + 4 * k)) else {
-            return Check::Failed;
-        };
-        k += 1;
+    for k in 0..count {
+        if !reduced(p, get32(file, 10 + 4 * k)) {
+            return false;
+        }
     }
-    Check::Passed
+    true
 }
 
 // The twelve bytes of a round as a part of the caller's file; the empty part for a refused file or a round n or more.
+#[tactic(auto, unfolding(crate::specs::Proof::part_in))]
 pub fn proof_round(file: &[u8], round: u32) -> &[u8]
     ensures { result.now ≡ proof_round modulus file.now round }
 {
-    let ProofRead::Proof(rounds, _) = read_proof(file) else {
+    let Ok(head) = read_proof(file) else {
         return &file[..0];
     };
-    if round < rounds {
+    if round < head.rounds {
         let at = 10 + 12 * (round as usize);
         &file[at..at + 12]
     } else {
@@ -142,46 +110,53 @@ pub fn proof_round(file: &[u8], round: u32) -> &[u8]
 }
 
 // The three numbers of a part that proof_round handed back.
-pub fn part_message(part: &[u8]) -> MessageRead
-    ensures { message_of result ≡ part_message part.now }
+#[tactic(auto, unfolding(crate::specs::Proof::part_message))]
+pub fn part_message(part: &[u8]) -> Option<Message>
+    ensures { result ≡ part_message part.now }
 {
-    if 12 <= part.len() {
-        MessageRead::Message(get32(part, 0), get32(part, 4), get32(part, 8))
-    } else {
-        MessageRead::Nothing
+    if part.len() < 12 {
+        return None;
     }
+    Some(Message {
+        even: get32(part, 0),
+        cross: get32(part, 4),
+        odd: get32(part, 8),
+    })
 }
 
 // The message of a round, where the file has its bytes. Only read_proof says whether the file is a good proof.
-pub fn proof_message(file: &[u8], round: u32) -> MessageRead
-    ensures { message_of result ≡ proof_message file.now round }
+#[tactic(auto, unfolding(crate::specs::Proof::proof_message))]
+pub fn proof_message(file: &[u8], round: u32) -> Option<Message>
+    ensures { result ≡ proof_message file.now round }
 {
     let k = 3 * (round as usize);
-    if 22 + 12 * (round as usize) <= file.len() {
-        MessageRead::Message(
-            get32(file, 10 + 4 * k),
-            get32(file, 10 + 4 * (k + 1)),
-            get32(file, 10 + 4 * (k + 2)),
-        )
-    } else {
-        MessageRead::Nothing
+    if file.len() < 22 + 12 * (round as usize) {
+        return None;
     }
+    Some(Message {
+        even: get32(file, 10 + 4 * k),
+        cross: get32(file, 10 + 4 * (k + 1)),
+        odd: get32(file, 10 + 4 * (k + 2)),
+    })
 }
 
 // The end values, where the file has their bytes. Only read_proof says whether the file is a good proof.
-pub fn proof_ends(file: &[u8]) -> EndsRead
-    ensures { ends_of result ≡ proof_ends file.now }
+#[tactic(auto, unfolding(crate::specs::Proof::proof_ends))]
+pub fn proof_ends(file: &[u8]) -> Option<Ends>
+    ensures { result ≡ proof_ends file.now }
 {
     if file.len() < 18 {
-        return EndsRead::Nothing;
+        return None;
     }
-    let rounds = file[5] as u32;
+    let rounds = u32::from(file[5]);
     let n = rounds as usize;
-    if proof_size(rounds) <= file.len() {
-        EndsRead::Ends(get32(file, 10 + 12 * n), get32(file, 14 + 12 * n))
-    } else {
-        EndsRead::Nothing
+    if file.len() < proof_size(rounds) {
+        return None;
     }
+    Some(Ends {
+        f: get32(file, 10 + 12 * n),
+        g: get32(file, 14 + 12 * n),
+    })
 }
 
 // Writes the proof into the first places of `file`. `rounds` is a u32, so that no caller cuts a number over 255 before check 3.
@@ -192,12 +167,13 @@ pub fn write_proof(
     f: u32,
     g: u32,
     file: &mut [u8],
-) -> ProofWritten
-    ensures { (written_of result ≡ write_proof modulus rounds total messages f g file.old) × (file.new ≡ written_in (write_proof modulus rounds total messages f g file.old) (proof_file rounds total (proof_values rounds messages f g)) file.old) }
+) -> Result<usize, Refusal>
+    ensures { (outcome result ≡ write_proof modulus rounds total messages f g file.old) × (file.new ≡ written_in (write_proof modulus rounds total messages f g file.old) (proof_file rounds total (proof_values rounds messages f g)) file.old) }
 {
     write_proof_in(field::modulus(), rounds, total, messages, f, g, file)
 }
 
+#[tactic(auto, unfolding(crate::specs::Proof::write_proof, crate::specs::Proof::written_in))]
 pub fn write_proof_in(
     p: u32,
     rounds: u32,
@@ -206,51 +182,38 @@ pub fn write_proof_in(
     f: u32,
     g: u32,
     file: &mut [u8],
-) -> ProofWritten
-    ensures { (written_of result ≡ write_proof p rounds total messages f g file.old) × (file.new ≡ written_in (write_proof p rounds total messages f g file.old) (proof_file rounds total (proof_values rounds messages f g)) file.old) }
+) -> Result<usize, Refusal>
+    ensures { (outcome result ≡ write_proof p rounds total messages f g file.old) × (file.new ≡ written_in (write_proof p rounds total messages f g file.old) (proof_file rounds total (proof_values rounds messages f g)) file.old) }
 {
-    let Check::Passed = pass_if(rounds <= refusal::MAX_ROUNDS) else {
-        return ProofWritten::Refused(refusal::COUNT);
-    };
-    let Check::Passed = pass_if(field::total::within(p, total)) else {
-        return ProofWritten::Refused(refusal::TOTAL);
-    };
+    require(rounds <= refusal::MAX_ROUNDS, Refusal::Count)?;
+    require(field::total::within(p, total), Refusal::Total)?;
     let n = rounds as usize;
-    let Check::Passed = values_reduced(p, messages, 3 * n) else {
-        return ProofWritten::Refused(refusal::NUMBER);
-    };
-    let Check::Passed = reduced(p, f) else {
-        return ProofWritten::Refused(refusal::NUMBER);
-    };
-    let Check::Passed = reduced(p, g) else {
-        return ProofWritten::Refused(refusal::NUMBER);
-    };
+    require(values_reduced(p, messages, 3 * n), Refusal::Number)?;
+    require(reduced(p, f), Refusal::Number)?;
+    require(reduced(p, g), Refusal::Number)?;
     let size = proof_size(rounds);
-    let Check::Passed = pass_if(size <= file.len()) else {
-        return ProofWritten::Refused(refusal::BUFFER);
-    };
+    require(size <= file.len(), Refusal::Buffer)?;
     put_header(file, rounds as u8, total);
     put_numbers(file, 10, messages, 3 * n);
     put32(file, 10 + 12 * n, f);
     put32(file, 14 + 12 * n, g);
-    ProofWritten::Written(size)
+    Ok(size)
 }
 
 // The first `count` of the values.
-fn values_reduced(p: u32, values: [u32; 45], count: usize) -> Check
+fn values_reduced(p: u32, values: [u32; 45], count: usize) -> bool
     requires { count ≤ 45 }
-    ensures { passed result ≡ all_below p (λ k. get_or values k 0) count }
+    ensures { result ≡ all_below p (λ k. get_or values k 0) count }
 {
-    let mut k: usize = 0;
-    while k < count {
-        let Check::Passed = reduced(p, values[k]) else {
-            return Check::Failed;
-        };
-        k += 1;
+    for k in 0..count {
+        if !reduced(p, values[k]) {
+            return false;
+        }
     }
-    Check::Passed
+    true
 }
 
+#[tactic(auto, unfolding(crate::specs::Proof::proof_header, crate::specs::Number::bytes))]
 fn put_header(file: &mut [u8], rounds: u8, total: i64)
     requires { (10 ≤ length file.old) × (nat_abs total ≤ 2147483648) }
     ensures { file.new ≡ sets file.old 0 (proof_header rounds total) }
@@ -264,13 +227,12 @@ fn put_header(file: &mut [u8], rounds: u8, total: i64)
     put32(file, 6, bits32(total));
 }
 
+#[tactic(auto, unfolding(crate::specs::Proof::numbers))]
 fn put_numbers(file: &mut [u8], at: usize, values: [u32; 45], count: usize)
     requires { (count ≤ 45) × (at + 4 * count ≤ length file.old) }
     ensures { file.new ≡ sets file.old at (numbers (take count values)) }
 {
-    let mut k: usize = 0;
-    while k < count {
+    for k in 0..count {
         put32(file, at + 4 * k, values[k]);
-        k += 1;
     }
 }

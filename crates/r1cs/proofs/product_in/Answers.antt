@@ -1,28 +1,22 @@
 use mathlib.Core.Path.{◌≡◌, sym, ap, ◌∙◌}
-use Rattle.refusal.specs.Outcome.{answered}
-use Rattle.wire.specs.Matrix.{Shape, matrix_of, read_matrix}
-use Rattle.r1cs.specs.Product.{after_shape, product_in}
-use Rattle.r1cs.proofs.ProductRows.{left-refused, left-refused-at}
+use mathlib.Core.Bool.{true}
+use Prim.Native.Nat.{◌≤◌}
+use native.Mathlib.Omega.{arith}
+use lib.ListN.{length}
+use Rattle.std.proofs.lemmas.Grind.{common_steps}
+use Rattle.refusal.specs.Refusal.{outcome}
+use Rattle.r1cs.specs.Product.{rule_vector}
+use Rattle.r1cs.proofs.Vectors.{vector-of}
+use Rattle.r1cs.proofs.ProductRows.{size-read, fits-of}
 use Rattle.r1cs.proofs.product_in.Goals as goal
 
-pub multiply-requires : goal.multiply-requires
-multiply-requires c = sym c.read_matrix_in.ensures ∙ ap matrix_of c.in-Matrix.is
-
-pub returns-in-Matrix : goal.returns-in-Matrix
-returns-in-Matrix c =
+pub sum_rows-requires : goal.sum_rows-requires
+sum_rows-requires c =
     let s = c.args in
-    let shape : Shape = record { rounds = c.in-Matrix.rounds; count = c.in-Matrix.count } in
-    let read : read_matrix s.p s.matrix.now ≡ answered shape = sym c.read_matrix_in.ensures ∙ ap matrix_of c.in-Matrix.is in
-    (c.multiply.ensures.0 ∙ ap (after_shape s.p s.z.now s.out.now) (sym read), c.multiply.ensures.1 ∙ ap (λ o. product_in s.p s.matrix.now s.z.now s.out.now (after_shape s.p s.z.now s.out.now o)) (sym read))
-
-pub returns-in-Refused : goal.returns-in-Refused
-unfolding after_shape
-returns-in-Refused c =
-    let s = c.args in
-    left-refused s.p s.matrix.now s.z.now s.out.now _ c.in-Refused.k (ap (after_shape s.p s.z.now s.out.now) (sym c.read_matrix_in.ensures ∙ ap matrix_of c.in-Refused.is))
-
-pub returns-in-RefusedAt : goal.returns-in-RefusedAt
-unfolding after_shape
-returns-in-RefusedAt c =
-    let s = c.args in
-    left-refused-at s.p s.matrix.now s.z.now s.out.now _ c.in-RefusedAt.k c.in-RefusedAt.i (ap (after_shape s.p s.z.now s.out.now) (sym c.read_matrix_in.ensures ∙ ap matrix_of c.in-RefusedAt.is))
+    let shape = c.in_ok-shape.shape in
+    let m = c.size_of-size.result in
+    let read = sym c.read_matrix_in.ensures ∙ ap outcome c.in_ok-shape.was in
+    let a : rule_vector s.p m s.z.now ≡ true = grind (arith, common_steps) in
+    let b : m ≤ length s.out.now = grind (arith, common_steps) in
+    fits-of s.p s.matrix.now shape read m s.z.now s.out.now (c.size_of-size.ensures ∙ size-read s.p s.matrix.now shape read)
+    (vector-of s.p m s.z.now a).long b

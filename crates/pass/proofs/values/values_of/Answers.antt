@@ -1,11 +1,7 @@
-use borrow.Author.Tests.{le-ltb, lt-ltb}
+use borrow.Author.Tests.{le-ltb}
 use Rattle.pass.specs.Values.{values_of}
 use Rattle.pass.proofs.OpeningValues.{both_stored}
 use Rattle.pass.proofs.values.values_of.Goals as goal
-
-pub returns-then-rounds-gt-MAX_ROUNDS : goal.returns-then-rounds-gt-MAX_ROUNDS
-unfolding values_of
-returns-then-rounds-gt-MAX_ROUNDS c = rw (lt-ltb _ _ c.if-rounds-gt-MAX_ROUNDS.true)
 
 pub returns : goal.returns
 unfolding values_of

@@ -1,55 +1,18 @@
-use mathlib.Core.Path.{sym, ap, ◌∙◌}
-use Rattle.refusal.specs.Check.{passed}
-use Rattle.phase.specs.declared.Next.TheVariants as next
-use Rattle.phase.specs.Turn.{full_turn}
-use Rattle.pass.specs.Lent.{good_in, lent_in}
-use Rattle.prover.specs.Records.{leaves}
-use Rattle.prover.specs.Full.{ends_turn, ends_given, ends_call}
+use mathlib.Core.Path.{◌≡◌}
+use mathlib.Core.Bool.{true}
+use borrow.Author.Rules.{rules}
+use Rattle.refusal.specs.Outcome.{answered}
+use Rattle.pass.specs.Lent.{good_in}
+use Rattle.prover.specs.Level.{stage_of}
+use Rattle.prover.specs.Full.{ends_turn}
 use Rattle.prover.proofs.FullFacts.{both-there}
-use Rattle.prover.proofs.FullOutcomes.{good-long, read_turn, read_refused, read_given}
+use Rattle.prover.proofs.FullOutcomes.{good-long}
 use Rattle.prover.proofs.Run.ends.Goals as goal
-
-pub returns-in_default : goal.returns-in_default
-unfolding ends_call
-returns-in_default c =
-    let s = c.args in
-    let P = c.modulus_of-p.result in
-    let f = s.f.now in
-    let g = s.g.now in
-    let turn = (ap (λ w. full_turn w s.self.mode next.Ends s.self.next) (sym c.well_formed-well.ensures) ∙ sym c.full_next.ensures) ∙ ap passed c.in_default.is in
-    let same = ap (λ p. leaves s.self s.pass f g (ends_call p s.self s.pass f g)) c.modulus_of-p.ensures in
-    rw c.refuse.ensures (sym (read_turn P s.self s.pass f g (ends_turn P s.self s.pass) (ends_given s.self s.pass f g) turn) ∙ same)
 
 pub give_ends-requires : goal.give_ends-requires
 give_ends-requires c =
     let s = c.args in
     let P = c.modulus_of-p.result in
-    let f = s.f.now in
-    let g = s.g.now in
-    let turn = (ap (λ w. full_turn w s.self.mode next.Ends s.self.next) (sym c.well_formed-well.ensures) ∙ sym c.full_next.ensures) ∙ ap passed c.in-Passed.is in
-    let good = ap (λ w. good_in P w f g) (sym c.stage_of.ensures) ∙ sym c.both_good.ensures in
-    both-there P s.self s.pass f g turn (good-long P s.self s.pass f g (good ∙ ap lent_in c.in-Good.is))
-
-pub returns-in-Good : goal.returns-in-Good
-unfolding ends_call
-returns-in-Good c =
-    let s = c.args in
-    let P = c.modulus_of-p.result in
-    let f = s.f.now in
-    let g = s.g.now in
-    let turn = (ap (λ w. full_turn w s.self.mode next.Ends s.self.next) (sym c.well_formed-well.ensures) ∙ sym c.full_next.ensures) ∙ ap passed c.in-Passed.is in
-    let same = ap (λ p. leaves s.self s.pass f g (ends_call p s.self s.pass f g)) c.modulus_of-p.ensures in
-    let good = ap (λ w. good_in P w f g) (sym c.stage_of.ensures) ∙ sym c.both_good.ensures in
-    c.give_ends.ensures ∙ sym (read_given P s.self s.pass f g (ends_turn P s.self s.pass) (ends_given s.self s.pass f g) turn (good ∙ ap lent_in c.in-Good.is)) ∙ same
-
-pub returns-in-Refused : goal.returns-in-Refused
-unfolding ends_call
-returns-in-Refused c =
-    let s = c.args in
-    let P = c.modulus_of-p.result in
-    let f = s.f.now in
-    let g = s.g.now in
-    let turn = (ap (λ w. full_turn w s.self.mode next.Ends s.self.next) (sym c.well_formed-well.ensures) ∙ sym c.full_next.ensures) ∙ ap passed c.in-Passed.is in
-    let same = ap (λ p. leaves s.self s.pass f g (ends_call p s.self s.pass f g)) c.modulus_of-p.ensures in
-    let good = ap (λ w. good_in P w f g) (sym c.stage_of.ensures) ∙ sym c.both_good.ensures in
-    rw c.refuse-in-Refused.ensures (sym (read_refused P s.self s.pass f g (ends_turn P s.self s.pass) (ends_given s.self s.pass f g) turn _ (good ∙ ap lent_in c.in-Refused.is)) ∙ same)
+    let turn : ends_turn P s.self s.pass ≡ true = search rules in
+    let good : good_in P (stage_of s.self) s.f.now s.g.now ≡ answered tt = search rules in
+    both-there P s.self s.pass s.f.now s.g.now turn (good-long P s.self s.pass s.f.now s.g.now good)

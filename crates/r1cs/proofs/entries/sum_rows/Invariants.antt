@@ -1,5 +1,4 @@
 use mathlib.Core.Path.{◌≡◌}
-use Prim.Native.Nat.{◌≤◌, ◌-◌}
 use lib.ListN.{length}
 use Rattle.vector.specs.Vector.{at}
 use Rattle.vector.specs.Slice.{overwrite}
@@ -8,7 +7,4 @@ use Rattle.r1cs.proofs.entries.sum_rows.Given as goal
 
 -- The loop's invariant: the first places are the product of the matrix of the first k entries.
 abbrev pub invariant-loop-k : goal.invariant-loop-k
-invariant-loop-k l = (l.k ≤ l.count) × (length l.out ≡ length l.initial.out) × (l.out ≡ overwrite (first_times l.p l.size l.matrix (at l.z) l.k) l.size l.initial.out)
-
-abbrev pub decreases-loop-k : goal.decreases-loop-k
-decreases-loop-k l = l.count - l.k
+invariant-loop-k l = (length l.out ≡ length l.initial.out) × (l.out ≡ overwrite (first_times l.p l.size l.matrix (at l.z) l.k) l.size l.initial.out)

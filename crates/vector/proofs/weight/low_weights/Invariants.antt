@@ -1,12 +1,9 @@
 use mathlib.Core.Path.{◌≡◌}
-use Prim.Native.Nat.{◌≤◌, ◌-◌, min}
+use Prim.Native.Nat.{min}
 use lib.ListN.{replicate}
 use Rattle.vector.specs.Vector.{at, weight}
 use Rattle.vector.specs.Slice.{overwrite}
 use Rattle.vector.proofs.weight.low_weights.Given as goal
 
 abbrev pub invariant-loop-i : goal.invariant-loop-i
-invariant-loop-i l = (l.i ≤ 16) × (l.out ≡ overwrite (weight l.p (at l.cs) (min l.n 15)) l.i (replicate 16 0))
-
-abbrev pub decreases-loop-i : goal.decreases-loop-i
-decreases-loop-i l = 16 - l.i
+invariant-loop-i l = l.out ≡ overwrite (weight l.p (at l.cs) (min l.n 15)) l.i (replicate 16 0)

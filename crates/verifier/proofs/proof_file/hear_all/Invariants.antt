@@ -1,10 +1,6 @@
 use mathlib.Core.Path.{◌≡◌}
-use Prim.Native.Nat.{◌-◌, ◌≤◌}
 use Rattle.verifier.specs.ProofFile.{file_message, hears_first}
 use Rattle.verifier.proofs.proof_file.hear_all.Given as goal
 
 abbrev pub invariant-loop-k : goal.invariant-loop-k
-invariant-loop-k l = (l.k ≤ l.n) × (l.heard ≡ hears_first l.p l.initial.heard (file_message l.file) l.k)
-
-abbrev pub decreases-loop-k : goal.decreases-loop-k
-decreases-loop-k l = l.n - l.k
+invariant-loop-k l = l.heard ≡ hears_first l.p l.initial.heard (file_message l.file) l.k

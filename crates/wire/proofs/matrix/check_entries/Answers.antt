@@ -1,62 +1,28 @@
-use Rattle.refusal.proofs.Outcome.{all_start, all-stop, all_pass, all_end}
-use Rattle.wire.proofs.Told.{told}
-use Prim.Native.Nat.{◌^◌}
-use mathlib.Core.Path.{sym, ap, ◌∙◌}
-use native.Mathlib.Omega.{arith}
+use mathlib.Core.Path.{◌≡◌, sym, ap, ◌∙◌}
+use borrow.Author.Rules.{rules}
+use Rattle.std.specs.Prelude.{Err}
+use Rattle.refusal.specs.Refusal.{outcome}
+use Rattle.refusal.proofs.Outcome.{all_start, all-stop, all_pass, all_end, one_passed, one_stopped}
+use Rattle.wire.specs.Matrix.{require_entry}
+use Rattle.wire.proofs.Entries.{entry_alone}
 use Rattle.wire.proofs.matrix.check_entries.Goals as goal
 
-pub two_to-size-requires : goal.two_to-size-requires
-two_to-size-requires c = omega arith
-
 pub loop-k-init : goal.loop-k-init
-loop-k-init c = (omega arith, c.two_to-size.ensures, all_start _ _ _)
+loop-k-init c = all_start _ _ _
 
-pub placed-requires : goal.placed-requires
-placed-requires c = omega arith
-
-pub overflow_cast-result : goal.overflow_cast-result
-overflow_cast-result c = omega arith
-
-pub returns-in_default : goal.returns-in_default
-returns-in_default c =
-    let s = c.loop-k.invariant.1 ∙ ap (λ n. 2 ^ n) c.requires.0 in
-    all-stop _ c.loop-k.k _ _ c.loop-k-test.true c.loop-k.invariant.2 (λ later. simp (← s, told c.in_default.is c.placed.ensures))
-
-pub sorted-requires : goal.sorted-requires
-sorted-requires c = omega arith
-
-pub overflow_cast-result-in_default-sorted : goal.overflow_cast-result-in_default-sorted
-overflow_cast-result-in_default-sorted c = omega arith
-
-pub returns-in_default-sorted : goal.returns-in_default-sorted
-returns-in_default-sorted c =
-    let s = c.loop-k.invariant.1 ∙ ap (λ n. 2 ^ n) c.requires.0 in
-    all-stop _ c.loop-k.k _ _ c.loop-k-test.true c.loop-k.invariant.2 (λ later. simp (← s, told c.in-Passed.is c.placed.ensures, told c.in_default-sorted.is c.sorted.ensures))
-
-pub valued-requires : goal.valued-requires
-valued-requires c = omega arith
-
-pub overflow_cast-result-in_default-valued : goal.overflow_cast-result-in_default-valued
-overflow_cast-result-in_default-valued c = omega arith
-
-pub returns-in_default-valued : goal.returns-in_default-valued
-returns-in_default-valued c =
-    let s = c.loop-k.invariant.1 ∙ ap (λ n. 2 ^ n) c.requires.0 in
-    all-stop _ c.loop-k.k _ _ c.loop-k-test.true c.loop-k.invariant.2 (λ later. simp (← s, told c.in-Passed.is c.placed.ensures, told c.in-Passed-sorted.is c.sorted.ensures, told c.in_default-valued.is c.valued.ensures))
-
-pub overflow_add-k : goal.overflow_add-k
-overflow_add-k c = omega arith
-
-pub loop-k-smaller : goal.loop-k-smaller
-loop-k-smaller c = omega arith
+pub returns-in_err-check_entry : goal.returns-in_err-check_entry
+returns-in_err-check_entry c =
+    let s = c.args in
+    let l = c.loop-k in
+    let e = c.in_err-check_entry.field-0.0 in
+    let r : c.from_residual.result ≡ Err e = search rules in
+    ap outcome r ∙ all-stop _ l.k _ _ c.loop-k-test.true l.invariant (λ later. one_stopped (λ A. require_entry {A = A} s.p s.file.now) (λ A k. entry_alone s.p s.file.now k A) l.k e later (sym c.check_entry.ensures ∙ ap outcome c.in_err-check_entry.was))
 
 pub loop-k-preserved : goal.loop-k-preserved
 loop-k-preserved c =
-    let s = c.loop-k.invariant.1 ∙ ap (λ n. 2 ^ n) c.requires.0 in (
-      omega arith,
-      c.loop-k.invariant.1,
-      all_pass _ c.loop-k.k _ _ c.loop-k-test.true c.loop-k.invariant.2 (λ later. simp (← s, told c.in-Passed.is c.placed.ensures, told c.in-Passed-sorted.is c.sorted.ensures, told c.in-Passed-valued.is c.valued.ensures)),
-    )
+    let s = c.args in
+    let l = c.loop-k in
+    all_pass _ l.k _ _ c.loop-k-test.true l.invariant (λ later. one_passed (λ A. require_entry {A = A} s.p s.file.now) (λ A k. entry_alone s.p s.file.now k A) l.k c.in_ok-check_entry.field-0 later (sym c.check_entry.ensures ∙ ap outcome c.in_ok-check_entry.was))
 
 pub returns : goal.returns
-returns c = sym (all_end _ _ _ _ c.loop-k-test.false) ∙ c.loop-k.invariant.2
+returns c = sym (all_end _ _ _ _ c.loop-k-test.false) ∙ c.loop-k.invariant

@@ -1,4 +1,0 @@
-pub mod BlockArms
-pub mod Dispatch
-pub mod QueryArms
-pub mod Three
