@@ -77,3 +77,23 @@ module _ (r : ℤ) (w : ℕ) (fr : SFits w32 r) (fw : Fits w16 w) where
 
 pub sum_fits : (t z : ℤ) → nat_abs t ≤ 2 ^ 62 → nat_abs z ≤ 2 ^ 61 → SFits w64 (t +ℤ z)
 sum_fits t z h k = small_fits _ (omega (arith, nat_abs_add t z))
+
+-- the two tests of a limit m
+pub over_limit : (m : ℕ) (z : ℤ) → lt_z (pos m) z ≡ true → leb (nat_abs z) m ≡ false
+over_limit m (pos n) h = lt-leb n m (ltb-true m n h)
+over_limit m (negsuc n) h = absurd (true≢false (sym h))
+
+pub under-limit : (m : ℕ) (z : ℤ) → lt_z z (neg_ℤ (pos m)) ≡ true → leb (nat_abs z) m ≡ false
+under-limit zero (pos n) h = let l = ltb-true n 0 h in absurd (omega arith)
+under-limit zero (negsuc n) h = lt-leb (suc n) 0 (omega arith)
+under-limit (suc m) (pos n) h = absurd (true≢false (sym h))
+under-limit (suc m) (negsuc n) h = lt-leb (suc n) (suc m) (omega (arith, ltb-true m n h))
+
+pub between-limits : (m : ℕ) (z : ℤ) → lt_z (pos m) z ≡ false → lt_z z (neg_ℤ (pos m)) ≡ false → leb (nat_abs z) m ≡ true
+between-limits m (pos n) h l = le-leb n m (ltb-false m n h)
+between-limits zero (negsuc n) h l = absurd (true≢false l)
+between-limits (suc m) (negsuc n) h l = le-leb (suc n) (suc m) (omega (arith, ltb-false m n l))
+
+pub minus-fits : (m : ℕ) → m < 2 ^ 63 → SFits w64 (neg_ℤ (pos m))
+minus-fits zero h = record { sfits = omega arith }
+minus-fits (suc m) h = record { sfits = omega arith }

@@ -13,7 +13,7 @@ use Rattle.kernel.specs.declared.Evals.{Evals}
 use Rattle.kernel.specs.declared.Kernel.{Kernel}
 use Rattle.vector.specs.declared.Message.{Message as Sums}
 use Rattle.kernel.specs.declared.Climber.{Climber}
-use Rattle.kernel.specs.Kernel.{StackArrays, stacks_in, sums_in, kernel_with, stepped, arrived, raised, may_rise, climb_from, evaluated_from, climber₀, climbed, evaluated, settled, sums_after, fits, climber_in, settled_in, sums_with, evals_in, entered, streamed}
+use Rattle.kernel.specs.Kernel.{StackArrays, stacks_in, sums_in, kernel_with, stepped, arrived, no_points, raised, may_rise, climb_from, evaluated_from, climber₀, climbed, evaluated, settled, sums_after, fits, climber_in, settled_in, sums_with, evals_in, entered, streamed}
 use Rattle.kernel.specs.Change.{left, put_in, Placed, placed_of, placed_at, placed, placed_all}
 use Rattle.kernel.proofs.KernelSteps.{stays, rises, evaluation_stays, evaluation_rises, fits-so}
 
@@ -84,6 +84,32 @@ module _ (p : ℕ) (at : Points) (off : at.on ≡ false) where
     pub evaluated-off : (count f g : ℕ) (e : Evals) → evaluated p cs last at ls fv gv count f g e ≡ e
     unfolding evaluated
     evaluated-off count f g e = from-off count (climber₀ count f g) e
+
+  pub entered-off : (cs : List ℕ) (last : ℕ) (k : Kernel) (f g : ℕ) → (entered p cs last at k f g).evals ≡ k.evals
+  unfolding entered
+  entered-off cs last k f g = go (fits last k)
+    where
+      go : (b : Bool)
+          → (cond b (kernel_with (settled_in last k (climber_in p cs last k f g)) (sums_with p last k (climber_in p cs last k f g)) (evals_in p cs last at k f g)) k).evals ≡ k.evals
+      go true = evaluated-off cs last k.flevels k.fvalues k.gvalues k.fcount f g k.evals
+      go false = refl
+
+-- with whatever points
+off_same : (p : ℕ) (at at' : Points) → at.on ≡ false → at'.on ≡ false → (cs : List ℕ) (last : ℕ) (k : Kernel) (f g : ℕ)
+    → entered p cs last at k f g ≡ entered p cs last at' k f g
+unfolding entered
+off_same p at at' off off' cs last k f g =
+    ap (λ e. cond (fits last k) (kernel_with (settled_in last k (climber_in p cs last k f g)) (sums_with p last k (climber_in p cs last k f g)) e) k)
+    (evaluated-off p at off cs last k.flevels k.fvalues k.gvalues k.fcount f g k.evals
+    ∙ sym (evaluated-off p at' off' cs last k.flevels k.fvalues k.gvalues k.fcount f g k.evals))
+
+pub streamed-off : (p : ℕ) (at : Points) → at.on ≡ false → (cs : List ℕ) (last : ℕ) (f g : Vector) (m : ℕ) (k : Kernel)
+    → streamed p cs last no_points f g m k ≡ streamed p cs last at f g m k
+unfolding streamed
+streamed-off p at off cs last f g zero k = refl
+streamed-off p at off cs last f g (suc m) k =
+    streamed-off p at off cs last f g m (entered p cs last no_points k (f m) (g m))
+    ∙ ap (streamed p cs last at f g m) (off_same p no_points at refl off cs last k (f m) (g m))
 
 -- WHERE NOTHING FITS nothing enters
 module _ (p : ℕ) (cs : List ℕ) (last : ℕ) where

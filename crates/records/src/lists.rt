@@ -4,14 +4,15 @@ ghost use Rattle.records.specs.Lists.{no_lists, numbers_in, saying, pushes, lend
 
 use super::parts::{first, rest};
 use super::{Fault, Record};
-use arrayvec::ArrayVec;
 
-// How many first places of each buffer are lent; the scratch list, and how many of its first numbers are opening values.
-#[derive(Drop)]
+// How many first places of each buffer are lent; the scratch list, how many numbers it has, and how many first ones are opening values.
+// An array and a count, since a tool may copy what it keeps: an `ArrayVec` is no `Copy`.
+#[derive(Clone, Copy)]
 pub struct Lists {
     pub flent: usize,
     pub glent: usize,
-    pub scratch: ArrayVec<u32, 128>,
+    pub scratch: [u32; 128],
+    pub held: usize,
     pub opened: usize,
 }
 
@@ -22,7 +23,8 @@ impl Lists {
         Lists {
             flent: 0,
             glent: 0,
-            scratch: ArrayVec::new(),
+            scratch: [0; 128],
+            held: 0,
             opened: 0,
         }
     }
@@ -31,21 +33,21 @@ impl Lists {
     pub fn numbers(&self) -> &[u32]
         ensures { result.now ≡ numbers_in self.now }
     {
-        self.scratch.as_slice()
+        numbers(self.held, &self.scratch)
     }
 
     // Whether the scratch list has as many numbers as a and b together.
     pub fn has(&self, a: u32, b: u32) -> bool
         ensures { result ≡ leb (a + b) (length (numbers_in self.now)) }
     {
-        (a as usize) + (b as usize) <= self.numbers().len()
+        has(self.held, &self.scratch, a, b)
     }
 
     // So many of the scratch list's numbers after the first ones, as far as there are.
     pub fn part(&self, from: u32, count: u32) -> &[u32]
         ensures { result.now ≡ take count (drop from (numbers_in self.now)) }
     {
-        first(count as usize, rest(from as usize, self.numbers()))
+        part(self.held, &self.scratch, from, count)
     }
 
     // Ops 1 to 4, and 41.
@@ -56,7 +58,7 @@ impl Lists {
     {
         match r.op {
             1 => {
-                self.scratch.clear();
+                self.held = 0;
                 Ok(())
             }
             2 => self.push(r.a),
@@ -70,10 +72,11 @@ impl Lists {
     fn push(&mut self, a: u32) -> Result<(), Fault>
         ensures { saying self.new result ≡ pushes self.old a }
     {
-        if self.scratch.is_full() {
+        if self.held >= 128 {
             return Err(Fault::Full);
         }
-        self.scratch.push(a);
+        self.scratch[self.held] = a;
+        self.held += 1;
         Ok(())
     }
 
@@ -98,6 +101,27 @@ impl Lists {
         self.opened = a as usize;
         Ok(())
     }
+}
+
+// The numbers of a scratch list of any length.
+pub fn numbers(held: usize, scratch: &[u32]) -> &[u32]
+    ensures { result.now ≡ take held scratch.now }
+{
+    first(held, scratch)
+}
+
+// Whether it has as many numbers as a and b together.
+pub fn has(held: usize, scratch: &[u32], a: u32, b: u32) -> bool
+    ensures { result ≡ leb (a + b) (length (take held scratch.now)) }
+{
+    (a as usize) + (b as usize) <= numbers(held, scratch).len()
+}
+
+// So many of its numbers after the first ones, as far as there are.
+pub fn part(held: usize, scratch: &[u32], from: u32, count: u32) -> &[u32]
+    ensures { result.now ≡ take count (drop from (take held scratch.now)) }
+{
+    first(count as usize, rest(from as usize, numbers(held, scratch)))
 }
 
 // Place b of f or g becomes c.

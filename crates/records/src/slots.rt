@@ -1,13 +1,15 @@
 // Eight slots of up to 256 bytes each.
-ghost use Rattle.std.specs.Prelude.{◌≡◌};
-ghost use Rattle.records.specs.Slots.{no_slots, slot_in, saying, fills};
+ghost use Rattle.std.specs.Prelude.{◌≡◌, ◌<◌, ◌*◌, get_or, take, drop};
+ghost use Rattle.records.specs.Slots.{slot_room, no_slots, slot_in, saying, appends, fills};
 
+use super::parts::{first, rest};
 use super::{Fault, Record};
-use arrayvec::ArrayVec;
 
-#[derive(Drop)]
+// The slots one after the other, and how many bytes each has: arrays, since a tool may copy what it keeps (`Lists`).
+#[derive(Clone, Copy)]
 pub struct Slots {
-    pub bytes: [ArrayVec<u8, 256>; 8],
+    pub bytes: [u8; 2048],
+    pub sizes: [usize; 8],
 }
 
 impl Slots {
@@ -15,7 +17,8 @@ impl Slots {
         ensures { result ≡ no_slots }
     {
         Slots {
-            bytes: Default::default(),
+            bytes: [0; 2048],
+            sizes: [0; 8],
         }
     }
 
@@ -23,10 +26,7 @@ impl Slots {
     pub fn slot(&self, k: u32) -> &[u8]
         ensures { result.now ≡ slot_in k self.now }
     {
-        match self.bytes.get(k as usize) {
-            Some(slot) => slot.as_slice(),
-            None => &[],
-        }
+        slot(&self.bytes, &self.sizes, k)
     }
 
     // Ops 60 and 61.
@@ -39,14 +39,42 @@ impl Slots {
         let at = r.a as usize;
         match r.op {
             60 => {
-                self.bytes[at].clear();
+                self.sizes[at] = 0;
                 Ok(())
             }
-            61 => {
-                let byte = u8::try_from(r.b).map_err(|_| Fault::Bad)?;
-                self.bytes[at].try_push(byte).map_err(|_| Fault::Full)
-            }
+            61 => self.append(at, r.b),
             _ => Err(Fault::Bad),
         }
     }
+
+    fn append(&mut self, slot: usize, byte: u32) -> Result<(), Fault>
+        requires { slot < 8 }
+        ensures { saying self.new result ≡ appends self.old slot byte }
+    {
+        let byte = u8::try_from(byte).map_err(|_| Fault::Bad)?;
+        let size = self.sizes[slot];
+        if size >= 256 {
+            return Err(Fault::Full);
+        }
+        self.bytes[slot * 256 + size] = byte;
+        self.sizes[slot] = size + 1;
+        Ok(())
+    }
+}
+
+// How many bytes slot k has; none where there is no such slot.
+fn size_of(sizes: &[usize], k: u32) -> usize
+    ensures { result ≡ get_or sizes.now k 0 }
+{
+    match sizes.get(k as usize) {
+        Some(size) => *size,
+        None => 0,
+    }
+}
+
+// The bytes of slot k of any bytes and sizes, as far as there are.
+pub fn slot<'a>(bytes: &'a [u8], sizes: &'a [usize], k: u32) -> &'a [u8]
+    ensures { result.now ≡ take (get_or sizes.now k 0) (drop (k * slot_room) bytes.now) }
+{
+    first(size_of(sizes, k), rest((k as usize) * 256, bytes))
 }

@@ -1,7 +1,8 @@
-// Why a call is refused, and the limits of documents 01 and 02. specs/ has the same names; `number`, `index` and `limits` tie the two.
+// Why a call is refused, and the limits of documents 01 and 02. specs/ has the same names; `number`, `index`, `numbers` and `limits` tie the two.
 #![tactic(auto)]
 
 ghost use Rattle.std.specs.Prelude.{◌≡◌};
+ghost use Rattle.refusal.specs.Number as number;
 ghost use Rattle.refusal.specs.Limit as limit;
 ghost use Rattle.refusal.specs.Refusal.{number_of, index_of, required};
 
@@ -106,6 +107,32 @@ pub const MAX_FINE: u32 = 1000000;
 
 // The least total is its negative.
 pub const MAX_TOTAL: u32 = 1073741823;
+
+// Every refusal number, in the table's order; those with an index have one number at each.
+pub fn numbers() -> [u8; 18]
+    ensures { result ≡ number.numbers }
+{
+    [
+        Refusal::Header.number(),
+        Refusal::Version.number(),
+        Refusal::Count.number(),
+        Refusal::Size.number(),
+        Refusal::Weight(0).number(),
+        Refusal::Argument.number(),
+        Refusal::Total.number(),
+        Refusal::Items.number(),
+        Refusal::Buffer.number(),
+        Refusal::Order.number(),
+        Refusal::Number.number(),
+        Refusal::Turn.number(),
+        Refusal::Place(0).number(),
+        Refusal::Sorted(0).number(),
+        Refusal::Value(0).number(),
+        Refusal::Vector.number(),
+        Refusal::Logs.number(),
+        Refusal::Reading(0).number(),
+    ]
+}
 
 pub fn limits() -> [u32; 6]
     ensures { result ≡ limit.limits }

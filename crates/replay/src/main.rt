@@ -48,7 +48,7 @@ fn main(rt: HostRuntime) -> io::Result<()> {
 }
 
 // The two buffers, the lists, the slots and the proof file; at most one run with its pass, and at most one verifier.
-#[derive(Drop)]
+#[derive(Clone, Copy)]
 pub struct Held {
     pub f: [u32; 4096],
     pub g: [u32; 4096],

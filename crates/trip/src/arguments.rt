@@ -1,5 +1,7 @@
 // The program's arguments: none, `full`, `change K` or `modes WORD`. By hand and not by `clap`, which passes over a word `--` that is
 // refused here, takes no word that is not text, and allocates: this program stays within fixed memory (docs/EMBED.md).
+ghost use Rattle.std.specs.Prelude.{◌≤◌, IfOk, IfSome, length};
+
 use super::modes;
 use std::env::{Env, FillError};
 use thiserror::Error;
@@ -28,7 +30,9 @@ pub(crate) fn read<R: Env>(rt: &R) -> Result<[u8; 17], Usage> {
 }
 
 // At the start of the buffer. One that does not fit is no mode.
-fn argument<'a, R: Env>(rt: &R, i: usize, buffer: &'a mut [u8]) -> Result<Option<&'a [u8]>, Usage> {
+fn argument<'a, R: Env>(rt: &R, i: usize, buffer: &'a mut [u8]) -> Result<Option<&'a [u8]>, Usage>
+    ensures { IfOk result (λ found. IfSome found (λ word. length word.now ≤ length buffer.old)) }
+{
     match rt.arg(i, buffer) {
         Ok(size) => Ok(Some(&buffer[..size])),
         Err(FillError::NotPresent) => Ok(None),
