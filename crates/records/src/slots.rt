@@ -66,10 +66,7 @@ impl Slots {
 fn size_of(sizes: &[usize], k: u32) -> usize
     ensures { result ≡ get_or sizes.now k 0 }
 {
-    match sizes.get(k as usize) {
-        Some(size) => *size,
-        None => 0,
-    }
+    sizes.get(k as usize).copied().unwrap_or(0)
 }
 
 // The bytes of slot k of any bytes and sizes, as far as there are.

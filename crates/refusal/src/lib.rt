@@ -108,7 +108,7 @@ pub const MAX_FINE: u32 = 1000000;
 // The least total is its negative.
 pub const MAX_TOTAL: u32 = 1073741823;
 
-// Every refusal number, in the table's order; those with an index have one number at each.
+/// Every refusal number, in the table's order. An index changes no number.
 pub fn numbers() -> [u8; 18]
     ensures { result ≡ number.numbers }
 {
