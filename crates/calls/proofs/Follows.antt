@@ -40,10 +40,9 @@ use Rattle.pass.specs.declared.Pass.{Pass}
 use Rattle.prover.specs.declared.Reply.TheVariants as answer
 use Rattle.prover.specs.Reply as reply
 use Rattle.prover.specs.Reply.{answer_in}
-use Rattle.prover.specs.Records.{answered_step}
+use Rattle.prover.specs.Records.{Step, answered_step}
 use Rattle.prover.specs.Level.{fold_size}
 use Rattle.prover.specs.Close.{run_with, with_total, with_field_total, messages_with, with_message, shut_pass}
-use Rattle.prover.specs.declared.Step.{Step}
 use Rattle.prover.specs.Take.{takes}
 use Rattle.prover.specs.Full.{message_given}
 use Rattle.prover.specs.Challenge.{kept_message, kept_challenge, challenged_full}

@@ -28,7 +28,7 @@ use Rattle.phase.specs.Cases.{is_change, is_full, is_open, is_small, waits}
 use Rattle.phase.specs.Order.{round_or_ends, round_fits, kind_fits}
 use Rattle.prover.specs.declared.Run.{Run}
 use Rattle.pass.specs.declared.Pass.{Pass}
-use Rattle.prover.specs.declared.Step.{Step}
+use Rattle.prover.specs.Records.{Step}
 use Rattle.refusal.specs.Outcome.{Outcome, answered}
 use Rattle.prover.specs.Reply.{Reply, answer_in}
 use Rattle.prover.specs.Reply as reply

@@ -21,13 +21,12 @@ use Rattle.phase.specs.Cases.{waits, is_full, is_open}
 use Rattle.phase.specs.Order.{round_fits, kind_fits}
 use Rattle.prover.specs.declared.Run.{Run}
 use Rattle.pass.specs.declared.Pass.{Pass}
-use Rattle.prover.specs.declared.Step.{Step}
 use Rattle.prover.specs.declared.Reply.TheVariants as answer
 use Rattle.prover.specs.Reply.{answer_in}
 use Rattle.prover.specs.Reply as reply
 use Rattle.pass.specs.Values.{no_values}
 use Rattle.pass.specs.Pass.{kernel_of}
-use Rattle.prover.specs.Records.{Out, answered_step}
+use Rattle.prover.specs.Records.{Step, Out, answered_step}
 use Rattle.prover.specs.Level.{level_of}
 use Rattle.pass.specs.Open.{new_pass, no_points, points_of}
 use Rattle.prover.specs.Open.{open_kernel, padded_kernel}

@@ -23,9 +23,8 @@ use Rattle.phase.specs.declared.Kind.{Kind}
 use Rattle.phase.specs.declared.Kind.TheVariants.{Shut, Asked, Change}
 use Rattle.prover.specs.declared.Run.{Run}
 use Rattle.pass.specs.declared.Pass.{Pass}
-use Rattle.prover.specs.declared.Step.{Step}
 use Rattle.prover.specs.declared.Reply.TheVariants as answer
-use Rattle.prover.specs.Records.{Out, out, leaves, answered_step}
+use Rattle.prover.specs.Records.{Step, Out, out, leaves, answered_step}
 use Rattle.pass.specs.Open.{no_points, points_of}
 use Rattle.prover.specs.Open.{may_open, may_open_at, opened, open_kernel, padded_kernel, open_call, open_at_call}
 use Rattle.prover.specs.Take as item

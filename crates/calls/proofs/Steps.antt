@@ -21,10 +21,9 @@ use Rattle.phase.specs.Cases.{waits, is_open}
 use Rattle.phase.specs.Order.{kind_fits}
 use Rattle.prover.specs.declared.Run.{Run}
 use Rattle.pass.specs.declared.Pass.{Pass}
-use Rattle.prover.specs.declared.Step.{Step}
 use Rattle.prover.specs.Reply as reply
 use Rattle.pass.specs.Values.{no_values}
-use Rattle.prover.specs.Records.{Out, out, leaves}
+use Rattle.prover.specs.Records.{Step, Out, out, leaves}
 use Rattle.prover.specs.WellFormed.{well_formed}
 use Rattle.pass.specs.Open.{no_points, points_of}
 use Rattle.prover.specs.Open.{opened, open_kernel, padded_kernel}

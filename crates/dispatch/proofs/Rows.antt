@@ -5,8 +5,7 @@ use Prim.Native.Nat.{ℕ}
 use Rattle.refusal.specs.Outcome.{Outcome}
 use Rattle.prover.specs.declared.Run.{Run}
 use Rattle.pass.specs.declared.Pass.{Pass}
-use Rattle.prover.specs.declared.Step.{Step}
-use Rattle.prover.specs.Records.{out, leaves}
+use Rattle.prover.specs.Records.{Step, out, leaves}
 use Rattle.prover.specs.Change.{to_small_call}
 use Rattle.calls.specs.declared.Call.{Call}
 use Rattle.calls.specs.declared.Call.TheVariants as call

@@ -1,7 +1,6 @@
 -- What the function that makes a call hands back, as the result of a step.
 use Rattle.std.specs.Prelude.{ℕ, List, []}
-use Rattle.prover.specs.declared.Step.{Step}
-use Rattle.prover.specs.Records.{out}
+use Rattle.prover.specs.Records.{Step, out}
 use Rattle.calls.specs.Step.{Result, lending, keeping}
 
 abbrev pub result_of : Step → List ℕ → List ℕ → List ℕ → Result

@@ -12,9 +12,8 @@ use Rattle.phase.specs.declared.Mode.TheVariants.{Small, Full}
 use Rattle.pass.specs.Lent.{good_in, where_good, challenge_in, folded_in}
 use Rattle.prover.specs.declared.Run.{Run}
 use Rattle.pass.specs.declared.Pass.{Pass}
-use Rattle.prover.specs.declared.Step.{Step}
 use Rattle.prover.specs.declared.Reply.TheVariants as answer
-use Rattle.prover.specs.Records.{Out, out, leaves, answered_step}
+use Rattle.prover.specs.Records.{Step, Out, out, leaves, answered_step}
 use Rattle.prover.specs.Level.{stage_of, fold_size}
 use Rattle.prover.specs.Calls.{both_long}
 use Rattle.prover.specs.Full.{both_reduced, lent_folds}

@@ -12,8 +12,7 @@ use Rattle.item.specs.Version.{version_fits}
 use Rattle.item.specs.Start.{count_fits, list_fits}
 use Rattle.pass.specs.declared.Pass.{Pass}
 use Rattle.prover.specs.declared.Run.{Run}
-use Rattle.prover.specs.declared.Step.{Step}
-use Rattle.prover.specs.Records.{out, leaves, refused_step}
+use Rattle.prover.specs.Records.{Step, out, leaves, refused_step}
 use Rattle.prover.specs.Start.{started, start_plain, start_openings}
 use Rattle.prover.specs.Calls.{pass_open}
 use Rattle.prover.specs.Change.{may_return, returns, to_small_call}

@@ -12,9 +12,8 @@ use Rattle.phase.specs.Turn as turn
 use Rattle.phase.specs.Order.{round_or_ends}
 use Rattle.prover.specs.declared.Run.{Run}
 use Rattle.pass.specs.declared.Pass.{Pass}
-use Rattle.prover.specs.declared.Step.{Step}
 use Rattle.prover.specs.declared.Reply.TheVariants as answer
-use Rattle.prover.specs.Records.{Out, out, answered_step}
+use Rattle.prover.specs.Records.{Step, Out, out, answered_step}
 use Rattle.prover.specs.Level.{fold_size}
 use Rattle.prover.specs.WellFormed.{well_formed}
 use Rattle.prover.specs.Full.{lent_folds}

@@ -12,9 +12,8 @@ use Rattle.phase.specs.declared.Kind.TheVariants.{Shut, Asked, Change}
 use Rattle.phase.specs.Order.{round_or_ends}
 use Rattle.prover.specs.declared.Run.{Run}
 use Rattle.pass.specs.declared.Pass.{Pass}
-use Rattle.prover.specs.declared.Step.{Step}
 use Rattle.prover.specs.declared.Reply.TheVariants as answer
-use Rattle.prover.specs.Records.{Out, out, answered_step, unchanged}
+use Rattle.prover.specs.Records.{Step, Out, out, answered_step, unchanged}
 use Rattle.prover.specs.Calls.{pass_open}
 use Rattle.pass.specs.Open.{empty_pass}
 use Rattle.pass.specs.Formed.{total_within}

@@ -4,9 +4,8 @@ ghost use Rattle.prover.specs.Records.{step_with, answered_step, refused_step};
 
 use super::{Reply, Run, Step};
 use pass::Pass;
-use refusal::Refusal;
 
-pub fn answer(run: Run, pass: Pass, answer: Result<Reply, Refusal>) -> Step
+pub fn answer<E>(run: Run, pass: Pass, answer: Result<Reply, E>) -> Step<E>
     ensures { result ≡ step_with run pass answer }
 {
     Step {
@@ -24,7 +23,7 @@ pub fn answered(run: Run, pass: Pass, reply: Reply) -> Step
 }
 
 // A refusal hands the records back unchanged.
-pub fn refuse(run: Run, pass: Pass, refusal: Refusal) -> Step
+pub fn refuse<E>(run: Run, pass: Pass, refusal: E) -> Step<E>
     ensures { result ≡ refused_step run pass refusal }
 {
     answer(run, pass, Err(refusal))

@@ -55,11 +55,12 @@ pub enum Reply {
     Written(usize),
 }
 
-// What a call hands back. `values` has an opening's 6n values in its first places, f before g; all other places are zero.
+// What a call hands back. `values` has an opening's 6n values in its first places, f before g; all other places are zero. A call is
+// refused by a row of the table; only a start that its caller refuses (`start::no_run`) is refused by what the caller has.
 #[derive(Clone, Copy)]
-pub struct Step {
+pub struct Step<E = Refusal> {
     pub run: Run,
     pub pass: Pass,
-    pub answer: Result<Reply, Refusal>,
+    pub answer: Result<Reply, E>,
     pub values: [u32; 90],
 }
