@@ -5,7 +5,7 @@ use Rattle.refusal.specs.Outcome.{Outcome, answered, refused, refused_at}
 use Rattle.pass.specs.Values.{no_values}
 use Rattle.prover.specs.declared.Run.{Run}
 use Rattle.pass.specs.declared.Pass.{Pass}
-use Rattle.prover.specs.declared.Step.{Step as StepBy}
+use Rattle.prover.specs.declared.StepBy.{StepBy}
 use Rattle.prover.specs.declared.Reply as code
 use Rattle.prover.specs.Reply.{Reply, answer_in}
 

@@ -55,10 +55,13 @@ pub enum Reply {
     Written(usize),
 }
 
-// What a call hands back. `values` has an opening's 6n values in its first places, f before g; all other places are zero. A call is
-// refused by a row of the table; only a start that its caller refuses (`start::no_run`) is refused by what the caller has.
+// What a call hands back. Where it is refused, its refusal is a row of the table.
+pub type Step = StepBy<Refusal>;
+
+// The same where a refusal is an `E`, as a start's is that its caller refuses (`start::no_run`). `values` has an opening's 6n values in
+// its first places, f before g; all other places are zero.
 #[derive(Clone, Copy)]
-pub struct Step<E = Refusal> {
+pub struct StepBy<E> {
     pub run: Run,
     pub pass: Pass,
     pub answer: Result<Reply, E>,

@@ -6,7 +6,7 @@ ghost use Rattle.prover.specs.Records.{out, refused_step, refused_at_step};
 ghost use Rattle.prover.specs.Start.{fresh_run, openings_run, zero_run, zero_pass, started, start_leaves, start_plain, start_twisted, start_rule, start_openings};
 
 use super::answers::{answered, refuse};
-use super::{Reply, Run, Step};
+use super::{Reply, Run, Step, StepBy};
 use field::Field;
 use item::version::version_fits;
 use item::{Start, starts};
@@ -52,14 +52,14 @@ fn opens(items: u32, challenges: &[u32]) -> Step
     answered(run, empty_pass(Kind::Shut), Reply::Started)
 }
 
-// A refused start hands back zeros, whatever its caller refuses it by: a row of the table, or a number.
-pub fn no_run<E>(refusal: E) -> Step<E>
+// A refused start hands back zeros and what its caller refuses it by, as a row of the table or a number.
+pub fn no_run<E>(refusal: E) -> StepBy<E>
     ensures { result ≡ refused_step zero_run zero_pass refusal }
 {
     refuse(fresh(starts::none()), empty_pass(Kind::Shut), refusal)
 }
 
-pub fn no_run_at(number: u8, index: u32) -> Step<(u8, Option<u32>)>
+pub fn no_run_at(number: u8, index: u32) -> StepBy<(u8, Option<u32>)>
     ensures { result ≡ refused_at_step zero_run zero_pass number index }
 {
     no_run((number, Some(index)))
