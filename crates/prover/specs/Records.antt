@@ -5,13 +5,13 @@ use Rattle.refusal.specs.Outcome.{Outcome, answered, refused, refused_at}
 use Rattle.pass.specs.Values.{no_values}
 use Rattle.prover.specs.declared.Run.{Run}
 use Rattle.pass.specs.declared.Pass.{Pass}
-use Rattle.prover.specs.declared.StepBy.{StepBy}
+use Rattle.prover.specs.declared.StepOr.{StepOr}
 use Rattle.prover.specs.declared.Reply as code
 use Rattle.prover.specs.Reply.{Reply, answer_in}
 
 -- what a call hands back: where it is refused, by a row of the table
 abbrev pub Step : Type 0
-Step = StepBy Refusal
+Step = StepOr Refusal
 
 -- what a call hands back, with the two lent buffers as it leaves them
 pub record Out : Type 0 where
@@ -26,17 +26,17 @@ abbrev pub out : Step → List ℕ → List ℕ → Out
 out s f g = record { run = s.run; pass = s.pass; answer = answer_in s.answer; values = s.values; f = f; g = g }
 
 -- with no values beside the answer
-abbrev pub step_with : {E : Type 0} → Run → Pass → Result code.Reply E → StepBy E
+abbrev pub step_with : {E : Type 0} → Run → Pass → Result code.Reply E → StepOr E
 step_with r s a = record { run = r; pass = s; answer = a; values = no_values }
 
 abbrev pub answered_step : Run → Pass → code.Reply → Step
 answered_step r s a = step_with r s (Ok a)
 
-abbrev pub refused_step : {E : Type 0} → Run → Pass → E → StepBy E
+abbrev pub refused_step : {E : Type 0} → Run → Pass → E → StepOr E
 refused_step r s e = step_with r s (Err e)
 
 -- by a number and the index of what is at fault, as `number_of` and `index_of` tell a row
-abbrev pub refused_at_step : Run → Pass → ℕ → ℕ → StepBy (ℕ × Option ℕ)
+abbrev pub refused_at_step : Run → Pass → ℕ → ℕ → StepOr (ℕ × Option ℕ)
 refused_at_step r s k i = refused_step r s (k, Some i)
 
 -- what a call was given, beside its answer

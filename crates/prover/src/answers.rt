@@ -2,13 +2,13 @@
 ghost use Rattle.std.specs.Prelude.{◌≡◌};
 ghost use Rattle.prover.specs.Records.{step_with, answered_step, refused_step};
 
-use super::{Reply, Run, Step, StepBy};
+use super::{Reply, Run, Step, StepOr};
 use pass::Pass;
 
-pub fn answer<E>(run: Run, pass: Pass, answer: Result<Reply, E>) -> StepBy<E>
+pub fn answer<E>(run: Run, pass: Pass, answer: Result<Reply, E>) -> StepOr<E>
     ensures { result ≡ step_with run pass answer }
 {
-    StepBy {
+    StepOr {
         run,
         pass,
         answer,
@@ -23,7 +23,7 @@ pub fn answered(run: Run, pass: Pass, reply: Reply) -> Step
 }
 
 // A refusal hands the records back unchanged.
-pub fn refuse<E>(run: Run, pass: Pass, refusal: E) -> StepBy<E>
+pub fn refuse<E>(run: Run, pass: Pass, refusal: E) -> StepOr<E>
     ensures { result ≡ refused_step run pass refusal }
 {
     answer(run, pass, Err(refusal))

@@ -56,12 +56,12 @@ pub enum Reply {
 }
 
 // What a call hands back. Where it is refused, its refusal is a row of the table.
-pub type Step = StepBy<Refusal>;
+pub type Step = StepOr<Refusal>;
 
-// The same where a refusal is an `E`, as a start's is that its caller refuses (`start::no_run`). `values` has an opening's 6n values in
-// its first places, f before g; all other places are zero.
+// A step, or an `E` in the place of a row: what refuses a start that its caller refuses (`start::no_run`). `values` has an opening's 6n
+// values in its first places, f before g; all other places are zero.
 #[derive(Clone, Copy)]
-pub struct StepBy<E> {
+pub struct StepOr<E> {
     pub run: Run,
     pub pass: Pass,
     pub answer: Result<Reply, E>,

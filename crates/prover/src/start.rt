@@ -6,7 +6,7 @@ ghost use Rattle.prover.specs.Records.{out, refused_step, refused_at_step};
 ghost use Rattle.prover.specs.Start.{fresh_run, openings_run, zero_run, zero_pass, started, start_leaves, start_plain, start_twisted, start_rule, start_openings};
 
 use super::answers::{answered, refuse};
-use super::{Reply, Run, Step, StepBy};
+use super::{Reply, Run, Step, StepOr};
 use field::Field;
 use item::version::version_fits;
 use item::{Start, starts};
@@ -53,13 +53,14 @@ fn opens(items: u32, challenges: &[u32]) -> Step
 }
 
 // A refused start hands back zeros and what its caller refuses it by, as a row of the table or a number.
-pub fn no_run<E>(refusal: E) -> StepBy<E>
+pub fn no_run<E>(refusal: E) -> StepOr<E>
     ensures { result ≡ refused_step zero_run zero_pass refusal }
 {
     refuse(fresh(starts::none()), empty_pass(Kind::Shut), refusal)
 }
 
-pub fn no_run_at(number: u8, index: u32) -> StepBy<(u8, Option<u32>)>
+// The same by a number and the index of what is at fault.
+pub fn no_run_at(number: u8, index: u32) -> StepOr<(u8, Option<u32>)>
     ensures { result ≡ refused_at_step zero_run zero_pass number index }
 {
     no_run((number, Some(index)))
