@@ -4,55 +4,45 @@ use mathlib.Core.Path.{◌≡◌, refl, ap, ◌∙◌}
 use mathlib.Core.Bool.{Bool, true, false, ◌&&◌}
 use mathlib.Core.List.{[], ◌∷◌, ◌++◌}
 use Prim.Native.Nat.{ℕ, ◌+◌, ◌-◌, ◌*◌, ◌<◌, ◌≤◌}
-use Rattle.std.specs.Prelude.{◌≢◌, Ok, Err, cond, set}
+use Rattle.std.specs.Prelude.{◌≢◌, cond, set}
 use Rattle.std.specs.List.{All}
 use native.Mathlib.Omega.{arith}
 use native.Mathlib.Decide.{dec_lt}
 use borrow.Author.Tests.{leb-true, ltb-true}
 use lib.Dec.{leb, ltb, eqb}
 use lib.ListN.{length, take, drop, get_or-eq_default}
+use Rattle.std.proofs.lemmas.Bool.{cond_both}
 use Rattle.std.proofs.lemmas.List.{drop-set-lt, drop-set-add, take_more_set, take-set-le, get_or-set_same, get_or-set_other, length-set, length-drop, length-take, length-take-le}
 use Rattle.std.proofs.lemmas.List.Elements.{All-replicate, All-set, All-get_or}
 use Rattle.records.specs.declared.Record.{Record}
-use Rattle.records.specs.declared.Fault.TheVariants.{Bad, Full}
 use Rattle.records.specs.declared.lists.Lists.{Lists}
 use Rattle.records.specs.declared.slots.Slots.{Slots}
-use Rattle.records.specs.Lists.{places, room, Kept, saying as saying_lists, numbers_in, pushed, keeps}
-use Rattle.records.specs.Slots.{slot_room, slot_in, size_of, no_slots, saying, emptied, appended, fills}
+use Rattle.records.specs.Lists.{places, room, numbers_in, emptied as emptied_list, pushed, lent, keeps}
+use Rattle.records.specs.Slots.{slot_room, slot_in, size_of, no_slots, emptied, appended, fills}
 
 pub numbers_in_pushed : (l : Lists) (a : ℕ) → l.held < length l.scratch → numbers_in (pushed l a) ≡ numbers_in l ++ a ∷ []
 numbers_in_pushed l a fits = take_more_set l.scratch l.held a fits
 
--- whichever of two answers
-either : {A B : Type 0} (P : A → Type 0) (b : Bool) (x y : A × B) → P x.0 → P y.0 → P (cond b x y).0
-either P true x y h k = h
-either P false x y h k = k
+-- what holds of what either of two answers keeps holds of the one taken
+either : {A B : Type 0} (P : A → Type 0) (b : Bool) (x y : A × B) → (b ≡ true → P x.0) → (b ≡ false → P y.0) → P (cond b x y).0
+either {A} {B} P b x y = cond_both b x y (λ (o : A × B). P o.0)
+
+-- what holds of the list as it is, and as each op that is answered would leave it, holds after any op
+pub keeps_case : (P : Lists → Type 0) (l : Lists) (r : Record) → P l → P (emptied_list l) → (l.held < room → P (pushed l r.a)) → P (lent l r.a r.b)
+    → P (record { flent = l.flent; glent = l.glent; scratch = l.scratch; held = l.held; opened = r.a }) → P (keeps l r).0
+keeps_case P l r h e a b o =
+    either P (eqb r.op 1) _ _ (λ _. e)
+    (λ _. either P (eqb r.op 2) _ _ (λ _. either P (ltb l.held room) _ _ (λ t. a (ltb-true l.held room t)) (λ _. h))
+    (λ _. either P (eqb r.op 3) _ _ (λ _. either P (leb r.a places && leb r.b places) _ _ (λ _. b) (λ _. h))
+    (λ _. either P (eqb r.op 4) _ _ (λ _. h) (λ _. either P (eqb r.op 41) _ _ (λ _. either P (leb r.a room) _ _ (λ _. o) (λ _. h)) (λ _. h)))))
 
 -- the list has no more numbers than its room: no op gives it more
 pub held_kept : (l : Lists) (r : Record) → l.held ≤ room → (keeps l r).0.held ≤ room
-held_kept l r h =
-    one (eqb r.op 1) _ _ (omega arith)
-    (one (eqb r.op 2) _ _ (push (ltb l.held room) refl)
-    (one (eqb r.op 3) _ _ (one (leb r.a places && leb r.b places) _ _ h h)
-    (one (eqb r.op 4) _ _ h (one (eqb r.op 41) _ _ (one (leb r.a room) _ _ h h) h))))
-  where
-    one : (b : Bool) (x y : Kept) → x.0.held ≤ room → y.0.held ≤ room → (cond b x y).0.held ≤ room
-    one = either (λ (k : Lists). k.held ≤ room)
-
-    push : (b : Bool) → ltb l.held room ≡ b → (cond b (saying_lists (pushed l r.a) (Ok tt)) (saying_lists l (Err Full))).0.held ≤ room
-    push true t = omega (arith, ltb-true l.held room t)
-    push false t = h
+held_kept l r h = keeps_case (λ k. k.held ≤ room) l r h (omega arith) (λ t. omega (arith, t)) h h
 
 -- an op keeps how many places there are
 pub scratch_kept : (l : Lists) (r : Record) → length (keeps l r).0.scratch ≡ length l.scratch
-scratch_kept l r =
-    one (eqb r.op 1) _ _ refl
-    (one (eqb r.op 2) _ _ (one (ltb l.held room) _ _ (length-set l.scratch l.held r.a) refl)
-    (one (eqb r.op 3) _ _ (one (leb r.a places && leb r.b places) _ _ refl refl)
-    (one (eqb r.op 4) _ _ refl (one (eqb r.op 41) _ _ (one (leb r.a room) _ _ refl refl) refl))))
-  where
-    one : (b : Bool) (x y : Kept) → length x.0.scratch ≡ length l.scratch → length y.0.scratch ≡ length l.scratch → length (cond b x y).0.scratch ≡ length l.scratch
-    one = either (λ (k : Lists). length k.scratch ≡ length l.scratch)
+scratch_kept l r = keeps_case (λ k. length k.scratch ≡ length l.scratch) l r refl refl (λ _. length-set l.scratch l.held r.a) refl refl
 
 module _ (s : Slots) (k : ℕ) where
   pub slot_in_emptied : k < length s.sizes → slot_in k (emptied s k) ≡ []
@@ -85,21 +75,13 @@ module _ (s : Slots) (k : ℕ) where
 -- what holds of the slots, of them with one emptied where op 60 may and with a byte appended where op 61 may, holds after any op
 pub fills_case : (P : Slots → Type 0) (s : Slots) (r : Record) → P s → (r.a ≤ 7 → P (emptied s r.a))
     → (r.a ≤ 7 → r.b ≤ 255 → size_of s r.a < slot_room → P (appended s r.a r.b)) → P (fills s r).0
-fills_case P s r h e a = by (leb r.a 7) (eqb r.op 60) (eqb r.op 61) (leb r.b 255) (ltb (size_of s r.a) slot_room) refl refl refl
-  where
-    by : (seven empties appends byte fits : Bool) → leb r.a 7 ≡ seven → leb r.b 255 ≡ byte → ltb (size_of s r.a) slot_room ≡ fits → P
-        (cond seven
-        (cond empties (saying (emptied s r.a) (Ok tt))
-        (cond appends
-        (cond byte (cond fits (saying (appended s r.a r.b) (Ok tt)) (saying s (Err Full))) (saying s (Err Bad)))
-        (saying s (Err Bad))))
-        (saying s (Err Bad))).0
-    by false b c d l t u v = h
-    by true true c d l t u v = e (leb-true r.a 7 t)
-    by true false false d l t u v = h
-    by true false true false l t u v = h
-    by true false true true false t u v = h
-    by true false true true true t u v = a (leb-true r.a 7 t) (leb-true r.b 255 u) (ltb-true (size_of s r.a) slot_room v)
+fills_case P s r h e a =
+    either P (leb r.a 7) _ _
+    (λ t. either P (eqb r.op 60) _ _ (λ _. e (leb-true r.a 7 t))
+    (λ _. either P (eqb r.op 61) _ _
+    (λ _. either P (leb r.b 255) _ _ (λ u. either P (ltb (size_of s r.a) slot_room) _ _ (λ v. a (leb-true r.a 7 t) (leb-true r.b 255 u) (ltb-true (size_of s r.a) slot_room v)) (λ _. h)) (λ _. h))
+    (λ _. h)))
+    (λ _. h)
 
 -- an op keeps how many places there are
 pub sizes_kept : (s : Slots) (r : Record) → length (fills s r).0.sizes ≡ length s.sizes
